@@ -1,5 +1,6 @@
 //! Leaf faults over the schema of the input, and over one of no documents: of what its documents build over its schema or without
-//! one, and of a document that is made by calls.
+//! one, and of a document that is made by calls; and their places, and which of them are there since a build dropped what was
+//! selected below.
 
 use crate::building::{Built, View};
 use crate::by_calls::document_of;
@@ -123,4 +124,49 @@ fn types_are_those_of_the_schema_at_hand(rt: HostRuntime) -> Result<(), Fail> {
         view: Leaves,
     };
     expect(&rt, &account, &AT_HAND)
+}
+
+/// The leaf faults of a document with their places, and whether its build dropped something that was selected below.
+#[derive(Drop)]
+struct Places;
+
+impl View for Places {
+    fn view(
+        &self,
+        alloc: Global,
+        schema: &Schema,
+        document: &ExecutableDocument,
+        faults: &[Fault],
+        text: &mut String,
+    ) -> Result<(), AllocError> {
+        let leaves = leaf_faults(alloc, schema, document)?;
+        for leaf in leaves.as_slice() {
+            let path = &leaf.path;
+            let ty = &leaf.parent_type;
+            let has_lost = leaf.lost_subselections(faults);
+            write!(text, "{path} from {ty}: {has_lost}\n")?;
+        }
+        Ok(())
+    }
+}
+
+const PLACES: [(&str, &str); 2] = [
+    (
+        "def object Query\nfield user User\ndef object User\nfield id ID\nfield friend User\n===\noperation query Q\nsel 0 field user\nsel 0 field user me\nsel 1 field nope\nsel 0 inline\nsel 1 field user us\nsel 2 inline User\nsel 3 field friend\nsel 4 inline Gone\nfragment F User\nsel 0 field friend\nsel 1 field friend\nsel 2 field id\nsel 3 field x\n",
+        "query Q → user from Query: false\nquery Q → me from Query: true\nquery Q → us → friend from User: true\nfragment F → friend → friend from User: true\n",
+    ),
+    // A fault of another definition, and one of the field itself.
+    (
+        "def object Query\nfield user User\nfield id ID\ndef object User\nfield id ID\n===\noperation query -\nsel 0 field user\nsel 0 field id user\nsel 1 field x\nfragment F Query\nsel 0 field user\nsel 1 inline Gone\n",
+        "query → user from Query: false\nfragment F → user from Query: true\n",
+    ),
+];
+
+#[test]
+fn each_tells_its_place_and_what_was_dropped_below(rt: HostRuntime) -> Result<(), Fail> {
+    let account = Built {
+        is_over: true,
+        view: Places,
+    };
+    expect(&rt, &account, &PLACES)
 }

@@ -1,7 +1,14 @@
--- What `==` compares of faults: response keys without their locations. GraphQL specification of October 2021, section 5.3.3.
+-- What `==` compares of faults: names without their locations. GraphQL specification of October 2021, section 5.3.3.
 use Rattle.graphql_nodes.specs.Comparing.{bare_name}
+use Rattle.apollo_elaboration.specs.BareErrors.{bare_path}
 use Rattle.leafcheck.specs.declared.leaf_fault.LeafFault.{LeafFault}
 
--- a fault, its response key without location
+-- a fault, its names without locations
 abbrev pub bare_fault : LeafFault → LeafFault
-bare_fault fault = record { location = fault.location; response_key = bare_name fault.response_key; kind = fault.kind }
+bare_fault fault = record {
+  location = fault.location;
+  parent_type = bare_name fault.parent_type;
+  response_key = bare_name fault.response_key;
+  path = bare_path fault.path;
+  kind = fault.kind;
+}

@@ -1,19 +1,25 @@
 -- Fields at fault as leaves: those of scalar or enum types that have subselections, and those of object, interface or union
 -- types that have none. GraphQL specification of October 2021, section 5.3.3.
-use Rattle.std.specs.Prelude.{◌==◌, Bool, true, false, List, length, Option, None, Some, option_map, option_and_then, if◌then◌else◌}
-use Rattle.std.specs.List.{filter_map, flat_map}
+use Rattle.std.specs.Prelude.{◌==◌, ◌++◌, Bool, true, false, List, length, Option, None, Some, option_map, option_and_then, if◌then◌else◌}
+use Rattle.std.specs.List.{cons_option, filter_map, flat_map}
+use Rattle.graphql_nodes.specs.NameView.{NameView}
 use Rattle.graphql_nodes.specs.NodeView.{NodeView}
+use Rattle.graphql_nodes.specs.Tables.{values_of}
 use Rattle.graphql_ast.specs.TypeReferences.{inner_name}
 use Rattle.apollo_types.specs.TypeKinds.{is_composite, is_leaf}
 use Rattle.apollo_types.specs.declared.extended_type.ExtendedType.{ExtendedType}
 use Rattle.apollo_schema.specs.Lookups.{type_at}
 use Rattle.apollo_schema.specs.declared.schema.Schema.{Schema}
+use Rattle.apollo_elaboration.specs.declared.selection_path.SelectionPath.{SelectionPath}
+use Rattle.apollo_executable.specs.Operations.{all_operations}
 use Rattle.apollo_executable.specs.SelectionParts.{response_key}
-use Rattle.apollo_executable.specs.SelectionSets.{sets_of}
-use Rattle.apollo_executable.specs.Walks.FieldsIn.{fields_in}
 use Rattle.apollo_executable.specs.declared.document.ExecutableDocument.{ExecutableDocument}
+use Rattle.apollo_executable.specs.declared.operation.Fragment.{Fragment}
+use Rattle.apollo_executable.specs.declared.operation.Operation.{Operation}
 use Rattle.apollo_executable.specs.declared.selection.Field.{Field}
 use Rattle.apollo_executable.specs.declared.selection.Selection.{Selection}
+use Rattle.leafcheck.specs.PlacedFields.{PlacedField, placed_fields}
+use Rattle.leafcheck.specs.Roots.{fragment_path, operation_path}
 use Rattle.leafcheck.specs.declared.leaf_fault.LeafFault.{LeafFault}
 use Rattle.leafcheck.specs.declared.leaf_fault.LeafKind.{LeafKind}
 use Rattle.leafcheck.specs.declared.leaf_fault.LeafKind.TheVariants.{MissingSubselection, SubselectionOnLeaf}
@@ -27,14 +33,36 @@ kind_in false t = if is_leaf t then Some SubselectionOnLeaf else None
 abbrev pub kind_over : Schema → Field → Option LeafKind
 kind_over s f = option_and_then (kind_in (length f.selection_set.selections == 0)) (type_at s.types (inner_name f.definition.value.ty))
 
--- the fault of a field, at the location of its node
-abbrev pub fault_at : Schema → NodeView Field → Option LeafFault
-fault_at s n = option_map (λ kind. record { location = n.location; response_key = response_key n.value; kind = kind }) (kind_over s n.value)
+-- a field that is at fault in this way, at the location of its node
+abbrev pub fault_of : PlacedField → LeafKind → LeafFault
+fault_of f kind = record {
+  location = f.node.location;
+  parent_type = f.parent_type;
+  response_key = response_key f.node.value;
+  path = f.path;
+  kind = kind;
+}
 
--- the faults of the fields that stand in selections
-abbrev pub leaf_faults_in : Schema → List Selection → List LeafFault
-leaf_faults_in s selections = filter_map (fault_at s) (fields_in true selections)
+-- the fault of a field
+abbrev pub fault_at : Schema → PlacedField → Option LeafFault
+fault_at s f = option_map (fault_of f) (kind_over s f.node.value)
 
--- the faults of a document
+-- the faults of the fields that stand in selections from this type, in a set that has this path
+abbrev pub leaf_faults_in : Schema → NameView → SelectionPath → List Selection → List LeafFault
+leaf_faults_in s ty path selections = filter_map (fault_at s) (placed_fields ty path selections)
+
+-- the fault of a field, if it has one, and those of the fields below it
+abbrev pub faults_from : Schema → PlacedField → List LeafFault
+faults_from s f = cons_option (fault_at s f) (leaf_faults_in s f.node.value.selection_set.ty f.path f.node.value.selection_set.selections)
+
+-- the faults of an operation
+abbrev pub operation_faults : Schema → NodeView Operation → List LeafFault
+operation_faults s n = leaf_faults_in s n.value.selection_set.ty (operation_path n.value) n.value.selection_set.selections
+
+-- the faults of a fragment
+abbrev pub fragment_faults : Schema → NodeView Fragment → List LeafFault
+fragment_faults s n = leaf_faults_in s n.value.selection_set.ty (fragment_path n.value) n.value.selection_set.selections
+
+-- the faults of a document: those of the anonymous operation first, then of the others, and then of the fragments
 abbrev pub leaf_faults : Schema → ExecutableDocument → List LeafFault
-leaf_faults s document = flat_map (λ set. leaf_faults_in s set.selections) (sets_of document)
+leaf_faults s document = flat_map (operation_faults s) (all_operations document.operations) ++ flat_map (fragment_faults s) (values_of document.fragments)

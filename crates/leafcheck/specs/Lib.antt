@@ -1,2 +1,6 @@
+pub mod Around
 pub mod BareFaults
 pub mod LeafFaults
+pub mod LostSubselections
+pub mod PlacedFields
+pub mod Roots

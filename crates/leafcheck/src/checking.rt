@@ -3,15 +3,19 @@
 //! Each set is looked at once, as deep as it is nested. Memory is taken for faults alone.
 ghost use Rattle.std.specs.Prelude.{◌≡◌, ◌≢◌, ◌∷◌, ◌++◌, [], IfOk, None, OnOk, OnErr};
 ghost use Rattle.std.specs.List.{cons_option};
+ghost use Rattle.leafcheck.specs.Around.{path_of};
 ghost use Rattle.leafcheck.specs.LeafFaults as spec;
 ghost use Rattle.leafcheck.specs.LeafFaults.{leaf_faults_in};
+ghost use Rattle.leafcheck.specs.PlacedFields.{placed};
 
+use crate::around::Around;
+use crate::laws::fields_with_places;
 use crate::leaf_fault::{LeafFault, LeafKind};
 use apollo_executable::document::ExecutableDocument;
-use apollo_executable::laws::fields_in::fields_by_kind_of_selection;
 use apollo_executable::selection::{Field, Selection, SelectionSet};
 use apollo_schema::schema::Schema;
 use graphql_nodes::collections::items::Items;
+use graphql_nodes::name::NamedType;
 use graphql_nodes::node::Node;
 use std::alloc::{AllocError, Global};
 
@@ -22,9 +26,10 @@ use std::alloc::{AllocError, Global};
 /// The faults of operations come first, in the order of
 /// [`iter`](apollo_executable::operation_map::OperationMap::iter), then those of fragments, in the order of the map. Of each
 /// it is the field before those below it, through inline fragments, but not through spreads: a fragment is looked at once,
-/// wherever it is spread, or nowhere.
+/// wherever it is spread, or nowhere. Paths are as in the faults of a build, where operations and fragments stand under their
+/// own names.
 ///
-/// The schema need not be the one that the document was built over. The error is want of memory, which a document without
+/// The schema need not be the one that the document was built over. The error is out of memory, which a document without
 /// leaf faults doesn't meet.
 pub fn leaf_faults(
     alloc: Global,
@@ -36,10 +41,18 @@ pub fn leaf_faults(
 {
     let mut faults = Items::new(alloc);
     for operation in document.operations.iter() {
-        note_set(schema, &operation.selection_set, &mut faults)?;
+        let around = Around::Operation(operation);
+        note_set(
+            alloc,
+            schema,
+            &around,
+            &operation.selection_set,
+            &mut faults,
+        )?;
     }
     for fragment in document.fragments.values() {
-        note_set(schema, &fragment.selection_set, &mut faults)?;
+        let around = Around::Fragment(fragment);
+        note_set(alloc, schema, &around, &fragment.selection_set, &mut faults)?;
     }
     Ok(faults.into_vec())
 }
@@ -47,65 +60,84 @@ pub fn leaf_faults(
 /// Notes the faults of a set.
 #[cycle(note)]
 fn note_set(
+    alloc: Global,
     schema: &Schema,
+    around: &Around,
     set: &SelectionSet,
     faults: &mut Items<LeafFault>,
 ) -> Result<(), AllocError>
-    ensures noted { OnOk result (faults.new ≡ faults.old ++ leaf_faults_in schema.now set.now.selections) }
-    ensures memory { OnErr result (leaf_faults_in schema.now set.now.selections ≢ []) }
+    ensures noted { OnOk result (faults.new ≡ faults.old ++ leaf_faults_in schema.now set.now.ty (path_of around.now) set.now.selections) }
+    ensures memory { OnErr result (leaf_faults_in schema.now set.now.ty (path_of around.now) set.now.selections ≢ []) }
 {
-    fields_by_kind_of_selection();
+    fields_with_places();
     for selection in &set.selections {
-        note_selection(schema, selection, faults)?;
+        note_selection(alloc, schema, around, &set.ty, selection, faults)?;
     }
     Ok(())
 }
 
-/// Notes the faults of a selection. What is behind a spread is no part of it.
+/// Notes the faults of a selection from a type. What is behind a spread is no part of it.
 #[cycle(note)]
 fn note_selection(
+    alloc: Global,
     schema: &Schema,
+    around: &Around,
+    ty: &NamedType,
     selection: &Selection,
     faults: &mut Items<LeafFault>,
 ) -> Result<(), AllocError>
-    ensures noted { OnOk result (faults.new ≡ faults.old ++ leaf_faults_in schema.now (selection.now ∷ [])) }
-    ensures memory { OnErr result (leaf_faults_in schema.now (selection.now ∷ []) ≢ []) }
+    ensures noted { OnOk result (faults.new ≡ faults.old ++ leaf_faults_in schema.now ty.now (path_of around.now) (selection.now ∷ [])) }
+    ensures memory { OnErr result (leaf_faults_in schema.now ty.now (path_of around.now) (selection.now ∷ []) ≢ []) }
 {
-    fields_by_kind_of_selection();
+    fields_with_places();
     match selection {
-        Selection::Field(node) => note_field(schema, node, faults),
+        Selection::Field(node) => note_field(alloc, schema, around, ty, node, faults),
         Selection::FragmentSpread(_) => Ok(()),
-        Selection::InlineFragment(node) => note_set(schema, &node.selection_set, faults),
+        Selection::InlineFragment(node) => {
+            note_set(alloc, schema, around, &node.selection_set, faults)
+        }
     }
 }
 
-/// Notes the fault of a field, if it has one, and those of the fields below it.
+/// Notes the fault of a field from a type, if it has one, and those of the fields below it.
 #[cycle(note)]
 fn note_field(
+    alloc: Global,
     schema: &Schema,
+    around: &Around,
+    ty: &NamedType,
     node: &Node<Field>,
     faults: &mut Items<LeafFault>,
 ) -> Result<(), AllocError>
-    ensures noted { OnOk result (faults.new ≡ faults.old ++ cons_option (spec.fault_at schema.now node.now) (leaf_faults_in schema.now node.now.value.selection_set.selections)) }
-    ensures memory { OnErr result (cons_option (spec.fault_at schema.now node.now) (leaf_faults_in schema.now node.now.value.selection_set.selections) ≢ []) }
+    ensures noted { OnOk result (faults.new ≡ faults.old ++ spec.faults_from schema.now (placed ty.now (path_of around.now) node.now)) }
+    ensures memory { OnErr result (spec.faults_from schema.now (placed ty.now (path_of around.now) node.now) ≢ []) }
 {
-    if let Some(fault) = fault_at(schema, node)? {
+    let inside = Around::Field(node.response_key(), &*around);
+    if let Some(fault) = fault_at(alloc, schema, &inside, ty, node)? {
         faults.push(fault)?;
     }
-    note_set(schema, &node.selection_set, faults)
+    note_set(alloc, schema, &inside, &node.selection_set, faults)
 }
 
-/// The fault of a field, if it has one.
-fn fault_at(schema: &Schema, node: &Node<Field>) -> Result<Option<LeafFault>, AllocError>
-    ensures fault { IfOk result (λ fault. fault ≡ spec.fault_at schema.now node.now) }
-    ensures memory { OnErr result (spec.fault_at schema.now node.now ≢ None) }
+/// The fault of a field from a type, if it has one. Its set has that around it.
+fn fault_at(
+    alloc: Global,
+    schema: &Schema,
+    inside: &Around,
+    ty: &NamedType,
+    node: &Node<Field>,
+) -> Result<Option<LeafFault>, AllocError>
+    ensures fault { IfOk result (λ fault. fault ≡ spec.fault_at schema.now (record { node = node.now; parent_type = ty.now; path = path_of inside.now })) }
+    ensures memory { OnErr result (spec.kind_over schema.now node.now.value ≢ None) }
 {
     let Some(kind) = kind_over(schema, node) else {
         return Ok(None);
     };
     Ok(Some(LeafFault {
         location: node.location(),
+        parent_type: ty.clone()?,
         response_key: node.response_key().clone()?,
+        path: inside.path(alloc)?,
         kind,
     }))
 }

@@ -1,6 +1,7 @@
 //! What is wrong with fields as leaves: GraphQL specification of October 2021, section 5.3.3.
 
-use graphql_nodes::name::Name;
+use apollo_elaboration::selection_path::SelectionPath;
+use graphql_nodes::name::{Name, NamedType};
 use graphql_nodes::source::SourceSpan;
 use thiserror::Error;
 
@@ -17,15 +18,20 @@ pub enum LeafKind {
 
 /// A field that is at fault. `Display` is a message with the key.
 ///
-/// Faults are equal where their locations are, the texts of their keys, and their kinds. A clone is the original, with the
-/// location of its key; its error is want of memory.
+/// Faults are equal where their locations are, the texts of their names, and their kinds. A clone is the original, with the
+/// locations of its names; its error is want of memory.
 #[derive(Debug, Clone, PartialEq, Eq, Error)]
 #[error("`{response_key}`: {kind}")]
 pub struct LeafFault {
     /// The location of the field's node, if it is known.
     pub location: Option<SourceSpan>,
+    /// The type of the selection set that the field stands in.
+    pub parent_type: NamedType,
     /// The key of the field in a response: its alias, or else its name (section 2.7).
     pub response_key: Name,
+    /// The operation or fragment that the field stands in, by its own name, and the response keys of the fields around it, its
+    /// own key last.
+    pub path: SelectionPath,
     pub kind: LeafKind,
 }
 
@@ -33,7 +39,9 @@ impl Drop for LeafFault {
     fn drop(self) {
         let Self {
             location: _,
+            parent_type: _,
             response_key: _,
+            path: _,
             kind: _,
         } = self;
     }

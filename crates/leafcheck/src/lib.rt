@@ -1,16 +1,20 @@
 //! Leaf field selections: whether each field of a typed document has subselections exactly where its type asks for them.
 //! GraphQL specification of October 2021, section 5.3.3.
 //!
-//! It stands on public contracts of schemas and typed documents alone, as a validator of another house would.
+//! It stands on public contracts of schemas, typed documents and the faults of their build alone, as a validator of another
+//! house would.
 #![tactic(auto)]
 
+mod around;
 pub mod checking;
 pub mod laws;
 pub mod leaf_fault;
+pub mod lost_subselections;
 
 pub use crate::checking::leaf_faults;
 pub use crate::leaf_fault::{LeafFault, LeafKind};
+pub use apollo_elaboration::selection_path::{ExecutableDefinitionName, SelectionPath};
 pub use apollo_executable::document::ExecutableDocument;
 pub use apollo_schema::schema::Schema;
-pub use graphql_nodes::name::Name;
+pub use graphql_nodes::name::{Name, NamedType};
 pub use graphql_nodes::source::SourceSpan;
