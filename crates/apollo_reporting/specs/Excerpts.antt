@@ -1,7 +1,7 @@
 -- What a report shows of a text: the line of an offset, and marks under it. A line ends with a line terminator: GraphQL
 -- specification of October 2021, section 2.1.3.
-use Rattle.std.specs.Prelude.{ℕ, zero, suc, Bool, ◌||◌, ◌-◌, cond, max, List, [], ◌∷◌, take, drop, slice_range, replicate, count_by, nat_eq}
-use Rattle.std.specs.List.{before_first, flat_map}
+use Rattle.std.specs.Prelude.{ℕ, zero, suc, Bool, ◌||◌, ◌-◌, cond, max, List, [], ◌∷◌, take, drop, slice_range, count_by, nat_eq, codes}
+use Rattle.std.specs.List.{before_first, flat_map, repeat}
 use Rattle.graphql_nodes.specs.LineColumns.{begins_char, ends_line}
 
 -- the byte begins a line terminator: a line feed, or a carriage return
@@ -43,4 +43,4 @@ mark_count bytes = max 1 (count_by begins_char bytes)
 
 -- so many marks, each a `^`
 abbrev pub marks : ℕ → List ℕ
-marks count = replicate count 94
+marks count = repeat count (codes "^")

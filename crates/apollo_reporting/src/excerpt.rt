@@ -5,6 +5,7 @@ ghost use Rattle.graphql_nodes.specs.LineColumns.{begins_char, ends_line};
 ghost use Rattle.apollo_reporting.specs.Excerpts.{before_on_line, begins_line_end, line_around, line_start, mark_count, marked};
 
 /// What is shown of a text: a line, what stands on it before the marks, and how many marks there are.
+#[derive(Clone, Copy)]
 pub(crate) struct Excerpt<'a> {
     pub line: &'a str,
     pub before: &'a [u8],

@@ -2,5 +2,6 @@
 #![tactic(auto)]
 
 mod excerpt;
-mod excerpt_writing;
 pub mod laws;
+mod span_writing;
+mod writing;
