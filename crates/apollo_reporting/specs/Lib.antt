@@ -1,3 +1,6 @@
+pub mod Abouts
+pub mod Counts
 pub mod Excerpts
-pub mod WorkedExcerpts
 pub mod Reports
+pub mod StubPathTexts
+pub mod WorkedExcerpts

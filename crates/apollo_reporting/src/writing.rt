@@ -49,10 +49,11 @@ pub(crate) fn number_width(number: usize) -> usize
     }
 }
 
-/// Writes a line feed, and the blanks beside a number of so many digits, and before it.
+/// Writes what a line without number begins with, beside numbers of so many digits.
+#[tactic(auto, unfolding(crate::specs::Reports::line_begin))]
 pub(crate) fn write_line_begin<W: Write>(f: &mut Formatter<W>, width: usize) -> fmt::Result
     ensures { WritesOnOk W.write_str_gives f.old result (line_begin width) f.new }
 {
-    f.write_str("\n ")?;
+    f.write_str(" ")?;
     write_repeated(f, " ", width)
 }
