@@ -1,1 +1,2 @@
 mod Boundaries
+mod JsonLemmas

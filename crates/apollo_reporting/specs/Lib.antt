@@ -1,6 +1,9 @@
 pub mod Abouts
 pub mod Counts
 pub mod Excerpts
+pub mod FaultData
+pub mod MemberTexts
+pub mod Places
 pub mod Reports
 pub mod StubPathTexts
 pub mod WorkedExcerpts

@@ -1,5 +1,5 @@
 -- The texts of reports.
-use Rattle.std.specs.Prelude.{ℕ, List, [], ◌++◌, Option, None, Some, codes, decimal, length, option_and_then}
+use Rattle.std.specs.Prelude.{ℕ, List, [], ◌++◌, Option, None, Some, codes, decimal, length}
 use Rattle.std.specs.List.{repeat}
 use Rattle.graphql_nodes.specs.LineColumns.{line_column_of, start_of}
 use Rattle.graphql_nodes.specs.PlaceTexts.{place_text}
@@ -8,6 +8,7 @@ use Rattle.graphql_nodes.specs.Tables.{lookup}
 use Rattle.graphql_nodes.specs.declared.line_column.LineColumn.{LineColumn}
 use Rattle.graphql_nodes.specs.declared.source.SourceFile.{SourceFile}
 use Rattle.graphql_nodes.specs.declared.source.SourceSpan.{SourceSpan}
+use Rattle.apollo_reporting.specs.Places.{starts}
 use Rattle.apollo_reporting.specs.StubPathTexts.{path_text}
 use Rattle.apollo_reporting.specs.declared.about.Earlier.{Earlier}
 use Rattle.apollo_reporting.specs.declared.stub_path.SelectionPath.{SelectionPath}
@@ -62,7 +63,7 @@ location_text None files = []
 
 -- how many digits the number of a fault's line has; 1 where the line isn't known
 abbrev pub gutter_of : Option SourceSpan → Files → ℕ
-gutter_of location files = gutter (option_and_then (λ (span : SourceSpan). start_of span files) location)
+gutter_of location files = gutter (starts location files)
 
 -- the line of a path, as ` = path: query Q → user → id`, or nothing where there is none
 unfoldable pub path_line : ℕ → Option SelectionPath → List ℕ

@@ -1,11 +1,12 @@
 //! Reports of faults, in the form that compilers use.
-ghost use Rattle.std.specs.Prelude.{◌≡◌, ℕ, List, IfOk, Some, option_and_then, option_map, string_bytes};
+ghost use Rattle.std.specs.Prelude.{◌≡◌, ℕ, List, IfOk, Some, option_map, string_bytes};
 ghost use Rattle.std.specs.Fmt.{WritesOnOk};
-ghost use Rattle.graphql_nodes.specs.LineColumns.{start_of};
 ghost use Rattle.apollo_reporting.specs.Abouts.{about_view};
+ghost use Rattle.apollo_reporting.specs.Places.{starts};
 ghost use Rattle.apollo_reporting.specs.Reports.{lines_behind, location_text, note_text, path_line, report_text};
 
 use crate::about::{About, Earlier};
+use crate::places::start;
 use crate::reported::Reported;
 use crate::span_writing::{gutter, write_span};
 use crate::stub_path::SelectionPath;
@@ -130,13 +131,6 @@ fn write_lines_behind<W: Write>(
     write_note(f, sources, &about.earlier)
 }
 
-/// The line and column of a fault, where they are known.
-fn start(sources: &SourceMap, location: Option<SourceSpan>) -> Option<LineColumn>
-    ensures { result ≡ option_and_then (λ span. start_of span sources.now) location }
-{
-    location?.line_column(sources)
-}
-
 /// Writes where a fault starts, and its line, where this is its line and column.
 fn write_location<W: Write>(
     f: &mut Formatter<W>,
@@ -144,7 +138,7 @@ fn write_location<W: Write>(
     location: Option<SourceSpan>,
     at: Option<LineColumn>,
 ) -> fmt::Result
-    requires { at ≡ option_and_then (λ span. start_of span sources.now) location }
+    requires { at ≡ starts location sources.now }
     ensures { WritesOnOk W.write_str_gives f.old result (location_text location sources.now) f.new }
 {
     match location {
