@@ -26,3 +26,11 @@ of_kind kind = record { kind = kind; earlier = None; path = None }
 -- an earlier place, where it is known
 abbrev pub earlier_at : List ℕ → Option SourceSpan → Option Earlier
 earlier_at message location = option_map (λ (span : SourceSpan). record { message = message; location = span }) location
+
+-- the name and an earlier place, where it is known
+abbrev pub of_earlier : List ℕ → List ℕ → Option SourceSpan → AboutView
+of_earlier kind message location = record { kind = kind; earlier = earlier_at message location; path = None }
+
+-- the name and a path
+abbrev pub of_path : List ℕ → SelectionPath → AboutView
+of_path kind path = record { kind = kind; earlier = None; path = Some path }

@@ -84,7 +84,7 @@ path_members path = (codes "path", path_data path) ∷ []
 
 -- what stands under the name of a detail
 abbrev pub value_data : Files → DetailValue → Data
-value_data files (Words text) = string text
+value_data files (Words text) = text_data text
 value_data files (Place location) = location_data location files
 
 -- a detail

@@ -5,5 +5,7 @@ pub mod FaultData
 pub mod MemberTexts
 pub mod Places
 pub mod Reports
+pub mod SchemaFaults
 pub mod StubPathTexts
+pub mod TextErrors
 pub mod WorkedExcerpts

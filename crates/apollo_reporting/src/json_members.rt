@@ -149,7 +149,8 @@ fn push_value(
     ensures { OnOk result (string_bytes text.new ≡ string_bytes text.old ++ data_text (value_data sources.now value.now)) }
 {
     match value {
-        DetailValue::Words(words) => push_string(alloc, text, words.as_str()),
+        DetailValue::Words(Some(words)) => push_text(alloc, text, Some(words.as_str())),
+        DetailValue::Words(None) => push_text(alloc, text, None),
         DetailValue::Place(location) => push_location(alloc, text, sources, *location),
     }
 }

@@ -12,6 +12,8 @@ pub mod laws;
 mod places;
 pub mod report;
 pub mod reported;
+pub mod schema_faults;
 mod span_writing;
 pub mod stub_path;
+pub mod text_errors;
 mod writing;
