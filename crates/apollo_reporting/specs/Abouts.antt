@@ -1,10 +1,10 @@
 -- What reports say of faults besides their sentences.
-use Rattle.std.specs.Prelude.{◌≡◌, ℕ, List, Option, None, Some, option_map}
+use Rattle.std.specs.Prelude.{ℕ, List, Option, None, Some, option_map}
 use Rattle.std.specs.Borrow.{Bor}
 use Rattle.graphql_nodes.specs.declared.source.SourceSpan.{SourceSpan}
 use Rattle.apollo_reporting.specs.declared.about.About.{About}
 use Rattle.apollo_reporting.specs.declared.about.Earlier.{Earlier}
-use Rattle.apollo_reporting.specs.declared.stub_path.SelectionPath.{SelectionPath}
+use Rattle.apollo_elaboration.specs.declared.selection_path.SelectionPath.{SelectionPath}
 
 -- what a report says of a fault besides its sentence
 pub record AboutView : Type 0 where

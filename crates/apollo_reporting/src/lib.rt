@@ -4,6 +4,7 @@
 pub mod about;
 pub mod counts;
 pub mod detail;
+pub mod document_faults;
 mod excerpt;
 pub mod fault_json;
 mod json_members;
@@ -14,6 +15,5 @@ pub mod report;
 pub mod reported;
 pub mod schema_faults;
 mod span_writing;
-pub mod stub_path;
 pub mod text_errors;
 mod writing;

@@ -1,5 +1,5 @@
 -- The members were written in this order.
-use Rattle.std.proofs.Common.{◌≡◌, List, ℕ, ◌++◌, ap, map, option_map, ◌∙◌, codes, string_bytes}
+use Rattle.std.proofs.Common.{◌≡◌, List, ℕ, ◌++◌, ap, map, ◌∙◌, codes, string_bytes}
 use Rattle.serde_json.specs.Data.{string}
 use Rattle.apollo_reporting.specs.Abouts.{about_view}
 use Rattle.apollo_reporting.specs.FaultData.{detail_member, fault_data, file_member, path_members, span_members}
