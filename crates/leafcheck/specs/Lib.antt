@@ -1,2 +1,3 @@
 pub mod BareFaults
+pub mod FaultReports
 pub mod LeafFaults

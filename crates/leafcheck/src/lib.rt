@@ -7,6 +7,7 @@
 pub mod checking;
 pub mod laws;
 pub mod leaf_fault;
+pub mod reporting;
 
 pub use crate::checking::leaf_faults;
 pub use crate::leaf_fault::{LeafFault, LeafKind};
