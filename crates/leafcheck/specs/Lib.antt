@@ -1,5 +1,6 @@
 pub mod Around
 pub mod BareFaults
+pub mod FaultReports
 pub mod LeafFaults
 pub mod LostSubselections
 pub mod PlacedFields

@@ -10,6 +10,7 @@ pub mod checking;
 pub mod laws;
 pub mod leaf_fault;
 pub mod lost_subselections;
+pub mod reporting;
 
 pub use crate::checking::leaf_faults;
 pub use crate::leaf_fault::{LeafFault, LeafKind};

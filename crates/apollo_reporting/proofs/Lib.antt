@@ -1,0 +1,2 @@
+mod Boundaries
+mod JsonLemmas

@@ -1,0 +1,8 @@
+-- The details so far stand behind what stood there.
+use Rattle.std.proofs.Common.{◌≡◌, ◌++◌, map, take, string_bytes}
+use Rattle.apollo_reporting.specs.FaultData.{detail_member}
+use Rattle.apollo_reporting.specs.MemberTexts.{members_behind}
+use Rattle.apollo_reporting.proofs.json_members.push_details.Given as goal
+
+abbrev pub invariant-loop-detail : goal.invariant-loop-detail
+invariant-loop-detail l = string_bytes l.text ≡ string_bytes l.fn.text ++ members_behind (map (detail_member l.sources) (take l.detail-index l.details))

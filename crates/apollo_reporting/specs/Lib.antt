@@ -1,0 +1,11 @@
+pub mod Abouts
+pub mod Counts
+pub mod DocumentFaults
+pub mod Excerpts
+pub mod FaultData
+pub mod MemberTexts
+pub mod Places
+pub mod Reports
+pub mod SchemaFaults
+pub mod TextErrors
+pub mod WorkedExcerpts

@@ -1,0 +1,41 @@
+//! Faults as JSON.
+ghost use Rattle.std.specs.Prelude.{◌≡◌, ℕ, List, IfOk, string_bytes};
+ghost use Rattle.serde_json.specs.Written.{compact_text};
+ghost use Rattle.apollo_reporting.specs.FaultData.{fault_data};
+ghost use Rattle.apollo_reporting.specs.declared.detail.Detail.{Detail};
+
+use crate::json_members::push_fault;
+use crate::reported::Reported;
+use graphql_nodes::source::{SourceMap, SourceSpan};
+use std::alloc::{AllocError, Global};
+
+/// The JSON of a fault, in one line without a line end: an object with the members `kind`, `message`, `file`, `line`,
+/// `column`, `end_line`, `end_column`, `path`, and the details of the fault, in this order.
+///
+/// `file` is the path of the file, lines and columns count from 1, columns by characters, and `path` is an array of strings:
+/// the definition, as `query Page`, then the response keys. What is not known, or isn't there, is null. The error is out of
+/// memory.
+#[tactic(auto, unfolding(crate::specs::MemberTexts::data_text))]
+pub fn to_json<E: Reported>(
+    alloc: Global,
+    sources: &SourceMap,
+    location: Option<SourceSpan>,
+    fault: &E,
+) -> Result<String, AllocError>
+    ensures { IfOk result (λ text. (said : List ℕ) × (details : List Detail) × (string_bytes text ≡ compact_text (fault_data sources.now location (E.said_about fault.now) said details))) }
+{
+    let said = fault.to_string(alloc)?;
+    let details = fault.details(alloc)?;
+    let about = fault.about();
+    let mut text = String::new(alloc);
+    push_fault(
+        alloc,
+        &mut text,
+        sources,
+        location,
+        &about,
+        said.as_str(),
+        details.as_slice(),
+    )?;
+    Ok(text)
+}

@@ -1,0 +1,194 @@
+//! What JSON has of faults, added to its text. The error of each call is out of memory.
+ghost use Rattle.std.specs.Prelude.{◌≡◌, ◌++◌, OnOk, map, option_map, string_bytes};
+ghost use Rattle.apollo_reporting.specs.Abouts.{about_view};
+ghost use Rattle.apollo_reporting.specs.FaultData.{detail_member, fault_data, file_member, keys_data, location_data, path_members, path_of_file, place_members, span_data, span_members, steps_data, value_data};
+ghost use Rattle.apollo_reporting.specs.MemberTexts.{data_text, items_behind, member_text, members_behind};
+
+use crate::about::About;
+use crate::detail::{Detail, DetailValue};
+use crate::json_values::{push_key, push_number, push_string, push_string_member, push_text};
+use crate::places::{end, start};
+use apollo_elaboration::selection_path::SelectionPath;
+use graphql_nodes::line_column::LineColumn;
+use graphql_nodes::name::Name;
+use graphql_nodes::source::{SourceMap, SourceSpan};
+use std::alloc::{AllocError, Global};
+
+/// The path of the file of a location, where the sources have the file.
+fn file_path<'a>(sources: &'a SourceMap, location: Option<SourceSpan>) -> Option<&'a str>
+    ensures { option_map (λ path. path.now) result ≡ path_of_file location sources.now }
+{
+    Some(sources.get(&location?.file)?.path.as_str())
+}
+
+/// Adds the file of a location, behind a sign.
+fn push_file(
+    alloc: Global,
+    text: &mut String,
+    sign: &str,
+    sources: &SourceMap,
+    location: Option<SourceSpan>,
+) -> Result<(), AllocError>
+    ensures { OnOk result (string_bytes text.new ≡ string_bytes text.old ++ member_text sign.now (file_member location sources.now)) }
+{
+    push_key(alloc, text, sign, "file")?;
+    push_text(alloc, text, file_path(sources, location))
+}
+
+/// Adds the line and the column of a place, under these names.
+fn push_place(
+    alloc: Global,
+    text: &mut String,
+    line: &str,
+    column: &str,
+    at: Option<LineColumn>,
+) -> Result<(), AllocError>
+    ensures { OnOk result (string_bytes text.new ≡ string_bytes text.old ++ members_behind (place_members line.now column.now at)) }
+{
+    push_key(alloc, text, ",", line)?;
+    push_number(text, at.map(|at| at.line))?;
+    push_key(alloc, text, ",", column)?;
+    push_number(text, at.map(|at| at.column))
+}
+
+/// Adds where a location starts and ends.
+fn push_span(
+    alloc: Global,
+    text: &mut String,
+    sources: &SourceMap,
+    location: Option<SourceSpan>,
+) -> Result<(), AllocError>
+    ensures { OnOk result (string_bytes text.new ≡ string_bytes text.old ++ members_behind (span_members location sources.now)) }
+{
+    push_place(alloc, text, "line", "column", start(sources, location))?;
+    push_place(
+        alloc,
+        text,
+        "end_line",
+        "end_column",
+        end(sources, location),
+    )
+}
+
+/// Adds a location as an object.
+fn push_object(
+    alloc: Global,
+    text: &mut String,
+    sources: &SourceMap,
+    span: SourceSpan,
+) -> Result<(), AllocError>
+    ensures { OnOk result (string_bytes text.new ≡ string_bytes text.old ++ data_text (span_data span sources.now)) }
+{
+    push_file(alloc, text, "{", sources, Some(span))?;
+    push_span(alloc, text, sources, Some(span))?;
+    text.push_str("}")?;
+    Ok(())
+}
+
+/// Adds a location as an object, or null where there is none.
+#[tactic(auto, unfolding(crate::specs::MemberTexts::data_text))]
+fn push_location(
+    alloc: Global,
+    text: &mut String,
+    sources: &SourceMap,
+    location: Option<SourceSpan>,
+) -> Result<(), AllocError>
+    ensures { OnOk result (string_bytes text.new ≡ string_bytes text.old ++ data_text (location_data location sources.now)) }
+{
+    match location {
+        Some(span) => push_object(alloc, text, sources, span),
+        None => text.push_str("null"),
+    }
+}
+
+/// Adds response keys, each behind a comma.
+fn push_keys(alloc: Global, text: &mut String, keys: &[Name]) -> Result<(), AllocError>
+    ensures { OnOk result (string_bytes text.new ≡ string_bytes text.old ++ items_behind (keys_data keys.now)) }
+{
+    for key in keys {
+        text.push_str(",")?;
+        push_string(alloc, text, key.as_str())?;
+    }
+    Ok(())
+}
+
+/// Adds a path as an array.
+#[tactic(auto, using(crate::proofs::JsonLemmas::array_written))]
+fn push_steps(alloc: Global, text: &mut String, path: &SelectionPath) -> Result<(), AllocError>
+    ensures { OnOk result (string_bytes text.new ≡ string_bytes text.old ++ data_text (steps_data path.now)) }
+{
+    text.push_str("[")?;
+    push_string(alloc, text, path.root.to_string(alloc)?.as_str())?;
+    push_keys(alloc, text, path.nested_fields.as_slice())?;
+    text.push_str("]")
+}
+
+/// Adds a path, or null where there is none.
+#[tactic(auto, unfolding(crate::specs::MemberTexts::data_text))]
+fn push_path(
+    alloc: Global,
+    text: &mut String,
+    path: Option<&SelectionPath>,
+) -> Result<(), AllocError>
+    ensures { OnOk result (string_bytes text.new ≡ string_bytes text.old ++ members_behind (path_members (option_map (λ path. path.now) path.entry))) }
+{
+    push_key(alloc, text, ",", "path")?;
+    match path {
+        Some(path) => push_steps(alloc, text, path),
+        None => text.push_str("null"),
+    }
+}
+
+/// Adds what stands under the name of a detail.
+fn push_value(
+    alloc: Global,
+    text: &mut String,
+    sources: &SourceMap,
+    value: &DetailValue,
+) -> Result<(), AllocError>
+    ensures { OnOk result (string_bytes text.new ≡ string_bytes text.old ++ data_text (value_data sources.now value.now)) }
+{
+    match value {
+        DetailValue::Words(Some(words)) => push_text(alloc, text, Some(words.as_str())),
+        DetailValue::Words(None) => push_text(alloc, text, None),
+        DetailValue::Place(location) => push_location(alloc, text, sources, *location),
+    }
+}
+
+/// Adds details, in order.
+fn push_details(
+    alloc: Global,
+    text: &mut String,
+    sources: &SourceMap,
+    details: &[Detail],
+) -> Result<(), AllocError>
+    ensures { OnOk result (string_bytes text.new ≡ string_bytes text.old ++ members_behind (map (detail_member sources.now) details.now)) }
+{
+    for detail in details {
+        push_key(alloc, text, ",", detail.name.as_str())?;
+        push_value(alloc, text, sources, &detail.value)?;
+    }
+    Ok(())
+}
+
+/// Adds a fault as an object.
+pub(crate) fn push_fault(
+    alloc: Global,
+    text: &mut String,
+    sources: &SourceMap,
+    location: Option<SourceSpan>,
+    about: &About<'_>,
+    said: &str,
+    details: &[Detail],
+) -> Result<(), AllocError>
+    ensures { OnOk result (string_bytes text.new ≡ string_bytes text.old ++ data_text (fault_data sources.now location (about_view about.now) said.now details.now)) }
+{
+    push_string_member(alloc, text, "{", "kind", about.kind.as_str())?;
+    push_string_member(alloc, text, ",", "message", said)?;
+    push_file(alloc, text, ",", sources, location)?;
+    push_span(alloc, text, sources, location)?;
+    push_path(alloc, text, about.path)?;
+    push_details(alloc, text, sources, details)?;
+    text.push_str("}")?;
+    Ok(())
+}

@@ -1,0 +1,26 @@
+//! Faults as compilers report them: with the line and a mark under it, an earlier place and a path where there are such,
+//! and as JSON. The faults of builds and the refusals of texts can be reported, and so can a caller's own: see [`Reported`].
+#![tactic(auto)]
+
+pub mod about;
+pub mod counts;
+pub mod detail;
+pub mod document_faults;
+mod excerpt;
+pub mod fault_json;
+mod json_members;
+mod json_values;
+pub mod laws;
+mod places;
+pub mod report;
+pub mod reported;
+pub mod schema_faults;
+mod span_writing;
+pub mod text_errors;
+mod writing;
+
+pub use crate::about::{About, Earlier};
+pub use crate::counts::{FaultCount, faults_line};
+pub use crate::detail::{Detail, DetailValue};
+pub use crate::fault_json::to_json;
+pub use crate::reported::Reported;

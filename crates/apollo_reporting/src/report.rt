@@ -1,0 +1,185 @@
+//! Reports of faults, in the form that compilers use.
+ghost use Rattle.std.specs.Prelude.{◌≡◌, ℕ, List, IfOk, Some, option_map, string_bytes};
+ghost use Rattle.std.specs.Fmt.{WritesOnOk};
+ghost use Rattle.apollo_reporting.specs.Abouts.{about_view};
+ghost use Rattle.apollo_reporting.specs.Places.{starts};
+ghost use Rattle.apollo_reporting.specs.Reports.{lines_behind, location_text, note_text, path_line, report_text};
+
+use crate::about::{About, Earlier};
+use crate::places::start;
+use crate::reported::Reported;
+use crate::span_writing::{gutter, write_span};
+use crate::writing::write_line_begin;
+use apollo_elaboration::selection_path::SelectionPath;
+use graphql_nodes::line_column::LineColumn;
+use graphql_nodes::source::{SourceMap, SourceSpan};
+use std::alloc::{AllocError, Global};
+use std::fmt;
+use std::fmt::{Formatter, Write};
+
+/// A fault beside its location, and the sources that its file is one of.
+///
+/// `Display` is the report, with a line end behind its last line:
+///
+/// ```text
+/// error: type `Book` does not have a field `pages`
+///   --> store_page.graphql:4:5
+///    |
+///  4 |     pages
+///    |     ^^^^^
+///    = path: query Page → book → pages
+/// ```
+///
+/// The marks stand under the span, one for each character, and one where it is empty; of a span of several lines they
+/// stand under the first. A tab before them stays a tab. An earlier place that the fault has to do with follows in the
+/// same form, behind `note:` and what stands there. Where the sources lack the file, or its text ends before, the line
+/// isn't shown.
+pub struct FaultReport<'a, E> {
+    pub sources: &'a SourceMap,
+    pub location: Option<SourceSpan>,
+    pub fault: &'a E,
+}
+
+impl<E> Drop for FaultReport<'_, E> {
+    fn drop(self) {
+        let Self {
+            sources: _,
+            location: _,
+            fault: _,
+        } = self;
+    }
+}
+
+/// A fault at a location, to be reported with these sources. It takes no memory.
+pub fn report<'a, E: Reported>(
+    sources: &'a SourceMap,
+    location: Option<SourceSpan>,
+    fault: &'a E,
+) -> FaultReport<'a, E>
+    ensures sources { result.sources.now ≡ sources.now }
+    ensures location { result.location ≡ location }
+    ensures fault { result.fault.now ≡ fault.now }
+{
+    FaultReport {
+        sources,
+        location,
+        fault,
+    }
+}
+
+impl<E: Reported> fmt::Display for FaultReport<'_, E> {
+    ghost output = { λ it. option_map (report_text it.sources.now it.location (E.said_about it.fault.now)) (E.output it.fault.now) };
+
+    fn fmt<W: Write>(&self, f: &mut Formatter<W>) -> fmt::Result {
+        let about = self.fault.about();
+        let behind = LinesBehind {
+            sources: self.sources,
+            location: self.location,
+            about: &about,
+        };
+        write!(f, "error: {}\n{behind}", self.fault)
+    }
+}
+
+/// The report of a fault, as the `Display` of [`report`] writes it. The error is out of memory.
+pub fn report_text<E: Reported>(
+    alloc: Global,
+    sources: &SourceMap,
+    location: Option<SourceSpan>,
+    fault: &E,
+) -> Result<String, AllocError>
+    ensures { IfOk result (λ text. (said : List ℕ) × (string_bytes text ≡ report_text sources.now location (E.said_about fault.now) said)) }
+{
+    let said = fault.to_string(alloc)?;
+    let about = fault.about();
+    let behind = LinesBehind {
+        sources,
+        location,
+        about: &about,
+    };
+    format!(in alloc; "error: {said}\n{behind}")
+}
+
+/// What stands behind the first line of a report.
+#[derive(Clone, Copy)]
+struct LinesBehind<'s, 'b, 'p> {
+    sources: &'s SourceMap,
+    location: Option<SourceSpan>,
+    about: &'b About<'p>,
+}
+
+impl fmt::Display for LinesBehind<'_, '_, '_> {
+    ghost output = { λ it. Some (lines_behind it.sources.now it.location (about_view it.about.now)) };
+
+    fn fmt<W: Write>(&self, f: &mut Formatter<W>) -> fmt::Result {
+        write_lines_behind(f, self.sources, self.location, self.about)
+    }
+}
+
+#[tactic(auto, unfolding(crate::specs::Reports::lines_behind))]
+fn write_lines_behind<W: Write>(
+    f: &mut Formatter<W>,
+    sources: &SourceMap,
+    location: Option<SourceSpan>,
+    about: &About<'_>,
+) -> fmt::Result
+    ensures { WritesOnOk W.write_str_gives f.old result (lines_behind sources.now location (about_view about.now)) f.new }
+{
+    let at = start(sources, location);
+    write_location(f, sources, location, at)?;
+    write_path(f, gutter(at), about.path)?;
+    write_note(f, sources, &about.earlier)
+}
+
+/// Writes where a fault starts, and its line, where this is its line and column.
+fn write_location<W: Write>(
+    f: &mut Formatter<W>,
+    sources: &SourceMap,
+    location: Option<SourceSpan>,
+    at: Option<LineColumn>,
+) -> fmt::Result
+    requires { at ≡ starts location sources.now }
+    ensures { WritesOnOk W.write_str_gives f.old result (location_text location sources.now) f.new }
+{
+    match location {
+        Some(span) => write_span(f, sources, span, at),
+        None => Ok(()),
+    }
+}
+
+/// Writes the line of a path, if there is one, beside numbers of so many digits.
+#[tactic(auto, unfolding(crate::specs::Reports::path_line))]
+fn write_path<W: Write>(
+    f: &mut Formatter<W>,
+    width: usize,
+    path: Option<&SelectionPath>,
+) -> fmt::Result
+    ensures { WritesOnOk W.write_str_gives f.old result (path_line width (option_map (λ path. path.now) path.entry)) f.new }
+{
+    match path {
+        Some(path) => {
+            write_line_begin(f, width)?;
+            write!(f, " = path: {path}\n")
+        }
+        None => Ok(()),
+    }
+}
+
+/// Writes an earlier place, and its line, if there is one.
+#[tactic(auto, unfolding(crate::specs::Reports::note_text))]
+fn write_note<W: Write>(
+    f: &mut Formatter<W>,
+    sources: &SourceMap,
+    earlier: &Option<Earlier>,
+) -> fmt::Result
+    ensures { WritesOnOk W.write_str_gives f.old result (note_text earlier.now sources.now) f.new }
+{
+    match earlier {
+        Some(earlier) => {
+            write!(f, "note: {}\n", earlier.message)?;
+            let at = earlier.location.line_column(sources);
+            write_span(f, sources, earlier.location, at)
+        }
+        None => Ok(()),
+    }
+}
