@@ -1,19 +1,21 @@
 -- The usages of a list of fields.
-use Rattle.std.proofs.Common.{◌≡◌, ◌+◌, ℕ, Bool, true, false, cond, List, [], ◌∷◌, ◌++◌, map, Option, None, Some, length, sum_by, refl, sym, ap, ◌∙◌, subst, arith, append_assoc, append-nil}
-use Rattle.std.proofs.lemmas.List.{length-map}
+use Rattle.std.proofs.Common.{◌≡◌, ◌+◌, ℕ, Bool, true, false, cond, List, [], ◌∷◌, map, Option, None, Some, length, sum_by, refl, sym, ap, ◌∙◌, subst, arith}
+use Rattle.std.proofs.lemmas.List.{length-map, length-append}
 use Rattle.std.proofs.lemmas.List.Sums.{sum_by-cons}
 use Rattle.std.specs.Cmp.{IsEquivalence}
 use Rattle.std.specs.List.{IsDistinct}
 use Rattle.graphql_nodes.specs.Tables.{lookup, set_value, insert_entry}
+use Rattle.apollo_component.specs.FirstOfEach.{first_of_each}
+use Rattle.apollo_component.proofs.Lists.Ends.{snoc_ind}
 use Rattle.apollo_coordinate.specs.declared.coordinates.TypeAttributeCoordinate.{TypeAttributeCoordinate}
 use Rattle.apollo_field_usage.specs.Coordinates.{coordinate, same_coordinate}
 use Rattle.apollo_field_usage.specs.Counted.{raised, counted}
 use Rattle.apollo_field_usage.specs.Occurrences.{Occurrence}
-use Rattle.apollo_field_usage.specs.Tallies.{firsts, times, tally}
+use Rattle.apollo_field_usage.specs.Tallies.{times, tally}
 use Rattle.apollo_field_usage.specs.Usage.{usage_of, usage}
 use Rattle.apollo_field_usage.specs.declared.counting.FieldUsage.{FieldUsage}
 use Rattle.apollo_field_usage.proofs.SameCoordinates.{same-equivalence}
-use Rattle.apollo_field_usage.proofs.TallyLemmas.{firsts-distinct, tally-push}
+use Rattle.apollo_field_usage.proofs.TallyLemmas.{first-distinct, tally-push}
 
 -- the coordinates of usages are those that are counted
 coordinates-back : (n : TypeAttributeCoordinate → ℕ) (ks : List TypeAttributeCoordinate) → map (λ (u : FieldUsage). u.coordinate) (map usage_of (map (λ k. (k, n k)) ks)) ≡ ks
@@ -23,7 +25,7 @@ coordinates-back n (k ∷ ks) = ap (λ l. k ∷ l) (coordinates-back n ks)
 pub usages-apart : (fields : List Occurrence) → IsDistinct same_coordinate (map (λ u. u.coordinate) (usage fields))
 usages-apart fields =
     let ks = map coordinate fields in
-    subst (IsDistinct same_coordinate) (sym (coordinates-back (times same_coordinate ks) (firsts same_coordinate ks))) (firsts-distinct same_coordinate ks)
+    subst (IsDistinct same_coordinate) (sym (coordinates-back (times same_coordinate ks) (first_of_each same_coordinate ks))) (first-distinct same-equivalence ks)
 
 module _ {K : Type 0} (eq : K → K → Bool) where
   -- how often there is something
@@ -58,14 +60,10 @@ module _ {K : Type 0} (eq : K → K → Bool) where
       by None is = whole-put es k is
       by (Some v) is = whole-set es k v is
 
-module _ {K : Type 0} {eq : K → K → Bool} (laws : IsEquivalence eq) where
-  whole-behind : (done rest : List K) → whole eq (tally eq (done ++ rest)) ≡ whole eq (tally eq done) + length rest
-  whole-behind done [] = omega (arith, ap (λ l. whole eq (tally eq l)) (append-nil done))
-  whole-behind done (k ∷ rest) =
-      let others = whole-behind (done ++ k ∷ []) rest in
-      let one : whole eq (tally eq (done ++ k ∷ [])) ≡ whole eq (tally eq done) + 1 = ap (whole eq) (sym (tally-push laws done k)) ∙ whole-counted eq (tally eq done) k in
-      let same = ap (λ l. whole eq (tally eq l)) (append_assoc done (k ∷ []) rest) in
-      omega (arith, others, one, same)
+-- a tally counts each thing
+tally-whole : {K : Type 0} {eq : K → K → Bool} (laws : IsEquivalence eq) (ks : List K) → whole eq (tally eq ks) ≡ length ks
+tally-whole {eq = eq} laws = snoc_ind (λ ks. whole eq (tally eq ks) ≡ length ks) refl
+    (λ ks k so_far. ap (whole eq) (sym (tally-push laws ks k)) ∙ whole-counted eq (tally eq ks) k ∙ omega (arith, so_far, length-append ks (k ∷ [])))
 
 counts-whole : (es : List (TypeAttributeCoordinate × ℕ)) → sum_by (λ u. u.count) (map usage_of es) ≡ whole same_coordinate es
 counts-whole [] = refl
@@ -75,4 +73,4 @@ counts-whole (e ∷ es) =
 pub usages-whole : (fields : List Occurrence) → sum_by (λ u. u.count) (usage fields) ≡ length fields
 usages-whole fields =
     let ks = map coordinate fields in
-    omega (arith, counts-whole (tally same_coordinate ks), whole-behind same-equivalence [] ks, length-map fields coordinate)
+    counts-whole (tally same_coordinate ks) ∙ tally-whole same-equivalence ks ∙ length-map fields coordinate
