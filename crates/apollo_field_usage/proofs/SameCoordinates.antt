@@ -6,4 +6,5 @@ use Rattle.apollo_field_usage.specs.Coordinates.{same_coordinate}
 
 pub same-equivalence : IsEquivalence same_coordinate
 same-equivalence =
-    and_equiv (on_equiv (λ (c : TypeAttributeCoordinate). c.ty.text) nat_list_eq_equiv) (on_equiv (λ (c : TypeAttributeCoordinate). c.attribute.text) nat_list_eq_equiv)
+    and_equiv (on_equiv (λ (c : TypeAttributeCoordinate). c.ty.text) nat_list_eq_equiv)
+    (on_equiv (λ (c : TypeAttributeCoordinate). c.attribute.text) nat_list_eq_equiv)

@@ -18,39 +18,67 @@ use Rattle.apollo_field_usage.proofs.SameCoordinates.{same-equivalence}
 use Rattle.apollo_field_usage.proofs.TallyLemmas.{first-distinct, tally-push}
 
 -- the coordinates of usages are those that are counted
-coordinates-back : (n : TypeAttributeCoordinate → ℕ) (ks : List TypeAttributeCoordinate) → map (λ (u : FieldUsage). u.coordinate) (map usage_of (map (λ k. (k, n k)) ks)) ≡ ks
+coordinates-back : (n : TypeAttributeCoordinate → ℕ) (ks : List TypeAttributeCoordinate)
+    → map (λ (u : FieldUsage). u.coordinate) (map usage_of (map (λ k. (k, n k)) ks)) ≡ ks
 coordinates-back n [] = refl
 coordinates-back n (k ∷ ks) = ap (λ l. k ∷ l) (coordinates-back n ks)
 
-pub usages-apart : (fields : List Occurrence) → IsDistinct same_coordinate (map (λ u. u.coordinate) (usage fields))
+pub usages-apart : (fields : List Occurrence)
+    → IsDistinct same_coordinate (map (λ u. u.coordinate) (usage fields))
 usages-apart fields =
     let ks = map coordinate fields in
-    subst (IsDistinct same_coordinate) (sym (coordinates-back (times same_coordinate ks) (first_of_each same_coordinate ks))) (first-distinct same-equivalence ks)
+    subst (IsDistinct same_coordinate)
+    (sym (coordinates-back (times same_coordinate ks) (first_of_each same_coordinate ks)))
+    (first-distinct same-equivalence ks)
 
 module _ {K : Type 0} (eq : K → K → Bool) where
   -- how often there is something
   abbrev whole : List (K × ℕ) → ℕ
   whole es = sum_by (λ e. e.1) es
 
-  whole-put : (es : List (K × ℕ)) (k : K) → lookup (eq k) es ≡ None → whole (insert_entry eq es k 1) ≡ whole es + 1
+  whole-put : (es : List (K × ℕ)) (k : K) → lookup (eq k) es ≡ None → whole (insert_entry eq es k 1)
+      ≡ whole es + 1
   whole-put [] k missing = refl
   whole-put (e ∷ es) k missing = by (eq k e.0) missing (whole-put es k)
     where
-      by : (b : Bool) → cond b (Some e.1) (lookup (eq k) es) ≡ None → (lookup (eq k) es ≡ None → whole (insert_entry eq es k 1) ≡ whole es + 1)
+      by : (b : Bool) → cond b (Some e.1) (lookup (eq k) es) ≡ None
+          → (lookup (eq k) es ≡ None → whole (insert_entry eq es k 1) ≡ whole es + 1)
           → whole (cond b ((e.0, 1) ∷ es) (e ∷ insert_entry eq es k 1)) ≡ whole (e ∷ es) + 1
       by true missing rest = absurd (cc)
-      by false missing rest = omega (arith, rest missing, sum_by-cons (λ (x : K × ℕ). x.1) e (insert_entry eq es k 1), sum_by-cons (λ (x : K × ℕ). x.1) e es)
+      by false missing rest =
+          omega (
+            arith,
+            rest missing,
+            sum_by-cons (λ (x : K × ℕ). x.1) e
+                (insert_entry eq es k 1),
+            sum_by-cons (λ (x : K × ℕ). x.1) e es,
+          )
 
-  whole-set : (es : List (K × ℕ)) (k : K) (v : ℕ) → lookup (eq k) es ≡ Some v → whole (set_value (eq k) es (v + 1)) ≡ whole es + 1
+  whole-set : (es : List (K × ℕ)) (k : K) (v : ℕ) → lookup (eq k) es ≡ Some v
+      → whole (set_value (eq k) es (v + 1)) ≡ whole es + 1
   whole-set [] k v found = absurd (cc)
   whole-set (e ∷ es) k v found = by (eq k e.0) found (whole-set es k v)
     where
-      by : (b : Bool) → cond b (Some e.1) (lookup (eq k) es) ≡ Some v → (lookup (eq k) es ≡ Some v → whole (set_value (eq k) es (v + 1)) ≡ whole es + 1)
+      by : (b : Bool) → cond b (Some e.1) (lookup (eq k) es) ≡ Some v
+          → (lookup (eq k) es ≡ Some v → whole (set_value (eq k) es (v + 1)) ≡ whole es + 1)
           → whole (cond b ((e.0, v + 1) ∷ es) (e ∷ set_value (eq k) es (v + 1))) ≡ whole (e ∷ es) + 1
       by true found rest =
           let value : e.1 ≡ v = cc in
-          omega (arith, value, sum_by-cons (λ (x : K × ℕ). x.1) (e.0, v + 1) es, sum_by-cons (λ (x : K × ℕ). x.1) e es)
-      by false found rest = omega (arith, rest found, sum_by-cons (λ (x : K × ℕ). x.1) e (set_value (eq k) es (v + 1)), sum_by-cons (λ (x : K × ℕ). x.1) e es)
+          omega (
+            arith,
+            value,
+            sum_by-cons (λ (x : K × ℕ). x.1) (e.0, v + 1) es,
+            sum_by-cons
+                (λ (x : K × ℕ). x.1) e es,
+          )
+      by false found rest =
+          omega (
+            arith,
+            rest found,
+            sum_by-cons (λ (x : K × ℕ). x.1) e
+                (set_value (eq k) es (v + 1)),
+            sum_by-cons (λ (x : K × ℕ). x.1) e es,
+          )
 
   -- one more
   whole-counted : (es : List (K × ℕ)) (k : K) → whole (counted eq es k) ≡ whole es + 1
@@ -61,14 +89,23 @@ module _ {K : Type 0} (eq : K → K → Bool) where
       by (Some v) is = whole-set es k v is
 
 -- a tally counts each thing
-tally-whole : {K : Type 0} {eq : K → K → Bool} (laws : IsEquivalence eq) (ks : List K) → whole eq (tally eq ks) ≡ length ks
+tally-whole : {K : Type 0} {eq : K → K → Bool} (laws : IsEquivalence eq) (ks : List K)
+    → whole eq (tally eq ks) ≡ length ks
 tally-whole {eq = eq} laws = snoc_ind (λ ks. whole eq (tally eq ks) ≡ length ks) refl
-    (λ ks k so_far. ap (whole eq) (sym (tally-push laws ks k)) ∙ whole-counted eq (tally eq ks) k ∙ omega (arith, so_far, length-append ks (k ∷ [])))
+    (λ ks k so_far. ap (whole eq) (sym (tally-push laws ks k)) ∙ whole-counted eq (tally eq ks) k
+    ∙ omega (arith, so_far, length-append ks (k ∷ [])))
 
-counts-whole : (es : List (TypeAttributeCoordinate × ℕ)) → sum_by (λ u. u.count) (map usage_of es) ≡ whole same_coordinate es
+counts-whole : (es : List (TypeAttributeCoordinate × ℕ)) → sum_by (λ u. u.count) (map usage_of es)
+    ≡ whole same_coordinate es
 counts-whole [] = refl
 counts-whole (e ∷ es) =
-    omega (arith, counts-whole es, sum_by-cons (λ (u : FieldUsage). u.count) (usage_of e) (map usage_of es), sum_by-cons (λ (x : TypeAttributeCoordinate × ℕ). x.1) e es)
+    omega (
+      arith,
+      counts-whole es,
+      sum_by-cons (λ (u : FieldUsage). u.count) (usage_of e)
+          (map usage_of es),
+      sum_by-cons (λ (x : TypeAttributeCoordinate × ℕ). x.1) e es,
+    )
 
 pub usages-whole : (fields : List Occurrence) → sum_by (λ u. u.count) (usage fields) ≡ length fields
 usages-whole fields =

@@ -37,7 +37,8 @@ names_opened w = marked_names w.document.now w.opened.items
 
 -- what is to come where these names are opened and these sets are open
 unfoldable pub left_in : ExecutableDocument → Names → List Open → ToCome Occurrence
-left_in document names lists = (what_is_to_come (placed_fragments document) names (map (λ l. placed l.0 l.1) lists)).0
+left_in document names lists =
+    (what_is_to_come (placed_fragments document) names (map (λ l. placed l.0 l.1) lists)).0
 
 -- what is left of a walk with these sets open
 abbrev pub left_of : OpenSets → ToCome Occurrence
@@ -49,10 +50,14 @@ all_to_come document set = left_in document no_names ((set.ty, set.selections) �
 
 -- what was to come before a turn over this set, which found a field or none, by what is to come after it
 abbrev pub IsTurn : OpenSets → Open → Option FieldOccurrence → OpenSets → Type 0
-IsTurn old set (Some o) new = left_in old.document.now (names_opened old) (set ∷ lists_of old) ≡ a_field_before (seen o) (left_of new)
-IsTurn old set None new = left_in old.document.now (names_opened old) (set ∷ lists_of old) ≡ a_turn_before (left_of new)
+IsTurn old set (Some o) new =
+    left_in old.document.now (names_opened old) (set ∷ lists_of old) ≡ a_field_before (seen o) (left_of new)
+IsTurn old set None new =
+    left_in old.document.now (names_opened old) (set ∷ lists_of old) ≡ a_turn_before (left_of new)
 
 -- the same, where a spread stands first in the innermost set, and old has the rest of it open
 abbrev pub IsSpreadTurn : OpenSets → NodeView FragmentSpread → OpenSets → Type 0
-IsSpreadTurn old n new = (ty : NameView) (rest : List Selection) (lists : List Open) → lists_of old ≡ (ty, rest) ∷ lists
-    → left_in old.document.now (names_opened old) ((ty, variant.FragmentSpread n ∷ rest) ∷ lists) ≡ a_turn_before (left_of new)
+IsSpreadTurn old n new =
+    (ty : NameView) (rest : List Selection) (lists : List Open) → lists_of old ≡ (ty, rest) ∷ lists
+    → left_in old.document.now (names_opened old) ((ty, variant.FragmentSpread n ∷ rest) ∷ lists)
+    ≡ a_turn_before (left_of new)

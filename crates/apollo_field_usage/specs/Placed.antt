@@ -1,5 +1,5 @@
--- Typed selections as a walk sees them, each field with the type of the set in which it stands: GraphQL specification of October
--- 2021, sections 2.4 to 2.8.
+-- Typed selections as a walk sees them, each field with the type of the set in which it stands: GraphQL
+-- specification of October 2021, sections 2.4 to 2.8.
 use Rattle.std.specs.Prelude.{List, [], ◌∷◌, map}
 use Rattle.graphql_nodes.specs.NameView.{NameView}
 use Rattle.apollo_walks.specs.Selections.{Selections, none, field, spread, inline, Fragments}
@@ -45,7 +45,9 @@ placed_in_order ty (s ∷ ss) = s.1 ty (placed_in_order ty ss)
 
 -- what a walk sees of a selection in a set of some type, before others
 abbrev pub placed_selection : Selection → NameView → Placed → Placed
-placed_selection = para-Selection (NameView → Placed → Placed) Placed Placed Placed place_before (λ f. f.selection_set.1) (λ f. f.selection_set.1) (λ s. placed_in_order s.ty s.selections)
+placed_selection =
+    para-Selection (NameView → Placed → Placed) Placed Placed Placed place_before (λ f. f.selection_set.1)
+    (λ f. f.selection_set.1) (λ s. placed_in_order s.ty s.selections)
 
 -- some selections in a set of this type, as a walk sees them
 unfoldable pub placed : NameView → List Selection → Placed

@@ -1,4 +1,5 @@
--- The fields that a set reaches, with the types of their sets: GraphQL specification of October 2021, sections 2.4 to 2.8.
+-- The fields that a set reaches, with the types of their sets: GraphQL specification of October 2021,
+-- sections 2.4 to 2.8.
 use Rattle.std.specs.Prelude.{List}
 use Rattle.apollo_walks.specs.Selections.{no_names}
 use Rattle.apollo_walks.proofs.Existence.{ordered}

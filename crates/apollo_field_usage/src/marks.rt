@@ -17,7 +17,8 @@ pub(crate) fn no_marks(alloc: Global, len: usize) -> Result<Vec<bool>, AllocErro
 pub(crate) fn mark(marks: &mut Vec<bool>, place: usize)
     requires { place < length marks.old.items }
     ensures len { length marks.new.items ≡ length marks.old.items }
-    ensures marked { (k : ℕ) → slice_index_or marks.new.items k false ≡ (if nat_eq place k then true else slice_index_or marks.old.items k false) }
+    ensures marked { (k : ℕ) → slice_index_or marks.new.items k false
+        ≡ (if nat_eq place k then true else slice_index_or marks.old.items k false) }
 {
     marks[place] = true;
 }

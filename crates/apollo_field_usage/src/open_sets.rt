@@ -1,5 +1,5 @@
-//! The sets that a walk over an operation has open, and one turn over them: GraphQL specification of October 2021, sections 2.4 to
-//! 2.8.
+//! The sets that a walk over an operation has open, and one turn over them: GraphQL specification of
+//! October 2021, sections 2.4 to 2.8.
 ghost use Rattle.std.specs.Prelude.{◌≡◌, [], ◌∷◌, length, IfOk, OnOk, IfNone, IfSome};
 
 use crate::marks;
@@ -17,7 +17,8 @@ pub(crate) struct OpenSet<'doc> {
     rest: &'doc [Selection],
 }
 
-/// The sets that a walk has open, the innermost one last. A fragment that was opened is marked at its place in the map of fragments.
+/// The sets that a walk has open, the innermost one last. A fragment that was opened is marked at its
+/// place in the map of fragments.
 #[derive(Drop)]
 pub(crate) struct OpenSets<'doc> {
     document: &'doc ExecutableDocument,
@@ -51,7 +52,8 @@ impl<'doc> OpenSets<'doc> {
     fn open(&mut self, set: &'doc SelectionSet) -> Result<(), AllocError>
         ensures document { self.new.document ≡ self.old.document }
         ensures opened { self.new.opened ≡ self.old.opened }
-        ensures lists { OnOk result (lists_of self.new ≡ (set.now.ty, set.now.selections) ∷ lists_of self.old) }
+        ensures lists { OnOk result
+            (lists_of self.new ≡ (set.now.ty, set.now.selections) ∷ lists_of self.old) }
     {
         self.open.push(OpenSet {
             ty: &set.ty,
@@ -60,7 +62,8 @@ impl<'doc> OpenSets<'doc> {
         Ok(())
     }
 
-    /// Opens the fragment of a spread, if there is one that is not opened yet. The error is that memory ran out.
+    /// Opens the fragment of a spread, if there is one that is not opened yet. The error is that memory
+    /// ran out.
     fn open_fragment(&mut self, spread: &Node<FragmentSpread>) -> Result<(), AllocError>
         ensures document { self.new.document ≡ self.old.document }
         ensures turn { OnOk result (IsSpreadTurn self.old spread.now self.new) }
@@ -87,8 +90,8 @@ impl<'doc> OpenSets<'doc> {
         self.open.pop()
     }
 
-    /// One turn: a look at a set that was the innermost one. It answers the field that stands first there, if one does. The error is
-    /// that memory ran out.
+    /// One turn: a look at a set that was the innermost one. It answers the field that stands first
+    /// there, if one does. The error is that memory ran out.
     pub(crate) fn turn(
         &mut self,
         set: OpenSet<'doc>,

@@ -1,4 +1,5 @@
-//! The fields that a set reaches, with the types of their sets: GraphQL specification of October 2021, sections 2.4 to 2.8.
+//! The fields that a set reaches, with the types of their sets: GraphQL specification of October 2021,
+//! sections 2.4 to 2.8.
 ghost use Rattle.std.specs.Prelude.{◌≡◌, map, IfOk};
 ghost use Rattle.apollo_field_usage.specs.Reached.{reached};
 ghost use Rattle.apollo_field_usage.specs.Seen.{seen};
@@ -9,7 +10,8 @@ use apollo_executable::document::ExecutableDocument;
 use apollo_executable::selection::SelectionSet;
 use std::alloc::{AllocError, Global};
 
-/// Each field that a set reaches, as often as it stands there, in the order of walks. The error is that memory ran out.
+/// Each field that a set reaches, as often as it stands there, in the order of walks. The error is that
+/// memory ran out.
 pub(crate) fn reached_fields<'doc>(
     alloc: Global,
     document: &'doc ExecutableDocument,

@@ -28,7 +28,8 @@ fn count(
     Ok(())
 }
 
-/// How often the coordinate of each field comes, in the order in which they come first. The error is that memory ran out.
+/// How often the coordinate of each field comes, in the order in which they come first. The error is that
+/// memory ran out.
 pub(crate) fn count_all(
     alloc: Global,
     keys: HashKeys,

@@ -7,7 +7,8 @@ use Rattle.apollo_field_usage.proofs.reached.reached_fields.Goals as goal
 
 pub loop-innermost-init : goal.loop-innermost-init
 loop-innermost-init c =
-    (λ i. map seen (c.new-fields.ensures.items i) ++ (c.in_ok-sets.ensures i).fields) ∙ all-reached c.args.document.now c.args.set.now
+    (λ i. map seen (c.new-fields.ensures.items i) ++ (c.in_ok-sets.ensures i).fields)
+    ∙ all-reached c.args.document.now c.args.set.now
 
 pub returns : goal.returns
 returns c =
@@ -15,5 +16,7 @@ returns c =
     let sets = c.loop-innermost.sets in
     let d = sets.document.now in
     let nothing : (left_of sets).fields ≡ [] =
-    ap (λ (l : List Open). (left_in d (names_opened sets) l).fields) c.in_default.ensures.none ∙ (λ i. (left-ends d (names_opened sets) i).fields) in
-    sym (append-nil given) ∙ ap (λ (l : List Occurrence). given ++ l) (sym nothing) ∙ c.loop-innermost.invariant
+    ap (λ (l : List Open). (left_in d (names_opened sets) l).fields) c.in_default.ensures.none
+    ∙ (λ i. (left-ends d (names_opened sets) i).fields) in
+    sym (append-nil given) ∙ ap (λ (l : List Occurrence). given ++ l) (sym nothing)
+    ∙ c.loop-innermost.invariant

@@ -7,19 +7,24 @@ use Rattle.apollo_field_usage.proofs.tallies.count.Goals as goal
 
 pub overflow_add-times : goal.overflow_add-times
 overflow_add-times c =
-    let there : lookup (same_coordinate c.args.key) c.args.table.now ≡ Some c.in-Some.times.now = sym c.get_mut.ensures.value ∙ ap option_copied_mut c.in-Some.is in
+    let there : lookup (same_coordinate c.args.key) c.args.table.now ≡ Some c.in-Some.times.now =
+    sym c.get_mut.ensures.value ∙ ap option_copied_mut c.in-Some.is in
     let small = subst (λ (o : Option ℕ). IfSome o (λ times. times + 1 < 2 ^ 64)) there c.requires in
     omega (arith, small)
 
 pub returns-in-Some : goal.returns-in-Some
 returns-in-Some c =
     let es = c.args.table.now in
-    let there : lookup (same_coordinate c.args.key) es ≡ Some c.in-Some.times.now = sym c.get_mut.ensures.value ∙ ap option_copied_mut c.in-Some.is in
-    c.get_mut.follows.holds (c.in-Some.times.now + 1) ∙ sym (ap (raised same_coordinate es c.args.key) there)
+    let there : lookup (same_coordinate c.args.key) es ≡ Some c.in-Some.times.now =
+    sym c.get_mut.ensures.value ∙ ap option_copied_mut c.in-Some.is in
+    c.get_mut.follows.holds (c.in-Some.times.now + 1)
+    ∙ sym (ap (raised same_coordinate es c.args.key) there)
 
 pub returns : goal.returns
 returns c =
     let es = c.args.table.now in
-    let missing : lookup (same_coordinate c.args.key) es ≡ None = sym c.get_mut.ensures.value ∙ ap option_copied_mut c.in_default.is in
+    let missing : lookup (same_coordinate c.args.key) es ≡ None =
+    sym c.get_mut.ensures.value ∙ ap option_copied_mut c.in_default.is in
     let same = c.get_mut.follows.holds-at-none in
-    c.in_ok-insert.ensures.entries ∙ ap (λ t. raised same_coordinate t c.args.key None) same ∙ sym (ap (raised same_coordinate es c.args.key) missing)
+    c.in_ok-insert.ensures.entries ∙ ap (λ t. raised same_coordinate t c.args.key None) same
+    ∙ sym (ap (raised same_coordinate es c.args.key) missing)

@@ -6,4 +6,5 @@ returns-clause-none c =
     popped-none c.pop.result c.args.self.now.open.items c.args.self.now.open.len c.args.self.now.open.ok.0 _ _ c.pop.ensures.cases
 
 pub returns-clause-some : goal.returns-clause-some
-returns-clause-some c = popped-some c.pop.result c.args.self.now.open.items c.pop.new.self.items c.pop.ensures.items
+returns-clause-some c =
+    popped-some c.pop.result c.args.self.now.open.items c.pop.new.self.items c.pop.ensures.items
