@@ -142,11 +142,12 @@ module _ {K : Type 0} {eq : K → K → Bool} (laws : IsEquivalence eq) (ks : Li
       let once : 1 ≡ times eq ks k + cond (eq k k) 1 0 =
       sym (ap (λ b. times eq ks k + cond b 1 0) (laws.refl k)
       ∙ ap (λ n. n + 1) (none-times laws ks k absent)) in
+      let put =
       insert_entry-last eq (tally eq ks) k 1
-      (list_any-map (λ e. eq k e.0) (λ q. (q, times eq ks q)) fs ∙ first)
-      ∙ (λ i. same i ++ (k, once i) ∷ [])
-      ∙ sym (map-append (entry_more eq (times eq ks) k) fs (k ∷ []))
-      ∙ sym (λ i. pushed i (fs ++ k ∷ []))
+      (list_any-map (λ e. eq k e.0) (λ q. (q, times eq ks q)) fs ∙ first) in
+      let grown : tally eq ks ++ (k, 1) ∷ [] ≡ map (entry_more eq (times eq ks) k) (fs ++ k ∷ []) =
+      (λ i. same i ++ (k, once i) ∷ []) ∙ sym (map-append (entry_more eq (times eq ks) k) fs (k ∷ [])) in
+      put ∙ grown ∙ sym (λ i. pushed i (fs ++ k ∷ []))
       ∙ ap (map (λ q. (q, times eq (ks ++ k ∷ []) q))) (sym (first_of_each-push_new eq laws ks k absent))
 
   -- a number of a tally is at most the length of the list

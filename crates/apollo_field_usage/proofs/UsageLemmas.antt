@@ -1,9 +1,9 @@
 -- The usages of a list of fields.
-use Rattle.std.proofs.Common.{◌≡◌, ◌+◌, ℕ, Bool, true, false, cond, List, [], ◌∷◌, map, Option, None, Some, length, sum_by, refl, sym, ap, ◌∙◌, subst, arith}
+use Rattle.std.proofs.Common.{◌≡◌, ◌<◌, ◌+◌, ℕ, Bool, true, false, cond, List, [], ◌∷◌, map, Option, None, Some, length, sum_by, refl, sym, ap, ◌∙◌, subst, arith}
 use Rattle.std.proofs.lemmas.List.{length-map, length-append}
 use Rattle.std.proofs.lemmas.List.Sums.{sum_by-cons}
 use Rattle.std.specs.Cmp.{IsEquivalence}
-use Rattle.std.specs.List.{IsDistinct}
+use Rattle.std.specs.List.{AllByRecursion, IsDistinct}
 use Rattle.graphql_nodes.specs.Tables.{lookup, set_value, insert_entry}
 use Rattle.apollo_component.specs.FirstOfEach.{first_of_each}
 use Rattle.apollo_component.proofs.Lists.Ends.{snoc_ind}
@@ -111,3 +111,47 @@ pub usages-whole : (fields : List Occurrence) → sum_by (λ u. u.count) (usage 
 usages-whole fields =
     let ks = map coordinate fields in
     counts-whole (tally same_coordinate ks) ∙ tally-whole same-equivalence ks ∙ length-map fields coordinate
+
+module _ {K : Type 0} (eq : K → K → Bool) where
+  -- each number is one or more
+  abbrev AreSome : List (K × ℕ) → Type 0
+  AreSome = AllByRecursion (λ e. 0 < e.1)
+
+  some-put : (es : List (K × ℕ)) (k : K) → AreSome es → AreSome (insert_entry eq es k 1)
+  some-put [] k some = (omega arith, tt)
+  some-put (e ∷ es) k some = by (eq k e.0) (some-put es k some.1)
+    where
+      by : (b : Bool) → AreSome (insert_entry eq es k 1)
+          → AreSome (cond b ((e.0, 1) ∷ es) (e ∷ insert_entry eq es k 1))
+      by true rest = (omega arith, some.1)
+      by false rest = (some.0, rest)
+
+  some-set : (es : List (K × ℕ)) (k : K) (v : ℕ) → AreSome es → AreSome (set_value (eq k) es (v + 1))
+  some-set [] k v some = tt
+  some-set (e ∷ es) k v some = by (eq k e.0) (some-set es k v some.1)
+    where
+      by : (b : Bool) → AreSome (set_value (eq k) es (v + 1))
+          → AreSome (cond b ((e.0, v + 1) ∷ es) (e ∷ set_value (eq k) es (v + 1)))
+      by true rest = (omega arith, some.1)
+      by false rest = (some.0, rest)
+
+  some-raised : (es : List (K × ℕ)) (k : K) (now : Option ℕ) → AreSome es → AreSome (raised eq es k now)
+  some-raised es k None some = some-put es k some
+  some-raised es k (Some v) some = some-set es k v some
+
+tally-some : {K : Type 0} {eq : K → K → Bool} (laws : IsEquivalence eq) (ks : List K)
+    → AreSome eq (tally eq ks)
+tally-some {eq = eq} laws =
+    snoc_ind (λ ks. AreSome eq (tally eq ks)) tt
+    (λ ks k so_far. subst (AreSome eq) (tally-push laws ks k)
+    (some-raised eq (tally eq ks) k (lookup (eq k) (tally eq ks)) so_far))
+
+counts-some : (es : List (TypeAttributeCoordinate × ℕ)) → AreSome same_coordinate es
+    → AllByRecursion (λ (u : FieldUsage). 0 < u.count) (map usage_of es)
+counts-some [] some = tt
+counts-some (e ∷ es) some = (some.0, counts-some es some.1)
+
+pub usages-some : (fields : List Occurrence) → AllByRecursion (λ u. 0 < u.count) (usage fields)
+usages-some fields =
+    let ks =
+    map coordinate fields in counts-some (tally same_coordinate ks) (tally-some same-equivalence ks)

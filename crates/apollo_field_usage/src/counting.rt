@@ -52,7 +52,8 @@ impl fmt::Display for FieldUsage {
 /// coordinate is that of the set in which the field stands, so a field in a fragment goes by the
 /// fragment's type. Directives such as `@skip` change nothing.
 ///
-/// The error is that memory ran out. Time and memory are linear in what is reached.
+/// The error is that memory ran out. Time and memory are linear in how many fields are reached, and how
+/// many fragments the document has.
 pub fn field_usage(
     alloc: Global,
     document: &ExecutableDocument,

@@ -1,8 +1,8 @@
 //! What is so of counts of fields, for those who build on them.
 //!
 //! Each law is a function that does nothing. A proof cites it by a call, and finds its clauses there.
-ghost use Rattle.std.specs.Prelude.{◌≡◌, ℕ, true, List, [], ◌∷◌, map, sum_by, length, option_map};
-ghost use Rattle.std.specs.List.{IsDistinct};
+ghost use Rattle.std.specs.Prelude.{◌≡◌, ◌<◌, ℕ, true, List, [], ◌∷◌, map, sum_by, length, option_map};
+ghost use Rattle.std.specs.List.{AllByRecursion, IsDistinct};
 ghost use Rattle.graphql_nodes.specs.Clones.{IsExact};
 ghost use Rattle.graphql_nodes.specs.Comparing.{ComparesBy};
 ghost use Rattle.graphql_nodes.specs.NameView.{NameView};
@@ -62,10 +62,11 @@ pub fn types_by_kind_of_selection()
         ≡ option_map (λ f. placed_set f.value.selection_set) (lookup (by_text n) document.fragments) }
 {}
 
-/// No coordinate has two usages, and the counts are together as many as the fields.
+/// No coordinate has two usages, each count is one or more, and they are together as many as the fields.
 pub fn each_field_is_counted_once()
     ensures apart { (fields : List Occurrence)
         → IsDistinct same_coordinate (map (λ u. u.coordinate) (usage fields)) }
+    ensures some { (fields : List Occurrence) → AllByRecursion (λ u. 0 < u.count) (usage fields) }
     ensures all { (fields : List Occurrence) → sum_by (λ u. u.count) (usage fields) ≡ length fields }
 {}
 

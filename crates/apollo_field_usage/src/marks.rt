@@ -1,5 +1,6 @@
 //! Places of a list that are marked.
-ghost use Rattle.std.specs.Prelude.{◌≡◌, ◌<◌, ℕ, length, nat_eq, slice_index_or, if◌then◌else◌, true, false, IfOk};
+ghost use Rattle.std.specs.Prelude.{◌≡◌, ◌<◌, ℕ, true, false, IfOk};
+ghost use Rattle.std.specs.Prelude.{length, nat_eq, slice_index_or, if◌then◌else◌};
 
 use std::alloc::{AllocError, Global};
 

@@ -28,7 +28,7 @@ pub(crate) struct OpenSets<'doc> {
 }
 
 impl<'doc> OpenSets<'doc> {
-    ghost use Rattle.apollo_field_usage.specs.Left.{lists_of, names_opened, left_of, all_to_come, IsSpreadTurn, IsTurn};
+    ghost use Rattle.apollo_field_usage.specs.Left.{lists_of, left_of, all_to_come, IsSpreadTurn, IsTurn};
     ghost use Rattle.apollo_field_usage.specs.Seen.{seen_set};
 
     /// This set is open, and no fragment is opened. The error is that memory ran out.

@@ -18,16 +18,16 @@ returns-in_default-clause-turn c = λ ty rest lists first.
 pub returns-then-index-clause-turn : goal.returns-then-index-clause-turn
 returns-then-index-clause-turn c = λ ty rest lists first.
     let w = c.args.self.now in
+    let d = w.document.now in
     let n = c.args.spread.now in
+    let text = n.value.fragment_name.text in
+    let at = c.in-Some.place in
     let place = rw c.deref.ensures at (sym c.in-Some.ensures.place) in
-    let there : c.in-Some.place < length w.opened.items =
-    omega (arith, w.marks, key-there w.document.now.fragments n.value.fragment_name.text c.in-Some.place place) in
-    let mark =
-    mark-at w.opened.items c.in-Some.place c.index.result.now c.index.ensures there true c.if-index.true in
-    let marked =
-    marked_names-at w.document.now w.opened.items n.value.fragment_name.text c.in-Some.place true place mark in
-    left-opened w.document.now (names_opened w) ty lists rest n marked
-    ∙ ap (λ (l : List Open). a_turn_before (left_in w.document.now (names_opened w) l)) (sym first)
+    let there : at < length w.opened.items = omega (arith, w.marks, key-there d.fragments text at place) in
+    let mark = mark-at w.opened.items at c.index.result.now c.index.ensures there true c.if-index.true in
+    let marked = marked_names-at d w.opened.items text at true place mark in
+    left-opened d (names_opened w) ty lists rest n marked
+    ∙ ap (λ (l : List Open). a_turn_before (left_in d (names_opened w) l)) (sym first)
 
 pub returns-clause-turn : goal.returns-clause-turn
 returns-clause-turn c = λ ty rest lists first.
