@@ -145,10 +145,15 @@ module _ {K : Type 0} {eq : K → K → Bool} (laws : IsEquivalence eq) (ks : Li
       let put =
       insert_entry-last eq (tally eq ks) k 1
       (list_any-map (λ e. eq k e.0) (λ q. (q, times eq ks q)) fs ∙ first) in
+      let entries : tally eq ks ++ (k, 1) ∷ [] ≡ map (entry_more eq (times eq ks) k) fs
+      ++ entry_more eq (times eq ks) k k ∷ [] =
+      λ i. same i ++ (k, once i) ∷ [] in
       let grown : tally eq ks ++ (k, 1) ∷ [] ≡ map (entry_more eq (times eq ks) k) (fs ++ k ∷ []) =
-      (λ i. same i ++ (k, once i) ∷ []) ∙ sym (map-append (entry_more eq (times eq ks) k) fs (k ∷ [])) in
-      put ∙ grown ∙ sym (λ i. pushed i (fs ++ k ∷ []))
-      ∙ ap (map (λ q. (q, times eq (ks ++ k ∷ []) q))) (sym (first_of_each-push_new eq laws ks k absent))
+      entries ∙ sym (map-append (entry_more eq (times eq ks) k) fs (k ∷ [])) in
+      let shown : map (entry_more eq (times eq ks) k) (fs ++ k ∷ []) ≡ tally eq (ks ++ k ∷ []) =
+      sym (λ i. pushed i (fs ++ k ∷ []))
+      ∙ ap (map (λ q. (q, times eq (ks ++ k ∷ []) q))) (sym (first_of_each-push_new eq laws ks k absent)) in
+      put ∙ (grown ∙ shown)
 
   -- a number of a tally is at most the length of the list
   pub tally-small : (v : ℕ) → lookup (eq k) (tally eq ks) ≡ Some v → v ≤ length ks
