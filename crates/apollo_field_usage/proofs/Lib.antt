@@ -1,0 +1,9 @@
+pub mod FragmentLemmas
+pub mod LeftLemmas
+pub mod OpenLemmas
+pub mod PlacedLemmas
+pub mod PlainWalks
+pub mod Relabelling
+pub mod SameCoordinates
+pub mod TallyLemmas
+pub mod UsageLemmas

@@ -1,0 +1,10 @@
+pub mod BareUsage
+pub mod Coordinates
+pub mod Counted
+pub mod Left
+pub mod Occurrences
+pub mod Placed
+pub mod Reached
+pub mod Seen
+pub mod Tallies
+pub mod Usage
