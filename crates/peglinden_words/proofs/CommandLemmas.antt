@@ -17,7 +17,8 @@ pub record IsProgram (c : Command) (a : App) : Type 0 where
   pub app : app_of c ≡ a
   pub local : (fields_of c).has_globals ≡ false
 
-pub added : {old sub new : Command} {a : App} {s : Shape} → AddsSubcommand old sub new → IsProgram old a → IsShaped sub s
+pub added : {old sub new : Command} {a : App} {s : Shape} → AddsSubcommand old sub new → IsProgram old a
+    → IsShaped sub s
     → IsProgram new (with_subcommand a s)
 added adds before below = record {
   app = adds.shape below.local ∙ ap₂ with_subcommand before.app below.shape;

@@ -72,12 +72,12 @@ fn schema_command<'w>(alloc: Global) -> Result<Command<'w>, AllocError>
         .arg(flag(
             alloc,
             "adopt",
-            "Take the types `Query`, `Mutation` and `Subscription` as root types where no schema definition names any",
+            "Take what is extended and not defined as defined",
         ))?
         .arg(flag(
             alloc,
             "ignore-builtin",
-            "Pass over definitions of built-in types and directives",
+            "Pass over further definitions of built-in types",
         ))?
         .arg(json_flag(alloc))?
         .arg(files(alloc, "files", "FILE", "The files of the schema"))

@@ -16,11 +16,12 @@ use std::alloc::{AllocError, Global};
 
 /// What the words behind the program's name ask for.
 ///
-/// `Help` comes only where the words call for help or for the version, and `Usage` only where they are a mistake, which it
-/// says in English with what may have been meant: a command or an argument that there isn't, one that is missing or given
-/// again, or standard input named more than once. `Memory` is out of memory. There is no other error.
+/// `Help` comes only where the words call for help or for the version, and `Usage` only where they are a
+/// mistake: a command or an argument that there isn't, one that is missing or given again, or standard input
+/// named more than once. `Memory` is out of memory. There is no other error.
 pub fn read_words<'w>(alloc: Global, words: &'w [&'w str]) -> Result<Request<'w>, WordsError>
-    ensures asked { IfOk result (λ request. asked (texts words.entry.now) ≡ Some (asked_of request)) }
+    ensures asked { IfOk result (λ request.
+        asked (texts words.entry.now) ≡ Some (asked_of request)) }
     ensures refused { IfErr result (IsRefusal (texts words.entry.now)) }
 {
     let mut command = peglinden(alloc)?;
@@ -40,9 +41,11 @@ pub fn read_words<'w>(alloc: Global, words: &'w [&'w str]) -> Result<Request<'w>
     Ok(request)
 }
 
-/// The request of the command of this name with what was found for its arguments. The error is out of memory.
+/// The request of the command of this name with what was found for its arguments. The error is out of
+/// memory.
 fn request<'w>(alloc: Global, name: &str, found: &ArgMatches<'w>) -> Result<Request<'w>, AllocError>
-    ensures { IfOk result (λ request. asked_of request ≡ asked_by name.now (rows_of (found_of found.now))) }
+    ensures { IfOk result (λ request.
+        asked_of request ≡ asked_by name.now (rows_of (found_of found.now))) }
 {
     match name {
         "schema" => Ok(Request::Schema {

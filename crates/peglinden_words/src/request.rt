@@ -2,14 +2,15 @@
 
 /// What the words of the command line ask for.
 ///
-/// A file is named as the words name it, and `-` is standard input. Files stand in the order of the words.
+/// A file is named as the words name it, and `-` is standard input, which is named at most once. Files stand
+/// in the order of the words.
 #[derive(Debug, Drop)]
 pub enum Request<'w> {
     /// `schema`: the schema of these files, at least one, as text.
     Schema {
-        /// `--adopt`: types with the names of root operations are taken as these where no schema definition says so.
+        /// `--adopt`: what has extensions and no definition is taken as defined.
         adopt: bool,
-        /// `--ignore-builtin`: definitions of built-in types and directives are passed over.
+        /// `--ignore-builtin`: further definitions of built-in types are passed over.
         ignore_builtin: bool,
         /// `--json`: faults go to standard output, one JSON object a line.
         json: bool,
@@ -34,8 +35,8 @@ pub enum Request<'w> {
         /// The files of the documents.
         documents: Vec<&'w str>,
     },
-    /// `fields`: the fields that each operation of these documents, at least one, reaches over their schema, of at least one
-    /// file.
+    /// `fields`: the fields that each operation of these documents, at least one, reaches over their
+    /// schema, of at least one file.
     Fields {
         /// `--json`: faults go to standard output, one JSON object a line.
         json: bool,

@@ -27,7 +27,8 @@ pub fn values<'w>(
     found: &ArgMatches<'w>,
     name: &str,
 ) -> Result<Vec<&'w str>, AllocError>
-    ensures { IfOk result (λ values. texts values.items ≡ values_of name.now (rows_of (found_of found.now))) }
+    ensures { IfOk result (λ values.
+        texts values.items ≡ values_of name.now (rows_of (found_of found.now))) }
 {
     let mut values = Vec::new(alloc);
     if let Some(given) = found.get_strs(name) {

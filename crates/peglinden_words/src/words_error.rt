@@ -9,7 +9,8 @@ use std::alloc::{AllocError, Global};
 /// Why the words of the command line ask for nothing.
 #[derive(Debug, Drop)]
 pub enum WordsError {
-    /// The words ask for help or for the version: a text for standard output, with status 0. It ends with a line end.
+    /// The words ask for help or for the version: a text for standard output, with status 0. It ends with a
+    /// line end.
     Help(String),
     /// The words are a mistake: a text for standard error, with status 2. It ends with a line end.
     Usage(String),

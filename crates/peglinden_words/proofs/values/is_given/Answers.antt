@@ -8,4 +8,5 @@ use Rattle.peglinden_words.proofs.values.is_given.Goals as goal
 pub returns : goal.returns
 returns c =
     c.eq.ensures
-    ∙ text_is _ (λ a b. refl) c.get_str.result _ _ (c.get_str.ensures ∙ first_value-rows (found_of c.args.found.now) c.args.name.now)
+    ∙ text_is _ (λ a b. refl) c.get_str.result _ _
+    (c.get_str.ensures ∙ first_value-rows (found_of c.args.found.now) c.args.name.now)

@@ -8,4 +8,5 @@ use Rattle.peglinden_words.proofs.values.value.Goals as goal
 pub returns : goal.returns
 returns c =
     ap (λ s. s.now) c.unwrap_or.ensures
-    ∙ text_or c.get_str.result _ _ (c.get_str.ensures ∙ first_value-rows (found_of c.args.found.now) c.args.name.now)
+    ∙ text_or c.get_str.result _ _
+    (c.get_str.ensures ∙ first_value-rows (found_of c.args.found.now) c.args.name.now)

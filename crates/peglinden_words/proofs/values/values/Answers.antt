@@ -10,11 +10,14 @@ use Rattle.peglinden_words.proofs.values.values.Goals.{in-Some+in_ok-extend_from
 
 pub returns : goal.returns
 returns c =
-    let given = texts_or c.get_strs.result _ (c.get_strs.ensures ∙ raw_values-rows (found_of c.args.found.now) c.args.name.now) in
+    let given = texts_or c.get_strs.result _
+    (c.get_strs.ensures ∙ raw_values-rows (found_of c.args.found.now) c.args.name.now) in
     elim c.match-get_strs.branch [
       | in-Some+in_ok-extend_from_slice w ↦
           ap (λ v. texts v.items) w.values-is
-          ∙ ap texts (w.in_ok-extend_from_slice.ensures.items ∙ ap (λ xs. xs ++ w.in-Some.given.now) c.new-values.ensures.items)
+          ∙ ap texts
+          (w.in_ok-extend_from_slice.ensures.items
+          ∙ ap (λ xs. xs ++ w.in-Some.given.now) c.new-values.ensures.items)
           ∙ ap (λ o. texts (unwrap_or (option_map (λ s. s.now) o) [])) (sym w.in-Some.is) ∙ given
       | in_default w ↦
           ap (λ v. texts v.items) w.values-is ∙ ap texts c.new-values.ensures.items
