@@ -11,7 +11,7 @@ use std::alloc::{AllocError, Global};
 
 /// What the help of `check` ends with.
 const CHECK_HELP: &str =
-    "It reports what building the schema and typing the documents find. It is not the validation \
+    "It reports what building the schema and typing the documents find. It is not the validation\n\
 of the GraphQL specification of October 2021, section 5.";
 
 /// `peglinden` with its commands.
@@ -38,7 +38,7 @@ pub fn peglinden<'w>(alloc: Global) -> Result<Command<'w>, AllocError>
     )?;
     let lookup = lookup_command(alloc)?;
     let format = format_command(alloc)?;
-    program(alloc)
+    program(alloc)?
         .subcommand(schema)?
         .subcommand(check)?
         .subcommand(typed)?
@@ -48,18 +48,19 @@ pub fn peglinden<'w>(alloc: Global) -> Result<Command<'w>, AllocError>
 }
 
 /// `peglinden` without its commands.
-fn program<'w>(alloc: Global) -> Command<'w>
-    ensures app { app_of result ≡ record { top = program; subs = [] } }
-    ensures local { (fields_of result).has_globals ≡ false }
+fn program<'w>(alloc: Global) -> Result<Command<'w>, AllocError>
+    ensures app { IfOk result (λ command. app_of command ≡ record { top = program; subs = [] }) }
+    ensures local { IfOk result (λ command. (fields_of command).has_globals ≡ false) }
 {
-    Command::new(alloc, "peglinden")
+    let command = Command::new(alloc, "peglinden")
         .version("0.1.0")
         .about(
             "Work on files of GraphQL text. The file `-` is standard input, and can be named once",
         )
         .no_binary_name(true)
         .subcommand_required(true)
-        .arg_required_else_help(true)
+        .arg_required_else_help(true);
+    command.bin_name("peglinden")
 }
 
 /// `schema`.

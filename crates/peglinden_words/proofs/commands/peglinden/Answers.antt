@@ -14,7 +14,7 @@ returns c =
       local = ap (λ f. f.has_globals) c.after_help-check.ensures ∙ c.in_ok-document_command.ensures.local;
     } in
     let schema = added c.in_ok-subcommand.ensures
-    (record { app = c.program.ensures.app; local = c.program.ensures.local })
+    (record { app = c.in_ok-program.ensures.app; local = c.in_ok-program.ensures.local })
     (record { shape = c.in_ok-schema.ensures.shape; local = c.in_ok-schema.ensures.local }) in
     let check = added c.in_ok-subcommand-2.ensures schema checked in
     let typed = added c.in_ok-subcommand-3.ensures check
