@@ -1,0 +1,3 @@
+pub mod CommandLemmas
+pub mod ReadingLemmas
+pub mod ValueLemmas

@@ -1,0 +1,74 @@
+-- The program and its commands: what each takes, as `clap` reads it.
+use Rattle.std.specs.Prelude.{true, false, List, [], ◌∷◌, Some, codes}
+use Rattle.clap.specs.Walk.{Rule, Text}
+use Rattle.clap.specs.Simple.{App, Shape, new_rule, new_shape}
+use Rattle.clap.specs.declared.builder.action.ArgAction.TheVariants.{Append, SetTrue}
+
+-- `--name`, at most once
+abbrev pub flag : Text → Rule
+flag name = record (new_rule name) { long = Some name; action = Some SetTrue }
+
+-- `--name` with a value, at least once
+abbrev pub repeated_option : Text → Rule
+repeated_option name = record (new_rule name) {
+  long = Some name;
+  action = Some Append;
+  value_names = 1;
+  required = true;
+}
+
+-- the other words, at least one
+abbrev pub other_words : Text → Rule
+other_words name =
+    record (new_rule name) { action = Some Append; value_names = 1; required = true }
+
+-- the next other word
+abbrev pub other_word : Text → Rule
+other_word name = record (new_rule name) { value_names = 1; required = true }
+
+-- a command and what it takes
+abbrev pub command : Text → List Rule → Shape
+command name rules = record (new_shape name) { rules = rules }
+
+-- `schema [--adopt] [--ignore-builtin] [--json] FILE..`
+abbrev pub schema_command : Shape
+schema_command = command (codes "schema")
+    (flag (codes "adopt")
+    ∷ flag (codes "ignore-builtin") ∷ flag (codes "json") ∷ other_words (codes "files") ∷ [])
+
+-- a command on documents: `--schema FILE .. [--json] DOCUMENT..`
+abbrev pub document_command : Text → Shape
+document_command name = command name
+    (repeated_option (codes "schema") ∷ flag (codes "json") ∷ other_words (codes "documents") ∷ [])
+
+-- `lookup COORDINATE FILE..`
+abbrev pub lookup_command : Shape
+lookup_command =
+    command (codes "lookup")
+    (other_word (codes "coordinate") ∷ other_words (codes "files") ∷ [])
+
+-- `format [--check] FILE..`
+abbrev pub format_command : Shape
+format_command =
+    command (codes "format") (flag (codes "check") ∷ other_words (codes "files") ∷ [])
+
+-- the program without its commands: its words begin behind its name, it has a version, and a
+-- command has to be named
+abbrev pub program : Shape
+program = record (new_shape (codes "peglinden")) {
+  no_binary_name = true;
+  has_version = true;
+  subcommand_required = true;
+  arg_required_else_help = true;
+}
+
+-- the program and its commands
+unfoldable pub peglinden : App
+peglinden = record {
+  top = record program { is_leaf = false };
+  subs = schema_command ∷ document_command (codes "check") ∷ document_command (codes "typed")
+      ∷ document_command (codes "fields")
+      ∷ lookup_command
+      ∷ format_command
+      ∷ [];
+}

@@ -1,0 +1,39 @@
+//! What some words ask for, by the definition that [`read_words`](crate::reading::read_words) states.
+ghost use Rattle.std.specs.Prelude.{◌≡◌, ◌∷◌, [], None, Some, codes, false, true};
+ghost use Rattle.peglinden_words.specs.Refusals.{are_mistaken, call_for_help};
+ghost use Rattle.peglinden_words.specs.Requests.{asked};
+ghost use Rattle.peglinden_words.specs.Requests.{check, fields, format, lookup, schema, typed};
+
+/// Words that ask for something: options stand anywhere, in either form, and behind `--` all words are files.
+pub fn worked_requests()
+    ensures schema { asked (codes "schema" ∷ codes "--adopt" ∷ codes "a" ∷ codes "-" ∷ [])
+        ≡ Some (schema true false false (codes "a" ∷ codes "-" ∷ [])) }
+    ensures check { asked (codes "check" ∷ codes "--schema" ∷ codes "s" ∷ codes "d"
+        ∷ codes "--schema=t" ∷ codes "--json" ∷ codes "--" ∷ codes "--e" ∷ [])
+        ≡ Some (check true (codes "s" ∷ codes "t" ∷ []) (codes "d" ∷ codes "--e" ∷ [])) }
+    ensures typed { asked (codes "typed" ∷ codes "d" ∷ codes "--schema=-" ∷ [])
+        ≡ Some (typed false (codes "-" ∷ []) (codes "d" ∷ [])) }
+    ensures fields { asked (codes "fields" ∷ codes "d" ∷ codes "e" ∷ codes "--schema=s" ∷ [])
+        ≡ Some (fields false (codes "s" ∷ []) (codes "d" ∷ codes "e" ∷ [])) }
+    ensures lookup { asked (codes "lookup" ∷ codes "A.b" ∷ codes "s" ∷ [])
+        ≡ Some (lookup (codes "A.b") (codes "s" ∷ [])) }
+    ensures format { asked (codes "format" ∷ codes "--check" ∷ codes "d" ∷ [])
+        ≡ Some (format true (codes "d" ∷ [])) }
+{}
+
+/// Words that ask for nothing: calls for help or for the version, and mistakes.
+pub fn worked_refusals()
+    ensures help { call_for_help (codes "--help" ∷ []) ≡ true }
+    ensures help_of_check { call_for_help (codes "check" ∷ codes "-h" ∷ []) ≡ true }
+    ensures version { call_for_help (codes "--version" ∷ []) ≡ true }
+    ensures nothing { are_mistaken [] ≡ true }
+    ensures no_file { are_mistaken (codes "format" ∷ []) ≡ true }
+    ensures no_schema { are_mistaken (codes "check" ∷ codes "d" ∷ []) ≡ true }
+    ensures no_document { are_mistaken (codes "check" ∷ codes "--schema" ∷ codes "s" ∷ []) ≡ true }
+    ensures no_command { are_mistaken (codes "chekc" ∷ codes "d" ∷ []) ≡ true }
+    ensures no_option { are_mistaken (codes "format" ∷ codes "--chekc" ∷ codes "d" ∷ []) ≡ true }
+    ensures twice { are_mistaken (codes "schema" ∷ codes "--json" ∷ codes "--json" ∷ codes "a" ∷ [])
+        ≡ true }
+    ensures input_twice { are_mistaken (codes "schema" ∷ codes "-" ∷ codes "-" ∷ []) ≡ true }
+    ensures none { asked (codes "schema" ∷ codes "-" ∷ codes "-" ∷ []) ≡ None }
+{}

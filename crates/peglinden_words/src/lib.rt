@@ -1,0 +1,11 @@
+//! The words of the command line of `peglinden`: what they ask for, and the texts of help and of mistakes.
+#![tactic(auto)]
+
+mod arguments;
+mod commands;
+mod input_names;
+pub mod laws;
+pub mod reading;
+pub mod request;
+mod values;
+pub mod words_error;

@@ -1,0 +1,62 @@
+//! What the words of the command line ask for.
+
+/// What the words of the command line ask for.
+///
+/// A file is named as the words name it, and `-` is standard input, which is named at most once. Files stand
+/// in the order of the words.
+#[derive(Debug, Drop)]
+pub enum Request<'w> {
+    /// `schema`: the schema of these files, at least one, as text.
+    Schema {
+        /// `--adopt`: what has extensions and no definition is taken as defined.
+        adopt: bool,
+        /// `--ignore-builtin`: further definitions of built-in types are passed over.
+        ignore_builtin: bool,
+        /// `--json`: faults go to standard output, one JSON object a line.
+        json: bool,
+        /// The files of the schema.
+        files: Vec<&'w str>,
+    },
+    /// `check`: the faults of these documents, at least one, and of their schema, of at least one file.
+    Check {
+        /// `--json`: faults go to standard output, one JSON object a line.
+        json: bool,
+        /// The files of the schema.
+        schema: Vec<&'w str>,
+        /// The files of the documents.
+        documents: Vec<&'w str>,
+    },
+    /// `typed`: these documents, at least one, typed over their schema, of at least one file, as text.
+    Typed {
+        /// `--json`: faults go to standard output, one JSON object a line.
+        json: bool,
+        /// The files of the schema.
+        schema: Vec<&'w str>,
+        /// The files of the documents.
+        documents: Vec<&'w str>,
+    },
+    /// `fields`: the fields that each operation of these documents, at least one, reaches over their
+    /// schema, of at least one file.
+    Fields {
+        /// `--json`: faults go to standard output, one JSON object a line.
+        json: bool,
+        /// The files of the schema.
+        schema: Vec<&'w str>,
+        /// The files of the documents.
+        documents: Vec<&'w str>,
+    },
+    /// `lookup`: what a schema coordinate points to in the schema of these files, at least one.
+    Lookup {
+        /// The text of the coordinate, as the words have it.
+        coordinate: &'w str,
+        /// The files of the schema.
+        files: Vec<&'w str>,
+    },
+    /// `format`: these files, at least one, in the layout of the printer.
+    Format {
+        /// `--check`: only the names of the files whose text differs.
+        check: bool,
+        /// The files.
+        files: Vec<&'w str>,
+    },
+}
