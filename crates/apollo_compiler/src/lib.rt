@@ -24,6 +24,8 @@ pub use crate::compiling::{compile, compile_with_keys};
 pub use crate::document_building::build_executable_document;
 pub use apollo_coordinate as coordinate;
 pub use apollo_executable::document::ExecutableDocument;
+pub use apollo_field_usage as usage;
+pub use apollo_reporting as report;
 pub use apollo_schema as schema;
 pub use apollo_schema::schema::Schema;
 pub use graphql_ast as ast;

@@ -1,14 +1,15 @@
 -- What reports say of leaf faults besides their sentences.
-use Rattle.std.specs.Prelude.{codes}
+use Rattle.std.specs.Prelude.{Some, codes}
 use Rattle.apollo_reporting.specs.Abouts.{AboutView, of_kind}
 use Rattle.leafcheck.specs.declared.leaf_fault.LeafFault.{LeafFault}
 use Rattle.leafcheck.specs.declared.leaf_fault.LeafKind.{LeafKind}
 use Rattle.leafcheck.specs.declared.leaf_fault.LeafKind.TheVariants.{MissingSubselection, SubselectionOnLeaf}
 
--- the name of the kind
+-- the name of the kind alone
 abbrev pub of_leaf_kind : LeafKind → AboutView
 of_leaf_kind SubselectionOnLeaf = of_kind (codes "SubselectionOnLeaf")
 of_leaf_kind MissingSubselection = of_kind (codes "MissingSubselection")
 
+-- the name of the kind, and the path
 abbrev pub leaf_fault_about : LeafFault → AboutView
-leaf_fault_about fault = of_leaf_kind fault.kind
+leaf_fault_about fault = record (of_leaf_kind fault.kind) { path = Some fault.path }
