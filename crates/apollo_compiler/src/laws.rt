@@ -87,6 +87,12 @@ pub use apollo_walks::laws as walks;
 // Typed documents: which fields stand in selections; `==` leaves out locations and sources, and each clone is the original.
 pub use apollo_executable::laws as executable;
 
+// Counts of the fields that an operation reaches: they are those of the walk over all fields, each once.
+pub use apollo_field_usage::laws as usage;
+
+// Reports: worked excerpts of texts, computed.
+pub use apollo_reporting::laws as report;
+
 // Untyped selections made into typed ones: a typed set is exactly what is typable, and each type in it is right.
 pub use apollo_elaboration::laws as elaboration;
 
