@@ -18,8 +18,8 @@ pub enum LeafKind {
 
 /// A field that is at fault. `Display` is a message with the key.
 ///
-/// Faults are equal where their locations are, the texts of their names, and their kinds. A clone is the original, with the
-/// locations of its names; its error is want of memory.
+/// Faults are equal where their locations are, the texts of their names, and their kinds. A clone is the original,
+/// with the locations of its names; its error is out of memory.
 #[derive(Debug, Clone, PartialEq, Eq, Error)]
 #[error("`{response_key}`: {kind}")]
 pub struct LeafFault {
@@ -29,8 +29,8 @@ pub struct LeafFault {
     pub parent_type: NamedType,
     /// The key of the field in a response: its alias, or else its name (section 2.7).
     pub response_key: Name,
-    /// The operation or fragment that the field stands in, by its own name, and the response keys of the fields around it, its
-    /// own key last.
+    /// The operation or fragment that the field stands in, by its own name, and the response keys of the fields
+    /// around it, its own key last.
     pub path: SelectionPath,
     pub kind: LeafKind,
 }
