@@ -18,3 +18,5 @@ mod making;
 mod rebuilt;
 #[cfg(test)]
 mod texts;
+#[cfg(test)]
+mod usages;
