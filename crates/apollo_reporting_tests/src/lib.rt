@@ -1,0 +1,11 @@
+//! Tests of reports: what comes of texts with faults.
+#![tactic(auto)]
+
+#[cfg(test)]
+mod documents;
+#[cfg(test)]
+mod made;
+#[cfg(test)]
+mod rows;
+#[cfg(test)]
+mod schemas;
