@@ -4,6 +4,8 @@
 #[cfg(test)]
 mod documents;
 #[cfg(test)]
+mod leaves;
+#[cfg(test)]
 mod made;
 #[cfg(test)]
 mod rows;

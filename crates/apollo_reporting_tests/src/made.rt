@@ -3,14 +3,17 @@
 use apollo_compiler::schema::Schema;
 use apollo_compiler::text::{ParseOptions, parse_document};
 use apollo_compiler::{
-    CompileOptions, Document, FileId, HashKeys, SourceFile, SourceMap, SourceSpan,
-    build_executable_document, build_schema,
+    CompileOptions, Document, ExecutableDocument, FileId, HashKeys, SourceFile, SourceMap,
+    SourceSpan, build_executable_document, build_schema,
 };
+use apollo_meaning::build_error::BuildError;
+use apollo_reporting::detail::Detail;
 use apollo_reporting::fault_json::to_json;
 use apollo_reporting::report::report;
 use apollo_reporting::reported::Reported;
 use graphql_nodes::collections::shared::Shared;
 use graphql_nodes::collections::table::Table;
+use leafcheck::{LeafFault, leaf_faults};
 use std::alloc::{AllocError, Global};
 use std::slice;
 
@@ -109,6 +112,46 @@ fn store(alloc: Global) -> Option<Schema> {
     let documents = slice::from_ref(&document);
     let (schema, _faults) = build_schema(alloc, HashKeys::FIXED, PLAIN, documents).ok()?;
     Some(schema)
+}
+
+/// The leaf faults of a document over the schema of [`STORE`], with the document.
+fn leaves(alloc: Global, text: &str) -> Option<(ExecutableDocument, Vec<LeafFault>)> {
+    let schema = store(alloc)?;
+    let document = read(alloc, FileId(2), "page.graphql", text)?;
+    let documents = slice::from_ref(&document);
+    let (typed, _faults) = build_executable_document(alloc, &schema, documents, true).ok()?;
+    let faults = leaf_faults(alloc, &schema, &typed).ok()?;
+    Some((typed, faults))
+}
+
+/// What is told of the leaf faults of a document over the schema of [`STORE`].
+pub fn told_of_leaves(alloc: Global, form: Form, text: &str) -> Option<String> {
+    let (typed, faults) = leaves(alloc, text)?;
+    let mut told = String::new(alloc);
+    for fault in &faults {
+        push_fault(
+            alloc,
+            &mut told,
+            form,
+            &typed.sources,
+            fault.location,
+            fault,
+        )
+        .ok()?;
+    }
+    Some(told)
+}
+
+/// How many details the first leaf fault of a document has, and how many an error of a build and a detail of no text.
+pub fn counts(alloc: Global, text: &str) -> Option<[usize; 2]> {
+    let (_typed, faults) = leaves(alloc, text)?;
+    let first: &LeafFault = faults.first()?;
+    let error = BuildError::BuiltInScalarTypeRedefinition;
+    let none = vec![in alloc; Detail::optional_text(alloc, "name", None).ok()?].ok()?;
+    Some([
+        first.details(alloc).ok()?.len(),
+        error.details(alloc).ok()?.len() + none.len(),
+    ])
 }
 
 /// What is told of the faults of a document over the schema of [`STORE`].
