@@ -1,7 +1,6 @@
 -- Files by their paths, and what keeps one from being read.
-use Rattle.std.specs.Prelude.{ℕ, Bool, true, false, List, [], ◌∷◌, Option, None, Some, Result, Ok, Err, Vec, IfSome, IsUtf8, codes, nat_eq, if◌then◌else◌}
+use Rattle.std.specs.Prelude.{ℕ, Bool, true, false, List, [], ◌∷◌, Option, None, Some, IfSome, IsUtf8, codes, nat_eq, if◌then◌else◌}
 use Rattle.std.specs.Borrow.{Bor}
-use Rattle.std.specs.declared.alloc.Global.{Global}
 use Rattle.std.specs.Cmp.Lexicographic.{pointwise}
 use Rattle.peglinden_files.specs.declared.files.FileError.{FileError}
 use Rattle.peglinden_files.specs.declared.files.FileError.TheVariants as errors
@@ -20,21 +19,20 @@ IsFileCause held may_fail errors.Memory = Unit {0}
 abbrev pub is_input : List ℕ → Bool
 is_input path = pointwise nat_eq path (codes "-")
 
--- the bytes that were read of standard input, if it was read
-abbrev pub input_bytes : Result (Vec ℕ Global) FileError → Option (List ℕ)
-input_bytes (Ok bytes) = Some bytes.items
-input_bytes (Err error) = None
-
 -- the bytes of the first of these files that has the path, if one has
 abbrev pub bytes_at : List (Bor (List ℕ) × Bor (List ℕ)) → List ℕ → Option (List ℕ)
 bytes_at [] path = None
 bytes_at (file ∷ files) path = if pointwise nat_eq file.0.now path then Some file.1.now else bytes_at files path
 
 -- the bytes under a path, where standard input holds `input` and each file what `files` says
-abbrev pub with_input : Option (List ℕ) → (List ℕ → Option (List ℕ)) → List ℕ → Option (List ℕ)
-with_input input files path = if is_input path then input else files path
+abbrev pub with_input : List ℕ → (List ℕ → Option (List ℕ)) → List ℕ → Option (List ℕ)
+with_input input files path = if is_input path then Some input else files path
 
--- reading a path may fail for this: standard input for `input`, and any other for what `files` says
-abbrev pub MayFailAt : Bool → Type 0 → Type 0 → Type 0
-MayFailAt true input file = input
-MayFailAt false input file = file
+-- this holds of what isn't standard input
+abbrev pub UnlessInput : Bool → Type 0 → Type 0
+UnlessInput true P = ⊥
+UnlessInput false P = P
+
+-- reading a path may fail for what `files` says, but standard input is at hand
+abbrev pub may_fail_with_input : (List ℕ → Type 0) → List ℕ → Type 0
+may_fail_with_input files path = UnlessInput (is_input path) (files path)

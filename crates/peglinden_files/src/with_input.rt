@@ -12,11 +12,10 @@ pub fn is_input(path: &str) -> bool
     path == "-"
 }
 
-/// Files, and what was read of standard input, which has the path `-`.
+/// Files, and all bytes of standard input, which has the path `-`.
 pub struct WithInput<'a, F> {
     pub files: &'a F,
-    /// All bytes of standard input, or why there are none.
-    pub input: Result<Vec<u8>, FileError>,
+    pub input: Vec<u8>,
 }
 
 impl<F> Drop for WithInput<'_, F> {
@@ -26,20 +25,17 @@ impl<F> Drop for WithInput<'_, F> {
 }
 
 impl<F: Files> Files for WithInput<'_, F> {
-    ghost use Rattle.std.specs.Prelude.{IsErr};
-    ghost use Rattle.peglinden_files.specs.Files.{MayFailAt, input_bytes, is_input, with_input};
+    ghost use Rattle.peglinden_files.specs.Files.{may_fail_with_input, with_input};
 
-    ghost holds = { λ it. with_input (input_bytes it.input) (F.holds it.files.now) };
+    ghost holds = { λ it. with_input it.input.items (F.holds it.files.now) };
 
-    ghost may_fail = { λ it path. MayFailAt (is_input path) (IsErr it.input) (F.may_fail it.files.now path) };
+    ghost may_fail = { λ it. may_fail_with_input (F.may_fail it.files.now) };
 
     fn read(&self, alloc: Global, path: &str) -> Result<String, FileError> {
-        if !is_input(path) {
-            return self.files.read(alloc, path);
-        }
-        match &self.input {
-            Ok(bytes) => text_of_copy(alloc, bytes.as_slice()),
-            Err(error) => Err(*error),
+        if is_input(path) {
+            text_of_copy(alloc, self.input.as_slice())
+        } else {
+            self.files.read(alloc, path)
         }
     }
 }
