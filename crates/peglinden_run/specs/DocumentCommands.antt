@@ -6,6 +6,7 @@ use Rattle.peglinden_run.specs.declared.document_commands.Shown.{Shown}
 use Rattle.peglinden_run.specs.declared.document_commands.Shown.TheVariants as shown
 use Rattle.peglinden_run.specs.declared.typed_documents.TypedDocument.{TypedDocument}
 use Rattle.peglinden_run.specs.Ended.{ended}
+use Rattle.peglinden_run.specs.FieldsCommand.{fields_text}
 use Rattle.peglinden_run.specs.Findings.{IsShown, any_fault}
 use Rattle.peglinden_run.specs.TypedDocuments.{IsTyped}
 
@@ -13,6 +14,7 @@ use Rattle.peglinden_run.specs.TypedDocuments.{IsTyped}
 abbrev pub output_of : Shown → ExecutableDocument → List ℕ
 output_of shown.Nothing document = []
 output_of shown.WriteOut document = ended (erased_document document).definitions
+output_of shown.Fields document = fields_text document
 
 -- the text is what the command writes of the typed document of files over the schema of files, where `held` is the bytes under each
 -- path, if they are known; or with the flag it is what JSON says of all faults

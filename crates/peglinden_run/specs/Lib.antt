@@ -1,6 +1,7 @@
 pub mod DocumentCommands
 pub mod Documents
 pub mod Ended
+pub mod FieldsCommand
 pub mod Findings
 pub mod FormatCommand
 pub mod LookedUp

@@ -1,11 +1,15 @@
 -- How a run ends.
-use Rattle.std.specs.Prelude.{◌≡◌, ◌⊎◌, ℕ, Bool, true, false, List, Option, IfSome}
+use Rattle.std.specs.Prelude.{◌≡◌, ◌⊎◌, ℕ, Bool, true, false, List, Option, None, Some, IfSome}
 use Rattle.std.specs.Io.KnownBytes.{Appends}
 use Rattle.peglinden_files.specs.Files.{may_fail_with_input, with_input}
+use Rattle.clap.specs.Walk.{Text}
+use Rattle.peglinden_words.specs.Refusals.{are_mistaken, call_for_help}
+use Rattle.peglinden_words.specs.Requests.{asked, asked_of}
 use Rattle.peglinden_words.specs.declared.request.Request.{Request}
 use Rattle.peglinden_run.specs.declared.failure.Failure.{Failure}
 use Rattle.peglinden_run.specs.declared.status.Status.{Status}
 use Rattle.peglinden_run.specs.declared.status.Status.TheVariants as s
+use Rattle.peglinden_run.specs.Naming.{names_input}
 use Rattle.peglinden_run.specs.Requests.{IsAnswerTo, IsCauseTo}
 use Rattle.peglinden_run.specs.Status.{status_of}
 
@@ -66,3 +70,19 @@ pub record IsRunOf {R O E : Type 0} (request : Request) (named : Bool) (remainin
   pub unanswered : IsUnanswered status → output_after ≡ output
   -- where nothing is at fault, nothing is reported
   pub quiet : status ≡ s.Done → errors_after ≡ errors
+
+-- a run on words that ask for nothing may end so: they call for help or for the version, and a text is appended, or isn't written; or
+-- they are a mistake; that memory ran out says nothing of them
+abbrev pub IsUnasked : List Text → Option (List ℕ) → Option (List ℕ) → Status → Type 0
+IsUnasked words old new s.Done = (asked words ≡ None) × (call_for_help words ≡ true) × ((text : List ℕ) × Appends old new text)
+IsUnasked words old new s.Faults = ⊥
+IsUnasked words old new s.Refused = (asked words ≡ None) × (are_mistaken words ≡ true)
+IsUnasked words old new s.Exhausted = Unit {0}
+IsUnasked words old new s.NotWritten = (asked words ≡ None) × (call_for_help words ≡ true)
+
+-- a run on words that ended so: it is the run on the request that they make, or they ask for nothing, and standard input is left as
+-- it was
+abbrev pub IsRunOn : {R O E : Type 0} → List Text → Option (List ℕ) → (List ℕ → Option (List ℕ)) → (List ℕ → Type 0) → (O → Option (List ℕ)) → R → R → O → O → E → E → Status → Type 0
+IsRunOn words remaining held may_fail contents reader reader_after output output_after errors errors_after status =
+    ((request : Request) × ((asked words ≡ Some (asked_of request)) × IsRunOf request (names_input request) remaining held may_fail contents reader reader_after output output_after errors errors_after status))
+    ⊎ (IsUnasked words (contents output) (contents output_after) status × (reader_after ≡ reader))

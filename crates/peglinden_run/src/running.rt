@@ -1,8 +1,9 @@
 //! The run of the program.
 ghost use Rattle.std.specs.Prelude.{◌≡◌, false, OnOk, string_bytes};
 ghost use Rattle.std.specs.Io.KnownBytes.{Appends};
+ghost use Rattle.clap.specs.Walk.{texts};
 ghost use Rattle.peglinden_run.specs.Naming.{names_input};
-ghost use Rattle.peglinden_run.specs.Runs.{IsRunOf, IsUnanswered, IsWritten, MayEnd};
+ghost use Rattle.peglinden_run.specs.Runs.{IsRunOf, IsRunOn, IsUnanswered, IsWritten, MayEnd};
 ghost use Rattle.peglinden_run.specs.Status.{status_of};
 
 use crate::answer::Answer;
@@ -41,6 +42,7 @@ pub fn run<F: Files, R: Read, O: Write, E: Write>(
     output: &mut O,
     errors: &mut E,
 ) -> Status
+    ensures run { IsRunOn (texts words.now) (R.remaining reader.old) (F.holds files.now) (F.may_fail files.now) O.contents reader.old reader.new output.old output.new errors.old errors.new result }
     ensures unanswered { IsUnanswered result → output.new ≡ output.old }
     ensures quiet { result ≡ Status.Done → errors.new ≡ errors.old }
 {
