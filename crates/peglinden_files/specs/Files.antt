@@ -9,7 +9,8 @@ use Rattle.peglinden_files.specs.declared.files.FileError.TheVariants as errors
 abbrev pub IsNoText : List ℕ → Type 0
 IsNoText bytes = ¬ IsUtf8 bytes
 
--- why a file is not read that holds these bytes, if they are known, and may fail for this; that memory ran out says nothing of it
+-- why a file is not read that holds these bytes, if they are known, and may fail for this; that memory
+-- ran out says nothing of it
 abbrev pub IsFileCause : Option (List ℕ) → Type 0 → FileError → Type 0
 IsFileCause held may_fail (errors.CannotRead error) = may_fail
 IsFileCause held may_fail errors.NotText = IfSome held IsNoText

@@ -1,4 +1,5 @@
--- What the commands on documents over a schema answer: GraphQL specification of October 2021, sections 2.2 to 2.8.
+-- What the commands on documents over a schema answer: GraphQL specification of October 2021, sections
+-- 2.2 to 2.8.
 use Rattle.std.specs.Prelude.{◌≡◌, ℕ, Bool, List, [], Option}
 use Rattle.apollo_executable.specs.Erasure.{erased_document}
 use Rattle.apollo_executable.specs.declared.document.ExecutableDocument.{ExecutableDocument}
@@ -16,8 +17,9 @@ output_of shown.Nothing document = []
 output_of shown.WriteOut document = ended (erased_document document).definitions
 output_of shown.Fields document = fields_text document
 
--- the text is what the command writes of the typed document of files over the schema of files, where `held` is the bytes under each
--- path, if they are known; or with the flag it is what JSON says of all faults
+-- the text is what the command writes of the typed document of files over the schema of files, where
+-- `held` is the bytes under each path, if they are known; or with the flag it is what JSON says of all
+-- faults
 pub record IsDocumentAnswer (held : List ℕ → Option (List ℕ)) (what : Shown) (json : Bool) (schema_paths document_paths : List (List ℕ)) (text : List ℕ) (has_faults : Bool) : Type 0 where
   pub typed : TypedDocument
   pub is : IsTyped held schema_paths document_paths typed

@@ -7,7 +7,8 @@ use Rattle.graphql_ast.specs.declared.document.Document.{Document}
 use Rattle.graphql_grammar.specs.WordsOfText.{words_of}
 use Rattle.graphql_productions.specs.Documents.{spells_document}
 
--- In all of this `held` is the bytes under each path, if they are known, and reading a path may fail for `may_fail`.
+-- In all of this `held` is the bytes under each path, if they are known, and reading a path may fail for
+-- `may_fail`.
 
 -- the texts of words
 abbrev pub texts_of : List (Bor (List ℕ)) → List (List ℕ)
@@ -17,7 +18,8 @@ texts_of words = map (λ word. word.now) words
 abbrev pub file : ℕ → FileId
 file number = record { 0 = number }
 
--- the text spells these definitions, at locations in the file of this number, with at most 200 signs open at once
+-- the text spells these definitions, at locations in the file of this number, with at most 200 signs open
+-- at once
 abbrev pub Spells : ℕ → List ℕ → List Definition → Type 0
 Spells number text definitions = spells_document (file number) 200 definitions (words_of 18446744073709551615 text)
 

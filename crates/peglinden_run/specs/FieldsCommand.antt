@@ -25,7 +25,8 @@ operation_line operation = operation_text operation.operation_type ++ name_behin
 abbrev pub usage_line : FieldUsage → List ℕ
 usage_line field = codes "  " ++ attribute_coordinate_text field.coordinate ++ codes " " ++ decimal field.count ++ codes "\n"
 
--- the lines of an operation: that which names it, and those of the fields that it reaches, in order of first reach
+-- the lines of an operation: that which names it, and those of the fields that it reaches, in order of
+-- first reach
 abbrev pub operation_fields : ExecutableDocument → Operation → List ℕ
 operation_fields document operation = operation_line operation ++ flat_map usage_line (usage (reached document operation.selection_set))
 

@@ -20,12 +20,14 @@ name_unless text (file ∷ files) = if pointwise nat_eq text file.1.text then []
 abbrev pub changed_line : Document → List ℕ
 changed_line document = name_unless (formatted document) document.sources
 
--- what is written of documents: their texts in our layout, or with the flag the names of those whose text differs
+-- what is written of documents: their texts in our layout, or with the flag the names of those whose text
+-- differs
 abbrev pub shown_of : Bool → List Document → List ℕ
 shown_of false documents = flat_map formatted documents
 shown_of true documents = flat_map changed_line documents
 
--- the text is that of the documents of these files; something is at fault where the flag is set and a name is written
+-- the text is that of the documents of these files; something is at fault where the flag is set and a
+-- name is written
 pub record IsFormatAnswer (held : List ℕ → Option (List ℕ)) (check : Bool) (paths : List (List ℕ)) (text : List ℕ) (has_faults : Bool) : Type 0 where
   -- the documents of the files
   pub documents : List Document

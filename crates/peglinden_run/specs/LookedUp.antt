@@ -1,5 +1,6 @@
--- Definitions that coordinates point to: Schema Coordinates RFC, and GraphQL specification of October 2021, section 3.
-use Rattle.std.specs.Prelude.{Bool, false, List, [], ◌∷◌, Option, None, is_some, if◌then◌else◌}
+-- Definitions that coordinates point to: Schema Coordinates RFC, and GraphQL specification of October
+-- 2021, section 3.
+use Rattle.std.specs.Prelude.{List, [], ◌∷◌, Option, None, is_some, if◌then◌else◌}
 use Rattle.std.specs.Option.{option_map_or}
 use Rattle.graphql_nodes.specs.NameView.{NameView}
 use Rattle.graphql_nodes.specs.NodeView.{NodeView}
@@ -44,7 +45,8 @@ no_directives = record { 0 = [] }
 abbrev pub made : {A : Type 0} → A → NodeView A
 made value = record { value = value; location = None }
 
--- the type of this name with this field alone: an interface where the schema has it as one, and else an object type
+-- the type of this name with this field alone: an interface where the schema has it as one, and else an
+-- object type
 abbrev pub field_in : Schema → NameView → NodeView FieldDefinition → Definition
 field_in schema name field =
     if is_some (interface_node (type_at schema.types name))

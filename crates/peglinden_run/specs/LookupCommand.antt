@@ -1,4 +1,5 @@
--- What the command `lookup` answers: Schema Coordinates RFC, and GraphQL specification of October 2021, section 3.
+-- What the command `lookup` answers: Schema Coordinates RFC, and GraphQL specification of October 2021,
+-- section 3.
 use Rattle.std.specs.Prelude.{◌≡◌, ◌++◌, ◌==◌, if◌then◌else◌, ℕ, Bool, true, false, not, ◌||◌, List, [], Option, None, Some, codes}
 use Rattle.graphql_nodes.specs.PlaceTexts.{place_text}
 use Rattle.graphql_nodes.specs.Sources.{Files}
@@ -27,13 +28,14 @@ place_comment files None = codes "# built-in\n"
 abbrev pub found_text : Schema → SchemaCoordinate → SchemaCoordinateLookup → List ℕ
 found_text schema coordinate found = place_comment schema.sources (found_location found) ++ ended (found_definitions schema coordinate found)
 
--- whether the coordinate points to something: then the text is what is written of that, and else it is empty
+-- whether the coordinate points to something: then the text is what is written of that, and else it is
+-- empty
 abbrev pub IsFinding : Schema → SchemaCoordinate → Bool → List ℕ → Type 0
 IsFinding schema coordinate true text = (found : SchemaCoordinateLookup) × (PointsTo schema coordinate found × (text ≡ found_text schema coordinate found))
 IsFinding schema coordinate false text = (error : SchemaLookupError) × (PointsToNothing schema coordinate error × (text ≡ []))
 
--- the text is the answer to the coordinate that a text says and to files, where `held` is the bytes under each path, if they are
--- known
+-- the text is the answer to the coordinate that a text says and to files, where `held` is the bytes under
+-- each path, if they are known
 pub record IsLookupAnswer (held : List ℕ → Option (List ℕ)) (coordinate_text : List ℕ) (paths : List (List ℕ)) (text : List ℕ) (has_faults : Bool) : Type 0 where
   pub coordinate : SchemaCoordinate
   pub says : SaysCoordinate coordinate_text coordinate

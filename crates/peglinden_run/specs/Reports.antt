@@ -1,5 +1,5 @@
 -- What is written of faults.
-use Rattle.std.specs.Prelude.{◌≡◌, ◌++◌, ◌==◌, ℕ, List, [], ◌∷◌, codes}
+use Rattle.std.specs.Prelude.{◌≡◌, ◌++◌, ℕ, List, [], ◌∷◌, codes}
 
 -- a line of JSON, which says this of a fault
 abbrev pub json_line : List ℕ → List ℕ

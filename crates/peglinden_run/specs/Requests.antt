@@ -12,7 +12,8 @@ use Rattle.peglinden_run.specs.SchemaCommand.{IsSchemaAnswer, IsSchemaCause}
 use Rattle.peglinden_run.specs.Status.{IsFilesCause}
 use Rattle.peglinden_run.specs.TypedDocuments.{IsTypedCause}
 
--- In all of this `held` is the bytes under each path, if they are known, and reading a path may fail for `may_fail`.
+-- In all of this `held` is the bytes under each path, if they are known, and reading a path may fail for
+-- `may_fail`.
 
 -- the text is the answer to the request, with something at fault or not
 abbrev pub IsAnswerTo : Request → (List ℕ → Option (List ℕ)) → List ℕ → Bool → Type 0

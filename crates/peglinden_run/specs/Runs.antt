@@ -13,8 +13,9 @@ use Rattle.peglinden_run.specs.Naming.{names_input}
 use Rattle.peglinden_run.specs.Requests.{IsAnswerTo, IsCauseTo}
 use Rattle.peglinden_run.specs.Status.{status_of}
 
--- In all of this `held` is the bytes under each path, if they are known, and reading a path may fail for `may_fail`; `old` is what
--- stood on standard output before, and `new` what stands there now, if these bytes are known.
+-- In all of this `held` is the bytes under each path, if they are known, and reading a path may fail for
+-- `may_fail`; `old` is what stood on standard output before, and `new` what stands there now, if these
+-- bytes are known.
 
 -- the run has no answer
 abbrev pub IsUnanswered : Status → Type 0
@@ -22,8 +23,8 @@ IsUnanswered s.Refused = Unit {0}
 IsUnanswered s.Exhausted = Unit {0}
 IsUnanswered _ = ⊥
 
--- a run that has its whole output ends so: it is appended, and whether something is at fault decides; or the writer failed, or its
--- flush did
+-- a run that has its whole output ends so: it is appended, and whether something is at fault decides; or
+-- the writer failed, or its flush did
 abbrev pub IsWritten : List ℕ → Bool → Option (List ℕ) → Option (List ℕ) → Status → Type 0
 IsWritten text has_faults old new s.Done = (has_faults ≡ false) × Appends old new text
 IsWritten text has_faults old new s.Faults = (has_faults ≡ true) × Appends old new text
@@ -42,8 +43,8 @@ HasAnswer request held = (text : List ℕ) × ((has_faults : Bool) × IsAnswerTo
 abbrev pub HasCause : Request → (List ℕ → Option (List ℕ)) → (List ℕ → Type 0) → Status → Type 0
 HasCause request held may_fail status = (failure : Failure) × ((status_of failure ≡ status) × IsCauseTo request held may_fail failure)
 
--- a run on the request over these files may end so: its answer is appended, or isn't written, or there is a cause for which it has
--- none
+-- a run on the request over these files may end so: its answer is appended, or isn't written, or there is
+-- a cause for which it has none
 abbrev pub MayEnd : Request → (List ℕ → Option (List ℕ)) → (List ℕ → Type 0) → Option (List ℕ) → Option (List ℕ) → Status → Type 0
 MayEnd request held may_fail old new s.Done = AppendsAnswer request held false old new
 MayEnd request held may_fail old new s.Faults = AppendsAnswer request held true old new
@@ -51,7 +52,8 @@ MayEnd request held may_fail old new s.Refused = HasCause request held may_fail 
 MayEnd request held may_fail old new s.Exhausted = HasCause request held may_fail s.Exhausted
 MayEnd request held may_fail old new s.NotWritten = HasAnswer request held
 
--- standard input held these bytes, which are the known ones, and a run over the files and them may end so; or reading it failed
+-- standard input held these bytes, which are the known ones, and a run over the files and them may end
+-- so; or reading it failed
 abbrev pub MayEndWithInput : Request → Option (List ℕ) → (List ℕ → Option (List ℕ)) → (List ℕ → Type 0) → Option (List ℕ) → Option (List ℕ) → Status → Type 0
 MayEndWithInput request remaining held may_fail old new status =
     ((input : List ℕ) × (IfSome remaining (λ bytes. input ≡ bytes) × MayEnd request (with_input input held) (may_fail_with_input may_fail) old new status)) ⊎ IsUnanswered status
@@ -61,8 +63,8 @@ abbrev pub EndsAs : {R : Type 0} → Bool → Request → Option (List ℕ) → 
 EndsAs false request remaining held may_fail reader reader_after old new status = MayEnd request held may_fail old new status × (reader_after ≡ reader)
 EndsAs true request remaining held may_fail reader reader_after old new status = MayEndWithInput request remaining held may_fail old new status
 
--- a run on the request that ended so, where a reader has this left, if it is known, with its reader and its writers before it and
--- after it
+-- a run on the request that ended so, where a reader has this left, if it is known, with its reader and
+-- its writers before it and after it
 pub record IsRunOf {R O E : Type 0} (request : Request) (named : Bool) (remaining : Option (List ℕ)) (held : List ℕ → Option (List ℕ)) (may_fail : List ℕ → Type 0) (contents : O → Option (List ℕ)) (reader reader_after : R) (output output_after : O) (errors errors_after : E) (status : Status) : Type 0 where
   -- what it wrote, and how it ended, is as it may be
   pub ends : EndsAs named request remaining held may_fail reader reader_after (contents output) (contents output_after) status
@@ -71,8 +73,8 @@ pub record IsRunOf {R O E : Type 0} (request : Request) (named : Bool) (remainin
   -- where nothing is at fault, nothing is reported
   pub quiet : status ≡ s.Done → errors_after ≡ errors
 
--- a run on words that ask for nothing may end so: they call for help or for the version, and a text is appended, or isn't written; or
--- they are a mistake; that memory ran out says nothing of them
+-- a run on words that ask for nothing may end so: they call for help or for the version, and a text is
+-- appended, or isn't written; or they are a mistake; that memory ran out says nothing of them
 abbrev pub IsUnasked : List Text → Option (List ℕ) → Option (List ℕ) → Status → Type 0
 IsUnasked words old new s.Done = (asked words ≡ None) × (call_for_help words ≡ true) × ((text : List ℕ) × Appends old new text)
 IsUnasked words old new s.Faults = ⊥
@@ -80,8 +82,8 @@ IsUnasked words old new s.Refused = (asked words ≡ None) × (are_mistaken word
 IsUnasked words old new s.Exhausted = Unit {0}
 IsUnasked words old new s.NotWritten = (asked words ≡ None) × (call_for_help words ≡ true)
 
--- a run on words that ended so: it is the run on the request that they make, or they ask for nothing, and standard input is left as
--- it was
+-- a run on words that ended so: it is the run on the request that they make, or they ask for nothing, and
+-- standard input is left as it was
 abbrev pub IsRunOn : {R O E : Type 0} → List Text → Option (List ℕ) → (List ℕ → Option (List ℕ)) → (List ℕ → Type 0) → (O → Option (List ℕ)) → R → R → O → O → E → E → Status → Type 0
 IsRunOn words remaining held may_fail contents reader reader_after output output_after errors errors_after status =
     ((request : Request) × ((asked words ≡ Some (asked_of request)) × IsRunOf request (names_input request) remaining held may_fail contents reader reader_after output output_after errors errors_after status))

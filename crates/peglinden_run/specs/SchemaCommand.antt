@@ -15,9 +15,11 @@ use Rattle.peglinden_run.specs.Documents.{AreDocumentsAt, HasRefusedFile}
 use Rattle.peglinden_run.specs.Ended.{ended}
 use Rattle.peglinden_run.specs.Findings.{IsShown, any_fault}
 
--- In all of this `held` is the bytes under each path, if they are known, and reading a path may fail for `may_fail`.
+-- In all of this `held` is the bytes under each path, if they are known, and reading a path may fail for
+-- `may_fail`.
 
--- the schema and its faults are what the files of these paths mean with these options, its extensions numbered from 0
+-- the schema and its faults are what the files of these paths mean with these options, its extensions
+-- numbered from 0
 pub record IsSchemaOf (held : List ℕ → Option (List ℕ)) (options : CompileOptions) (paths : List (List ℕ)) (schema : Schema) (faults : List Fault) : Type 0 where
   -- the documents of the files
   pub documents : List Document
@@ -34,7 +36,8 @@ pub record IsSchemaAnswer (held : List ℕ → Option (List ℕ)) (options : Com
   pub shows : IsShown json faults [] [] (ended (write_schema schema)) text
   pub any : has_faults ≡ any_fault faults [] []
 
--- why there is no such answer: a file is refused, or the extensions spend the numbers; that memory ran out says nothing of the files
+-- why there is no such answer: a file is refused, or the extensions spend the numbers; that memory ran
+-- out says nothing of the files
 abbrev pub IsSchemaCause : (List ℕ → Option (List ℕ)) → (List ℕ → Type 0) → CompileOptions → List (List ℕ) → Failure → Type 0
 IsSchemaCause held may_fail options paths (failures.Files reports) = HasRefusedFile held may_fail 1 paths
 IsSchemaCause held may_fail options paths failures.Memory = Unit {0}

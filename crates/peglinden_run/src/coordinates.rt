@@ -8,7 +8,8 @@ use apollo_coordinate::coordinates::SchemaCoordinate;
 use apollo_coordinate::parse_error::SchemaCoordinateParseError;
 use std::alloc::{AllocError, Global};
 
-/// The coordinate of a text. `NoCoordinate` comes for a text of none, and `Memory` where memory ran out. There is no other error.
+/// The coordinate of a text. `NoCoordinate` comes for a text of none, and `Memory` where memory ran out.
+/// There is no other error.
 pub(crate) fn read_coordinate(alloc: Global, text: &str) -> Result<SchemaCoordinate, Failure>
     ensures says { IfOk result (SaysCoordinate text.now) }
     ensures causes { IfErr result (IsCoordinateCause text.now) }

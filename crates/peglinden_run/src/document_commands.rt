@@ -25,8 +25,8 @@ pub enum Shown {
     Fields,
 }
 
-/// The answer of a command on documents over a schema: what it shows of the typed document, or with `json` the JSON of all faults
-/// in place of that.
+/// The answer of a command on documents over a schema: what it shows of the typed document, or with
+/// `json` the JSON of all faults in place of that.
 ///
 /// The errors are those of [`type_documents`].
 pub(crate) fn document_answer<F: Files>(

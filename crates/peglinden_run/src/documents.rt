@@ -15,8 +15,8 @@ use std::alloc::{AllocError, Global};
 
 /// The documents of the files of these paths, each under its place among them as its number, from 1 on.
 ///
-/// `Files` reports each file that can't be read or is no document, and `Memory` comes where memory ran out. There is no other
-/// error.
+/// `Files` reports each file that can't be read or is no document, and `Memory` comes where memory ran
+/// out. There is no other error.
 pub fn read_documents<F: Files>(
     alloc: Global,
     files: &F,
@@ -42,8 +42,8 @@ pub fn read_documents<F: Files>(
     Err(Failure::Files(reports))
 }
 
-/// The document of the file of this path, under this number; or none where the file can't be read or is no document, which is
-/// reported. The error is out of memory.
+/// The document of the file of this path, under this number; or none where the file can't be read or is
+/// no document, which is reported. The error is out of memory.
 fn read_or_report<F: Files>(
     alloc: Global,
     files: &F,
@@ -63,8 +63,8 @@ fn read_or_report<F: Files>(
     }
 }
 
-/// The document of a text, under this path and number; or none where the text is no document, which is reported. The error is out of
-/// memory.
+/// The document of a text, under this path and number; or none where the text is no document, which is
+/// reported. The error is out of memory.
 fn parse_or_report(
     alloc: Global,
     number: FileId,

@@ -6,7 +6,8 @@ use apollo_compiler::text::definitions_text;
 use graphql_ast::definition::Definition;
 use std::alloc::{AllocError, Global};
 
-/// The text of definitions with a line end behind it, or nothing where there is none. The error is out of memory.
+/// The text of definitions with a line end behind it, or nothing where there is none. The error is out of
+/// memory.
 pub(crate) fn ended_text(alloc: Global, definitions: &[Definition]) -> Result<String, AllocError>
     ensures { IfOk result (λ text. string_bytes text ≡ ended definitions.now) }
 {

@@ -67,8 +67,8 @@ impl Findings {
             .saturating_add(self.leaf_faults.len())
     }
 
-    /// The reports of all faults, and how many there are; nothing where there is none. The error is out of memory.
-    /// No clause: they are for people.
+    /// The reports of all faults, and how many there are; nothing where there is none. The error is out
+    /// of memory. No clause: they are for people.
     pub fn reports(&self, alloc: Global) -> Result<String, AllocError> {
         let mut reports = String::new(alloc);
         push_reports(
@@ -116,8 +116,8 @@ impl Findings {
         Ok(lines)
     }
 
-    /// The answer of this output, or with `json` the JSON of the faults in its place, and of these faults. The error is out of
-    /// memory.
+    /// The answer of this output, or with `json` the JSON of the faults in its place, and of these
+    /// faults. The error is out of memory.
     pub fn answer(&self, alloc: Global, json: bool, output: String) -> Result<Answer, AllocError>
         ensures shown { IfOk result (λ answer. IsShown json self.now.schema_faults.items self.now.document_faults.items self.now.leaf_faults.items (string_bytes output) (string_bytes answer.output)) }
         ensures any { IfOk result (λ answer. answer.has_faults ≡ any_fault self.now.schema_faults.items self.now.document_faults.items self.now.leaf_faults.items) }

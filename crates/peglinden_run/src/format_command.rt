@@ -13,10 +13,12 @@ use graphql_ast::document::Document;
 use peglinden_files::files::Files;
 use std::alloc::{AllocError, Global};
 
-/// The answer of `format` to files: the text of each in our layout, one behind the other, each with a line end. With `check` it is
-/// the name of each file whose text differs from that, each on a line, and such a file is at fault.
+/// The answer of `format` to files: the text of each in our layout, one behind the other, each with a
+/// line end. With `check` it is the name of each file whose text differs from that, each on a line, and
+/// such a file is at fault.
 ///
-/// `Files` comes where a file can't be read or is no document, and `Memory` where memory ran out. There is no other error.
+/// `Files` comes where a file can't be read or is no document, and `Memory` where memory ran out. There
+/// is no other error.
 pub(crate) fn format_answer<F: Files>(
     alloc: Global,
     check: bool,

@@ -44,9 +44,9 @@ pub(crate) fn found_location(found: SchemaCoordinateLookup<'_>) -> Option<Source
     }
 }
 
-/// The definitions that show what a coordinate points to in a schema: of a type its definition and its extensions, and of a directive
-/// its definition; of a field, an input field or an enum value its type with that alone; of an argument what it is an argument
-/// of. The error is out of memory.
+/// The definitions that show what a coordinate points to in a schema: of a type its definition and its
+/// extensions, and of a directive its definition; of a field, an input field or an enum value its type
+/// with that alone; of an argument what it is an argument of. The error is out of memory.
 pub(crate) fn found_definitions(
     alloc: Global,
     schema: &Schema,
@@ -88,7 +88,8 @@ fn directive_alone(node: &Node<DirectiveDefinition>) -> Result<Definition, Alloc
     Ok(Definition::DirectiveDefinition(node.clone()?))
 }
 
-/// What the coordinate of an argument names the argument of: a field in its type, or a directive. The error is out of memory.
+/// What the coordinate of an argument names the argument of: a field in its type, or a directive. The
+/// error is out of memory.
 fn argument_owner(
     alloc: Global,
     schema: &Schema,
@@ -111,8 +112,8 @@ fn argument_owner(
     }
 }
 
-/// The type of this name with this field alone: an interface where the schema has it as one, and else an object type. The error is
-/// out of memory.
+/// The type of this name with this field alone: an interface where the schema has it as one, and else an
+/// object type. The error is out of memory.
 fn field_in(
     alloc: Global,
     schema: &Schema,

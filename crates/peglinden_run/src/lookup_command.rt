@@ -20,13 +20,13 @@ use graphql_nodes::source::{SourceMap, SourceSpan};
 use peglinden_files::files::Files;
 use std::alloc::{AllocError, Global};
 
-/// The answer of `lookup` to files: where what the coordinate points to in the schema of their documents stands, as a comment, and
-/// below it the definitions that show it. Nothing is written where it points to nothing, which is at fault. It is looked up where
-/// the schema has faults too.
+/// The answer of `lookup` to files: where what the coordinate points to in the schema of their documents
+/// stands, as a comment, and below it the definitions that show it. Nothing is written where it points to
+/// nothing, which is at fault. It is looked up where the schema has faults too.
 ///
-/// `NoCoordinate` comes for a text that is no coordinate, before a file is read. `Files` comes where a file can't be read or is no
-/// document, `ExtensionIds` only where the numbers don't suffice for the extensions, and `Memory` where memory ran out. There is
-/// no other error.
+/// `NoCoordinate` comes for a text that is no coordinate, before a file is read. `Files` comes where a
+/// file can't be read or is no document, `ExtensionIds` only where the numbers don't suffice for the
+/// extensions, and `Memory` where memory ran out. There is no other error.
 pub(crate) fn lookup_answer<F: Files>(
     alloc: Global,
     keys: HashKeys,
@@ -66,7 +66,8 @@ fn found_text(
     Ok(text)
 }
 
-/// Adds a comment that says where something stands; what stands in no file is built-in. The error is out of memory.
+/// Adds a comment that says where something stands; what stands in no file is built-in. The error is out
+/// of memory.
 fn push_place(
     alloc: Global,
     text: &mut String,
@@ -85,7 +86,8 @@ fn push_place(
     }
 }
 
-/// The answer where a coordinate points to nothing: why, before the reports of what else is at fault. The error is out of memory.
+/// The answer where a coordinate points to nothing: why, before the reports of what else is at fault. The
+/// error is out of memory.
 fn missing_answer(
     alloc: Global,
     findings: &Findings,

@@ -22,17 +22,20 @@ use std::io::{self, ErrorKind, Read, Write};
 
 /// Runs the program on the words that follow its name, and answers how that ended.
 ///
-/// `Done` and `Faults`: exactly the answer to the request that the words make stands on `output`, behind what was there; or with `Done`
-/// the text of `--help` or of `--version`. With `Done` nothing was written on `errors`; with `Faults` there are the reports of what
-/// is at fault, but with `--json` and for `format`, which say it on `output`. The output is written only once all of it is there.
+/// `Done` and `Faults`: exactly the answer to the request that the words make stands on `output`, behind
+/// what was there; or with `Done` the text of `--help` or of `--version`. With `Done` nothing was written
+/// on `errors`; with `Faults` there are the reports of what is at fault, but with `--json` and for
+/// `format`, which say it on `output`. The output is written only once all of it is there.
 ///
-/// `Refused` and `Exhausted`: nothing was written on `output`, and `errors` says why: the words make no request, a file can't be
-/// read or is no document, where each such file is reported, a text is no coordinate; or memory or the numbers of extensions ran out.
+/// `Refused` and `Exhausted`: nothing was written on `output`, and `errors` says why: the words make no
+/// request, a file can't be read or is no document, where each such file is reported, a text is no
+/// coordinate; or memory or the numbers of extensions ran out.
 ///
-/// `NotWritten`: there was an answer, and the writer failed, or its flush did: what went out is perhaps a beginning of the answer.
+/// `NotWritten`: there was an answer, and the writer failed, or its flush did: what went out is perhaps a
+/// beginning of the answer.
 ///
-/// That something can't be said on `errors` changes nothing. All tables hash by these keys, and what is written is the same under
-/// any.
+/// That something can't be said on `errors` changes nothing. All tables hash by these keys, and what is
+/// written is the same under any.
 pub fn run<F: Files, R: Read, O: Write, E: Write>(
     alloc: Global,
     keys: HashKeys,
@@ -54,8 +57,8 @@ pub fn run<F: Files, R: Read, O: Write, E: Write>(
     }
 }
 
-/// Runs a request, and answers how that ended. Standard input is read where the request names it, before the files: where that fails,
-/// only that is said.
+/// Runs a request, and answers how that ended. Standard input is read where the request names it, before
+/// the files: where that fails, only that is said.
 pub fn run_request<F: Files, R: Read, O: Write, E: Write>(
     alloc: Global,
     keys: HashKeys,

@@ -1,6 +1,5 @@
-use Rattle.std.proofs.Common.{◌≡◌, ◌≢◌, ◌++◌, ◌∷◌, [], ◌∙◌, List, ℕ, ◌+◌, min, take, sym, ap, subst, arith}
+use Rattle.std.proofs.Common.{◌≡◌, ◌++◌, ◌∷◌, [], ◌∙◌, List, ℕ, ◌+◌, min, take, sym, ap, subst, arith}
 use Rattle.std.specs.Borrow.{Bor}
-use Rattle.graphql_ast.specs.declared.document.Document.{Document}
 use Rattle.peglinden_run.specs.Documents.{AreDocumentsAt, texts_of}
 use Rattle.peglinden_run.proofs.DocumentLemmas.{next-document, next-refused, still-refused}
 use Rattle.peglinden_run.proofs.documents.read_documents.Goals as goal
