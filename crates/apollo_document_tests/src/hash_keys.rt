@@ -1,6 +1,5 @@
 //! The keys that the tables of a document hash by.
 
-use apollo_component::extension::ExtensionSource;
 use apollo_document::ExecutableDocumentBuilder;
 use apollo_schema::schema_builder::SchemaBuilder;
 use graphql_nodes::collections::hash_keys::HashKeys;
@@ -20,7 +19,7 @@ fn is_keyed(builder: ExecutableDocumentBuilder<'_>, keys: HashKeys) -> bool {
 
 /// Whether a document over a schema under these keys hashes by the second ones, which its builder is given if there are any.
 fn is_keyed_over(alloc: Global, of_schema: HashKeys, keys: Option<HashKeys>) -> bool {
-    let Ok(builder) = SchemaBuilder::with_keys(alloc, ExtensionSource::new(), of_schema) else {
+    let Ok(builder) = SchemaBuilder::with_keys(alloc, of_schema) else {
         return false;
     };
     let Ok(schema) = builder.build() else {
