@@ -84,9 +84,9 @@ def data_of(name):
 
 
 def usage(name):
-    """What the program answers to words that it doesn't take."""
+    """What the program answers to words that it doesn't take, or nothing where it reads them by `clap`."""
     texts = (path.read_text() for path in sources.files("src", crate=f"{name}*"))
-    return next(found[1] for text in texts if (found := re.search(rf'error\("(usage: {name} [^"]*)"\)', text)))
+    return next((found[1] for text in texts if (found := re.search(rf'error\("(usage: {name} [^"]*)"\)', text))), "")
 
 
 def takes(name, words):
@@ -96,6 +96,8 @@ def takes(name, words):
         command, *own = [os.fsencode(word).decode() for word in words]
     except ValueError:
         return False
+    if not usage(name):
+        return True
     for form in re.sub(r" \(.*", "", usage(name)).removeprefix(f"usage: {name} ").split(" | "):
         its_commands, *rest = form.split(" ")
         options = {word.strip("[]") for word in rest if word.startswith("[")}
@@ -112,8 +114,11 @@ def start(name, words):
             say(usage(name))
             return 2
         say(UNBUILT.format(name=name))
+        # The program is run in a folder of its own, which gets the files that are named.
+        given = [word for word in words if not usage(name) and os.path.isfile(word)]
+        named = [part for word in given for part in ("--data", f"{word}={os.path.abspath(word)}")]
         os.chdir(CRATES / name)
-        os.execvp("rt", ["rt", "try", "--", *words])
+        os.execvp("rt", ["rt", "try", *named, "--", *words])
     if words and os.isatty(0):
         say(f"{name}: reads from the terminal, up to the end of the input (Ctrl-D)")
     os.execv(path(name), [name, *words])

@@ -1,0 +1,43 @@
+//! Files in memory.
+ghost use Rattle.std.specs.Prelude.{◌≡◌};
+ghost use Rattle.std.specs.Option.{option_map};
+ghost use Rattle.peglinden_files.specs.Files.{bytes_at};
+
+use crate::files::{FileError, Files, text_of_copy};
+use std::alloc::Global;
+use std::io::{self, ErrorKind};
+
+/// Files in memory: their paths and their bytes. Of two files of one path the first counts. A path of
+/// none is not found; reading a file that is there fails only where it isn't UTF-8, or memory runs out.
+#[derive(Clone, Copy)]
+pub struct FilesAtHand<'a>(pub &'a [(&'a str, &'a [u8])]);
+
+impl FilesAtHand<'_> {
+    /// The bytes of the file of this path.
+    fn find(&self, path: &str) -> Option<&[u8]>
+        ensures { option_map (λ bytes. bytes.now) result ≡ bytes_at self.now.0.now path.now }
+    {
+        for file in self.0 {
+            if file.0 == path {
+                return Some(file.1);
+            }
+        }
+        None
+    }
+}
+
+impl Files for FilesAtHand<'_> {
+    ghost use Rattle.std.specs.Prelude.{◌≡◌, None};
+    ghost use Rattle.peglinden_files.specs.Files.{bytes_at};
+
+    ghost holds = { λ files path. bytes_at files.0.now path };
+
+    ghost may_fail = { λ files path. bytes_at files.0.now path ≡ None };
+
+    fn read(&self, alloc: Global, path: &str) -> Result<String, FileError> {
+        let Some(found) = self.find(path) else {
+            return Err(FileError::CannotRead(io::Error::from(ErrorKind::NotFound)));
+        };
+        text_of_copy(alloc, found)
+    }
+}

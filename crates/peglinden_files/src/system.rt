@@ -1,0 +1,25 @@
+//! The files of the system.
+
+use crate::files::{FileError, Files, file_error, read_whole, text_of};
+use std::alloc::Global;
+use std::fs::{self, File};
+
+/// The files of the system. Nothing is known of them before they are read, and reading may fail at any
+/// time: a file is not there, it is a directory, or this process may not read it.
+#[derive(Clone, Copy)]
+pub struct SystemFiles<'a, R>(pub &'a R);
+
+impl<R: fs::Files> Files for SystemFiles<'_, R> {
+    ghost use Rattle.std.specs.Prelude.{None, ⊤};
+
+    ghost holds = { λ _ _. None };
+
+    ghost may_fail = { λ _ _. ⊤ };
+
+    fn read(&self, alloc: Global, path: &str) -> Result<String, FileError> {
+        match File::open(self.0, path) {
+            Ok(mut file) => text_of(read_whole(alloc, &mut file)?),
+            Err(error) => Err(file_error(error)),
+        }
+    }
+}

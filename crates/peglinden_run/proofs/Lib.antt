@@ -1,0 +1,4 @@
+pub mod CommandLemmas
+pub mod DocumentLemmas
+pub mod ReportLemmas
+pub mod TypedLemmas

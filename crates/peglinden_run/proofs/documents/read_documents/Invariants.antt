@@ -1,0 +1,9 @@
+use Rattle.std.proofs.Common.{◌≡◌, ◌≢◌, take}
+use Rattle.peglinden_run.specs.Documents.{AreDocumentsAt, HasRefusedFile, texts_of}
+use Rattle.peglinden_run.proofs.documents.read_documents.Given as goal
+
+abbrev pub invariant-loop-index : goal.invariant-loop-index
+invariant-loop-index g l = record {
+  documents : l.refused ≡ 0 → AreDocumentsAt (g.F.Files.holds l.files) 1 (texts_of (take l.index l.paths)) l.documents.items;
+  refused : l.refused ≢ 0 → HasRefusedFile (g.F.Files.holds l.files) (g.F.Files.may_fail l.files) 1 (texts_of (take l.index l.paths));
+}

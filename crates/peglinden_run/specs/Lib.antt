@@ -1,0 +1,15 @@
+pub mod DocumentCommands
+pub mod Documents
+pub mod Ended
+pub mod FieldsCommand
+pub mod Findings
+pub mod FormatCommand
+pub mod LookedUp
+pub mod LookupCommand
+pub mod Naming
+pub mod Reports
+pub mod Requests
+pub mod Runs
+pub mod SchemaCommand
+pub mod Status
+pub mod TypedDocuments

@@ -1,0 +1,20 @@
+-- Whether a request names standard input.
+use Rattle.std.specs.Prelude.{ℕ, Bool, List, ◌||◌}
+use Rattle.std.specs.Borrow.{Bor}
+use Rattle.std.specs.List.{list_any}
+use Rattle.peglinden_files.specs.Files.{is_input}
+use Rattle.peglinden_words.specs.declared.request.Request.{Request}
+use Rattle.peglinden_words.specs.declared.request.Request.TheVariants as requests
+
+-- one of these paths names standard input
+abbrev pub any_input : List (Bor (List ℕ)) → Bool
+any_input paths = list_any (λ path. is_input path.now) paths
+
+-- the request names standard input among its files
+abbrev pub names_input : Request → Bool
+names_input (requests.Schema adopt ignore_builtin json files) = any_input files.items
+names_input (requests.Check json schema documents) = any_input schema.items || any_input documents.items
+names_input (requests.Typed json schema documents) = any_input schema.items || any_input documents.items
+names_input (requests.Fields json schema documents) = any_input schema.items || any_input documents.items
+names_input (requests.Lookup coordinate files) = any_input files.items
+names_input (requests.Format check files) = any_input files.items

@@ -1,0 +1,94 @@
+//! The answer to a request.
+ghost use Rattle.std.specs.Prelude.{IfErr, IfOk, string_bytes};
+ghost use Rattle.peglinden_run.specs.Requests.{IsAnswerTo, IsCauseTo};
+
+use crate::answer::Answer;
+use crate::document_commands::{Shown, document_answer};
+use crate::failure::Failure;
+use crate::format_command::format_answer;
+use crate::lookup_command::lookup_answer;
+use crate::schema_command::schema_answer;
+use apollo_compiler::compile_options::CompileOptions;
+use graphql_nodes::collections::hash_keys::HashKeys;
+use peglinden_files::files::Files;
+use peglinden_words::request::Request;
+use std::alloc::Global;
+
+/// The answer to a request over these files. All tables hash by these keys; the answer is the same under
+/// any.
+///
+/// `NoCoordinate` comes for `lookup` with a text that is no coordinate, before a file is read. `Files`
+/// comes where a file can't be read or is no document, and reports each. `ExtensionIds` comes only where
+/// the numbers don't suffice for the extensions of the schema, and `Memory` where memory ran out, which
+/// says nothing of the files. There is no other error.
+pub fn answer_to<F: Files>(
+    alloc: Global,
+    keys: HashKeys,
+    request: &Request<'_>,
+    files: &F,
+) -> Result<Answer, Failure>
+    ensures means { IfOk result (λ answer. IsAnswerTo request.now (F.holds files.now) (string_bytes answer.output) answer.has_faults) }
+    ensures causes { IfErr result (IsCauseTo request.now (F.holds files.now) (F.may_fail files.now)) }
+{
+    match request {
+        Request::Schema {
+            adopt,
+            ignore_builtin,
+            json,
+            files: paths,
+        } => {
+            let options = CompileOptions {
+                adopt_orphan_extensions: *adopt,
+                ignore_builtin_redefinitions: *ignore_builtin,
+            };
+            schema_answer(alloc, keys, options, *json, files, paths.as_slice())
+        }
+        Request::Check {
+            json,
+            schema,
+            documents,
+        } => document_answer(
+            alloc,
+            keys,
+            Shown::Nothing,
+            *json,
+            files,
+            schema.as_slice(),
+            documents.as_slice(),
+        ),
+        Request::Typed {
+            json,
+            schema,
+            documents,
+        } => document_answer(
+            alloc,
+            keys,
+            Shown::WriteOut,
+            *json,
+            files,
+            schema.as_slice(),
+            documents.as_slice(),
+        ),
+        Request::Fields {
+            json,
+            schema,
+            documents,
+        } => document_answer(
+            alloc,
+            keys,
+            Shown::Fields,
+            *json,
+            files,
+            schema.as_slice(),
+            documents.as_slice(),
+        ),
+        Request::Lookup {
+            coordinate,
+            files: paths,
+        } => lookup_answer(alloc, keys, coordinate, files, paths.as_slice()),
+        Request::Format {
+            check,
+            files: paths,
+        } => format_answer(alloc, *check, files, paths.as_slice()),
+    }
+}

@@ -1,0 +1,71 @@
+//! Why a request has no answer.
+
+use crate::status::Status;
+use apollo_compiler::compile_error::CompileError;
+use std::alloc::AllocError;
+
+/// Why a request has no answer.
+#[derive(Debug, Drop)]
+pub enum Failure {
+    /// A file can't be read, or is no document: a report of each such file, for standard error, each line
+    /// with its end.
+    Files(String),
+    /// The text of `lookup` is no coordinate: a sentence that says so, for standard error, with its line
+    /// end.
+    NoCoordinate(String),
+    /// Memory ran out.
+    Memory,
+    /// The extensions of the schema would pass the largest number.
+    ExtensionIds,
+}
+
+impl From<AllocError> for Failure {
+    ghost use Rattle.std.specs.Prelude.{◌≡◌};
+    ghost use Rattle.peglinden_run.specs.declared.failure.Failure.{Failure};
+
+    ghost from_gives = { λ _ failure. failure ≡ Failure.Memory };
+
+    fn from(_error: AllocError) -> Failure {
+        Failure::Memory
+    }
+}
+
+impl From<CompileError> for Failure {
+    ghost use Rattle.std.specs.Prelude.{◌≡◌};
+    ghost use Rattle.peglinden_run.specs.Status.{failure_of_compiling};
+
+    ghost from_gives = { λ error failure. failure ≡ failure_of_compiling error };
+
+    fn from(error: CompileError) -> Failure {
+        match error {
+            CompileError::Memory => Failure::Memory,
+            CompileError::ExtensionIds => Failure::ExtensionIds,
+        }
+    }
+}
+
+impl Failure {
+    ghost use Rattle.std.specs.Prelude.{◌≡◌};
+    ghost use Rattle.peglinden_run.specs.Status.{status_of};
+
+    /// How the run ends: `Exhausted` for `Memory` and `ExtensionIds`, and `Refused` for the others.
+    pub fn status(&self) -> Status
+        ensures { result ≡ status_of self.now }
+    {
+        match self {
+            Failure::Files(_) | Failure::NoCoordinate(_) => Status::Refused,
+            Failure::Memory | Failure::ExtensionIds => Status::Exhausted,
+        }
+    }
+
+    /// What standard error is to say of it, with its line end.
+    /// No clause: the sentence is for people.
+    pub fn message(&self) -> &str {
+        match self {
+            Failure::Files(reports) => reports.as_str(),
+            Failure::NoCoordinate(sentence) => sentence.as_str(),
+            Failure::Memory => "error: out of memory\n",
+            Failure::ExtensionIds => "error: extension identities spent\n",
+        }
+    }
+}

@@ -1,0 +1,21 @@
+//! The whole run of the program `peglinden`: [`run`](running::run).
+#![tactic(auto)]
+
+pub mod answer;
+pub mod answering;
+mod coordinates;
+mod document_commands;
+pub mod documents;
+mod ended;
+pub mod failure;
+mod fields_command;
+mod findings;
+mod format_command;
+mod looked_up;
+mod lookup_command;
+mod naming;
+mod reports;
+pub mod running;
+mod schema_command;
+pub mod status;
+mod typed_documents;

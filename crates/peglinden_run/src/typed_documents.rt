@@ -1,0 +1,57 @@
+//! Documents of files, typed over the schema of files.
+ghost use Rattle.std.specs.Prelude.{IfErr, IfOk};
+ghost use Rattle.peglinden_run.specs.Documents.{texts_of};
+ghost use Rattle.peglinden_run.specs.TypedDocuments.{IsTyped, IsTypedCause};
+
+use crate::documents::read_documents;
+use crate::failure::Failure;
+use crate::findings::{Findings, sources_of};
+use apollo_compiler::building::build_schema;
+use apollo_compiler::compile_options::CompileOptions;
+use apollo_compiler::document_building::build_executable_document;
+use apollo_executable::document::ExecutableDocument;
+use graphql_nodes::collections::hash_keys::HashKeys;
+use leafcheck::checking::leaf_faults;
+use peglinden_files::files::Files;
+use std::alloc::Global;
+
+/// A typed document, and what is at fault in it and in its schema.
+#[derive(Drop)]
+pub(crate) struct TypedDocument {
+    pub document: ExecutableDocument,
+    pub findings: Findings,
+}
+
+/// The documents of files as one typed document, over the schema of other files, which has no options.
+/// Definitions of the type system in the documents are at fault. The files of the schema are numbered
+/// from 1, and the others after them.
+///
+/// `Files` comes where a file of either sort can't be read or is no document, `ExtensionIds` only where
+/// the numbers don't suffice for the extensions of the schema, and `Memory` where memory ran out. There
+/// is no other error.
+pub(crate) fn type_documents<F: Files>(
+    alloc: Global,
+    keys: HashKeys,
+    files: &F,
+    schema_paths: &[&str],
+    document_paths: &[&str],
+) -> Result<TypedDocument, Failure>
+    ensures typed { IfOk result (IsTyped (F.holds files.now) (texts_of schema_paths.now) (texts_of document_paths.now)) }
+    ensures causes { IfErr result (IsTypedCause (F.holds files.now) (F.may_fail files.now) (texts_of schema_paths.now) (texts_of document_paths.now)) }
+{
+    let mut paths = Vec::new(alloc);
+    paths.extend_from_slice(schema_paths)?;
+    paths.extend_from_slice(document_paths)?;
+    let documents = read_documents(alloc, files, paths.as_slice())?;
+    let (of_schema, executable) = documents.as_slice().split_at(schema_paths.len());
+    let (schema, schema_faults) = build_schema(alloc, keys, CompileOptions::none(), of_schema)?;
+    let (document, document_faults) = build_executable_document(alloc, &schema, executable, true)?;
+    let leaf_faults = leaf_faults(alloc, &schema, &document)?;
+    let findings = Findings {
+        sources: sources_of(alloc, documents.as_slice())?,
+        schema_faults,
+        document_faults,
+        leaf_faults,
+    };
+    Ok(TypedDocument { document, findings })
+}
