@@ -114,11 +114,11 @@ def start(name, words):
             say(usage(name))
             return 2
         say(UNBUILT.format(name=name))
-        # The program is run in a folder of its own, which gets the files that are named.
-        given = [word for word in words if not usage(name) and os.path.isfile(word)]
-        named = [part for word in given for part in ("--data", f"{word}={os.path.abspath(word)}")]
+        # The program is run in a folder of its own, which gets the files that are named, without their folders.
+        given = {word: os.path.basename(word) for word in words if not usage(name) and os.path.isfile(word)}
+        named = [part for word, own in given.items() for part in ("--data", f"{own}={os.path.abspath(word)}")]
         os.chdir(CRATES / name)
-        os.execvp("rt", ["rt", "try", *named, "--", *words])
+        os.execvp("rt", ["rt", "try", *named, "--", *(given.get(word, word) for word in words)])
     if words and os.isatty(0):
         say(f"{name}: reads from the terminal, up to the end of the input (Ctrl-D)")
     os.execv(path(name), [name, *words])
