@@ -1,7 +1,7 @@
 //! Lines and columns of offsets in texts. Lines end as the GraphQL specification of October 2021 says, section 2.1.3.
 //!
 //! (The bench notation puts numbers of lines in its spans, so these calls are for spans of other texts.)
-ghost use Rattle.std.specs.Prelude.{◌≡◌, ◌<◌, ◌≤◌, length};
+ghost use Rattle.std.specs.Prelude.{◌≡◌, ◌≤◌, length};
 ghost use Rattle.graphql_nodes.specs.LineColumns.{column_of, line_column_of, line_of, range_of, start_of};
 ghost use Rattle.graphql_nodes.specs.LineColumns as spec;
 
@@ -15,20 +15,19 @@ pub struct LineColumn {
     pub column: usize,
 }
 
-/// Whether the byte at this place is the last one of a line terminator.
-fn ends_line(text: &[u8], at: usize) -> bool
-    requires { at < length text.now }
+/// Whether the byte at this place is the last one of a line terminator (section 2.1.3). There is none behind the end.
+pub fn ends_line(text: &[u8], at: usize) -> bool
     ensures { result ≡ spec.ends_line text.now at }
 {
-    match text[at] {
-        b'\n' => true,
-        b'\r' => text.get(at + 1) != Some(&b'\n'),
+    match text.get(at) {
+        Some(b'\n') => true,
+        Some(b'\r') => text.get(at + 1) != Some(&b'\n'),
         _ => false,
     }
 }
 
 /// Whether a byte of UTF-8 begins a character.
-fn begins_char(byte: u8) -> bool
+pub fn begins_char(byte: u8) -> bool
     ensures { result ≡ spec.begins_char byte }
 {
     byte < 128 || byte >= 192
