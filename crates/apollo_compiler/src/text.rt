@@ -1,5 +1,8 @@
 //! GraphQL text as trees, and trees as GraphQL text: GraphQL specification of October 2021, section 2 and appendix B.
 
+pub use graphql_printing::members::{
+    enum_value, enum_value_text, field, field_text, input_value, input_value_text,
+};
 pub use graphql_printing::printing::{
     definition, definition_text, definitions, definitions_text, document_text, fragment,
     fragment_text, operation, operation_text, selections, selections_text, text, ty, type_text,

@@ -5,22 +5,18 @@ use Rattle.std.proofs.lemmas.List.{drop_more}
 use Rattle.graphql_tokens.specs.Strings.{begins_with_quotes}
 use Rattle.graphql_printing.specs.Descriptions.{further_in, with_marks}
 use Rattle.graphql_printing.specs.Layout.{line_end}
+use Rattle.graphql_printing.proofs.BlockCharacters.{other_first}
 
 -- what is written from a place on that isn't inside of a `"""`
 abbrev Rest : ℕ → List ℕ → List ℕ
 Rest indent text = further_in indent (with_marks 0 text)
 
-no_quotes : (c : ℕ) (cs : List ℕ) → nat_eq c 34 ≡ false → begins_with_quotes (c ∷ cs) ≡ false
-no_quotes c [] h = refl
-no_quotes c (a ∷ []) h = refl
-no_quotes c (a ∷ b ∷ rest) h = rw h refl
-
 pub no_quotes_at : (s : List ℕ) (i : ℕ) → i < length s → nat_eq (get_or s i 0) 34 ≡ false → begins_with_quotes (drop i s) ≡ false
-no_quotes_at s i within h = rw (drop_more s i 0 within) (no_quotes (get_or s i 0) (drop (i + 1) s) h)
+no_quotes_at s i within h = rw (drop_more s i 0 within) (other_first (get_or s i 0 ∷ drop (i + 1) s) h)
 
 -- a line feed
 feeds : (indent : ℕ) (cs : List ℕ) → Rest indent (10 ∷ cs) ≡ line_end indent ++ Rest indent cs
-feeds indent cs = rw (no_quotes 10 cs refl) refl
+feeds indent cs = rw (other_first (10 ∷ cs) refl) refl
 
 pub feed_at : (s : List ℕ) (indent i : ℕ) → i < length s → get_or s i 0 ≡ 10 → Rest indent (drop i s) ≡ line_end indent ++ Rest indent (drop (i + 1) s)
 feed_at s indent i within is = rw (drop_more s i 0 within, is) (feeds indent (drop (i + 1) s))

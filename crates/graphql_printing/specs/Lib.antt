@@ -4,6 +4,7 @@ pub mod Documents
 pub mod Escapes
 pub mod Fields
 pub mod Layout
+pub mod Members
 pub mod Operations
 pub mod Selections
 pub mod Strings

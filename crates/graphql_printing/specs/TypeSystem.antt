@@ -24,10 +24,14 @@ abbrev pub described : ℕ → Option NameView → List ℕ
 described indent None = []
 described indent (Some text) = description_text indent text.text ++ line_end indent
 
--- an argument or input field that is defined, as `a: Int = 1 @b`: sections 3.6.1 and 3.10
+-- an argument or input field that is defined, further in by so many blanks, as `a: Int = 1 @b`: sections 3.6.1 and 3.10
+abbrev pub input_value_further_in : ℕ → InputValueDefinition → List ℕ
+input_value_further_in indent input =
+    described indent input.description ++ label_text input.name ++ type_text input.ty.value ++ default_text input.default_value ++ directives_text input.directives.0
+
+-- the same of a node
 abbrev pub input_value_text : ℕ → NodeView InputValueDefinition → List ℕ
-input_value_text indent input =
-    described indent input.value.description ++ label_text input.value.name ++ type_text input.value.ty.value ++ default_text input.value.default_value ++ directives_text input.value.directives.0
+input_value_text indent input = input_value_further_in indent input.value
 
 -- whether an argument that is defined takes several lines: it has a description
 abbrev pub takes_lines : NodeView InputValueDefinition → Bool
@@ -41,14 +45,22 @@ argument_definitions_text indent inputs =
     then on_lines (codes "(") (codes ")") indent input_value_text inputs
     else enclosed (codes "(") (codes ", ") (codes ")") (input_value_text indent) inputs
 
--- a field that is defined, as `a(b: Int): Int @c`: section 3.6
-abbrev pub field_definition_text : ℕ → NodeView FieldDefinition → List ℕ
-field_definition_text indent field =
-    described indent field.value.description ++ field.value.name.text ++ argument_definitions_text indent field.value.arguments ++ codes ": " ++ type_text field.value.ty ++ directives_text field.value.directives.0
+-- a field that is defined, further in by so many blanks, as `a(b: Int): Int @c`: section 3.6
+abbrev pub field_further_in : ℕ → FieldDefinition → List ℕ
+field_further_in indent field =
+    described indent field.description ++ field.name.text ++ argument_definitions_text indent field.arguments ++ codes ": " ++ type_text field.ty ++ directives_text field.directives.0
 
--- an enum value that is defined, as `A @b`: section 3.9
+-- the same of a node
+abbrev pub field_definition_text : ℕ → NodeView FieldDefinition → List ℕ
+field_definition_text indent field = field_further_in indent field.value
+
+-- an enum value that is defined, further in by so many blanks, as `A @b`: section 3.9
+abbrev pub enum_value_further_in : ℕ → EnumValueDefinition → List ℕ
+enum_value_further_in indent value = described indent value.description ++ value.value.text ++ directives_text value.directives.0
+
+-- the same of a node
 abbrev pub enum_value_text : ℕ → NodeView EnumValueDefinition → List ℕ
-enum_value_text indent value = described indent value.value.description ++ value.value.value.text ++ directives_text value.value.directives.0
+enum_value_text indent value = enum_value_further_in indent value.value
 
 -- a root of the schema, as `query: Q`: section 3.3
 abbrev pub root_text : ℕ → NodeView (OperationType × NameView) → List ℕ

@@ -7,6 +7,7 @@ pub mod documents;
 pub mod fields;
 mod layout;
 mod lists;
+pub mod members;
 pub mod operations;
 pub mod printing;
 pub mod selections;

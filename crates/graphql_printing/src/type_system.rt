@@ -6,7 +6,7 @@ ghost use Rattle.graphql_nodes.specs.LocationTexts.{location_text};
 ghost use Rattle.graphql_nodes.specs.declared.type_kind.TypeKind.TheVariants as t;
 ghost use Rattle.graphql_ast.specs.DefinitionParts.{no_parts};
 ghost use Rattle.graphql_printing.specs.Texts.{directives_text};
-ghost use Rattle.graphql_printing.specs.TypeSystem.{argument_definitions_text, described, directive_shape, enum_value_text, field_definition_text, fielded_text, input_value_text, interfaces_text, members_text, name_text, repeatable_text, root_text, schema_shape, takes_lines, type_shape};
+ghost use Rattle.graphql_printing.specs.TypeSystem.{argument_definitions_text, described, directive_shape, enum_value_further_in, enum_value_text, field_definition_text, field_further_in, fielded_text, input_value_further_in, input_value_text, interfaces_text, members_text, name_text, repeatable_text, root_text, schema_shape, takes_lines, type_shape};
 
 use crate::arguments::write_directives;
 use crate::descriptions::write_description;
@@ -45,15 +45,26 @@ pub(crate) fn write_described<W: Write>(
     }
 }
 
+/// Writes an argument or input field that is defined, which stands further in by so many blanks.
+pub(crate) fn write_input_value<W: Write>(
+    f: &mut Formatter<W>,
+    input: &InputValueDefinition,
+    indent: usize,
+) -> fmt::Result
+    ensures { WritesOnOk W.write_str_gives f.old result (input_value_further_in indent input.now) f.new }
+{
+    write_described(f, &input.description, indent)?;
+    write_label(f, &input.name)?;
+    write_type(f, &input.ty)?;
+    write_default(f, &input.default_value)?;
+    write_directives(f, input.directives.0.as_slice())
+}
+
 impl Written for Node<InputValueDefinition> {
     ghost text = { input_value_text };
 
     fn write<W: Write>(&self, f: &mut Formatter<W>, indent: usize) -> fmt::Result {
-        write_described(f, &self.description, indent)?;
-        write_label(f, &self.name)?;
-        write_type(f, &self.ty)?;
-        write_default(f, &self.default_value)?;
-        write_directives(f, self.directives.0.as_slice())
+        write_input_value(f, self, indent)
     }
 }
 
@@ -79,26 +90,48 @@ fn write_argument_definitions<W: Write>(
     }
 }
 
+/// Writes a field that is defined, which stands further in by so many blanks.
+pub(crate) fn write_field_definition<W: Write>(
+    f: &mut Formatter<W>,
+    field: &FieldDefinition,
+    indent: usize,
+) -> fmt::Result
+    ensures { WritesOnOk W.write_str_gives f.old result (field_further_in indent field.now) f.new }
+{
+    write_described(f, &field.description, indent)?;
+    f.write_str(field.name.as_str())?;
+    write_argument_definitions(f, field.arguments.as_slice(), indent)?;
+    f.write_str(": ")?;
+    write_type(f, &field.ty)?;
+    write_directives(f, field.directives.0.as_slice())
+}
+
 impl Written for Node<FieldDefinition> {
     ghost text = { field_definition_text };
 
     fn write<W: Write>(&self, f: &mut Formatter<W>, indent: usize) -> fmt::Result {
-        write_described(f, &self.description, indent)?;
-        f.write_str(self.name.as_str())?;
-        write_argument_definitions(f, self.arguments.as_slice(), indent)?;
-        f.write_str(": ")?;
-        write_type(f, &self.ty)?;
-        write_directives(f, self.directives.0.as_slice())
+        write_field_definition(f, self, indent)
     }
+}
+
+/// Writes an enum value that is defined, which stands further in by so many blanks.
+pub(crate) fn write_enum_value<W: Write>(
+    f: &mut Formatter<W>,
+    value: &EnumValueDefinition,
+    indent: usize,
+) -> fmt::Result
+    ensures { WritesOnOk W.write_str_gives f.old result (enum_value_further_in indent value.now) f.new }
+{
+    write_described(f, &value.description, indent)?;
+    f.write_str(value.value.as_str())?;
+    write_directives(f, value.directives.0.as_slice())
 }
 
 impl Written for Node<EnumValueDefinition> {
     ghost text = { enum_value_text };
 
     fn write<W: Write>(&self, f: &mut Formatter<W>, indent: usize) -> fmt::Result {
-        write_described(f, &self.description, indent)?;
-        f.write_str(self.value.as_str())?;
-        write_directives(f, self.directives.0.as_slice())
+        write_enum_value(f, self, indent)
     }
 }
 

@@ -7,6 +7,8 @@ mod definitions;
 #[cfg(test)]
 mod hand_made;
 #[cfg(test)]
+mod members;
+#[cfg(test)]
 mod printed;
 #[cfg(test)]
 mod sinks;
