@@ -4,12 +4,12 @@ ghost use Rattle.peglinden_run.specs.Ended.{ended};
 ghost use Rattle.peglinden_run.specs.LookedUp.{found_definition, found_location, found_text, place_comment};
 
 use crate::ended::ended_text;
+use apollo_compiler::text::{enum_value_text, field_text, input_value_text};
 use apollo_coordinate::lookup_answers::SchemaCoordinateLookup;
 use graphql_ast::definition::Definition;
 use graphql_ast::type_system::DirectiveDefinition;
 use graphql_nodes::node::Node;
 use graphql_nodes::source::{SourceMap, SourceSpan};
-use graphql_printing::members::{enum_value_text, field_text, input_value_text};
 use std::alloc::{AllocError, Global};
 
 /// What is written of what a coordinate points to: where that stands, as a comment, and its definition. The error is out of memory.
