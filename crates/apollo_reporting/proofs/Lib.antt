@@ -1,2 +1,3 @@
 mod Boundaries
 mod JsonLemmas
+mod SaidLemmas

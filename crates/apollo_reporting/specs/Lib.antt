@@ -1,11 +1,13 @@
 pub mod Abouts
 pub mod Counts
+pub mod Details
 pub mod DocumentFaults
 pub mod Excerpts
 pub mod FaultData
 pub mod MemberTexts
 pub mod Places
 pub mod Reports
+pub mod Said
 pub mod SchemaFaults
 pub mod TextErrors
 pub mod WorkedExcerpts

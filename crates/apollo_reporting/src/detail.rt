@@ -1,6 +1,7 @@
 //! What JSON has of faults under names of their own.
-ghost use Rattle.std.specs.Prelude.{◌≡◌, IfOk, Some, option_map};
-ghost use Rattle.apollo_reporting.specs.declared.detail.DetailValue.TheVariants.{Place, Words};
+ghost use Rattle.std.specs.Prelude.{◌≡◌, IfOk, option_map};
+ghost use Rattle.apollo_reporting.specs.Details as spec;
+ghost use Rattle.apollo_reporting.specs.Details.{place_detail, text_detail};
 
 use graphql_nodes::collections::static_text::StaticText;
 use graphql_nodes::collections::text::Text;
@@ -27,7 +28,7 @@ pub enum DetailValue {
 impl Detail {
     /// A copy of a text. The error is out of memory.
     pub fn text(alloc: Global, name: &'static str, text: &str) -> Result<Detail, AllocError>
-        ensures { IfOk result (λ detail. detail ≡ record { name = name.now; value = Words (Some text.now) }) }
+        ensures { IfOk result (λ detail. detail ≡ text_detail name.now text.now) }
     {
         Ok(Detail {
             name: StaticText::new(name),
@@ -41,7 +42,7 @@ impl Detail {
         name: &'static str,
         text: Option<&str>,
     ) -> Result<Detail, AllocError>
-        ensures { IfOk result (λ detail. detail ≡ record { name = name.now; value = Words (option_map (λ text. text.now) text.entry) }) }
+        ensures { IfOk result (λ detail. detail ≡ spec.optional_text name.now (option_map (λ text. text.now) text.entry)) }
     {
         match text {
             Some(text) => Detail::text(alloc, name, text),
@@ -54,7 +55,7 @@ impl Detail {
 
     /// A place, where it is known.
     pub fn place(name: &'static str, location: Option<SourceSpan>) -> Detail
-        ensures { result ≡ record { name = name.now; value = Place location } }
+        ensures { result ≡ place_detail name.now location }
     {
         Detail {
             name: StaticText::new(name),
@@ -68,18 +69,22 @@ pub(crate) fn one_text(
     alloc: Global,
     name: &'static str,
     text: &str,
-) -> Result<Vec<Detail>, AllocError> {
+) -> Result<Vec<Detail>, AllocError>
+    ensures { IfOk result (λ details. details.items ≡ spec.one_text name.now text.now) }
+{
     let detail = Detail::text(alloc, name, text)?;
     Ok(vec![in alloc; detail]?)
 }
 
-/// Two texts, each under its name. The error is out of memory.
+/// Two texts, each behind its name. The error is out of memory.
 pub(crate) fn two_texts(
     alloc: Global,
-    (first, one): (&'static str, &str),
-    (second, other): (&'static str, &str),
-) -> Result<Vec<Detail>, AllocError> {
-    let one = Detail::text(alloc, first, one)?;
-    let other = Detail::text(alloc, second, other)?;
-    Ok(vec![in alloc; one, other]?)
+    first: (&'static str, &str),
+    second: (&'static str, &str),
+) -> Result<Vec<Detail>, AllocError>
+    ensures { IfOk result (λ details. details.items ≡ spec.two_texts first.entry.0.now first.entry.1.now second.entry.0.now second.entry.1.now) }
+{
+    let first = Detail::text(alloc, first.0, first.1)?;
+    let second = Detail::text(alloc, second.0, second.1)?;
+    Ok(vec![in alloc; first, second]?)
 }

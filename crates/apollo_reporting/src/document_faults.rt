@@ -1,5 +1,6 @@
 //! Faults of executable documents, as they are reported.
-ghost use Rattle.apollo_reporting.specs.DocumentFaults.{document_fault_about};
+ghost use Rattle.std.specs.Prelude.{◌≡◌, IfOk, Some};
+ghost use Rattle.apollo_reporting.specs.DocumentFaults.{definition_details, document_fault_about, document_fault_details};
 
 use crate::about::About;
 use crate::detail::{Detail, one_text, two_texts};
@@ -16,6 +17,8 @@ const FIRST_DEFINED: &str = "first defined here";
 /// path.
 impl Reported for BuildError {
     ghost said_about = { document_fault_about };
+
+    ghost said_details = { λ fault. Some (document_fault_details fault) };
 
     fn about(&self) -> About<'_> {
         match self {
@@ -104,11 +107,10 @@ fn definition(
     alloc: Global,
     name: &Option<Name>,
     describe: &StaticText,
-) -> Result<Vec<Detail>, AllocError> {
-    let name = match name {
-        Some(name) => Detail::text(alloc, "name", name.as_str())?,
-        None => Detail::optional_text(alloc, "name", None)?,
-    };
+) -> Result<Vec<Detail>, AllocError>
+    ensures { IfOk result (λ details. details.items ≡ definition_details name.now describe.now) }
+{
+    let name = Detail::optional_text(alloc, "name", name.as_ref().map(Name::as_str))?;
     let describe = Detail::text(alloc, "describe", describe.as_str())?;
     Ok(vec![in alloc; name, describe]?)
 }

@@ -1,8 +1,9 @@
 //! The line of a span, and what of it is marked. Lines end as the GraphQL specification of October 2021 says, section 2.1.3.
-ghost use Rattle.std.specs.Prelude.{◌≡◌, ◌<◌, ◌≤◌, length};
+ghost use Rattle.std.specs.Prelude.{◌≡◌, ◌≤◌, length};
 ghost use Rattle.std.specs.List.{position_or_len};
-ghost use Rattle.graphql_nodes.specs.LineColumns.{begins_char, ends_line};
 ghost use Rattle.apollo_reporting.specs.Excerpts.{before_on_line, begins_line_end, line_around, line_start, mark_count, marked};
+
+use graphql_nodes::line_column::{begins_char, ends_line};
 
 /// What is shown of a text: a line, what stands on it before the marks, and how many marks there are.
 #[derive(Clone, Copy)]
@@ -12,18 +13,6 @@ pub(crate) struct Excerpt<'a> {
     pub marks: usize,
 }
 
-/// Whether the byte at this place is the last one of a line terminator.
-fn ends_line(text: &[u8], at: usize) -> bool
-    requires { at < length text.now }
-    ensures { result ≡ ends_line text.now at }
-{
-    match text[at] {
-        b'\n' => true,
-        b'\r' => text.get(at + 1) != Some(&b'\n'),
-        _ => false,
-    }
-}
-
 /// Whether a byte begins a line terminator.
 fn begins_line_end(byte: u8) -> bool
     ensures { result ≡ begins_line_end byte }
@@ -31,16 +20,8 @@ fn begins_line_end(byte: u8) -> bool
     byte == b'\n' || byte == b'\r'
 }
 
-/// Whether a byte of UTF-8 begins a character.
-pub(crate) fn begins_char(byte: u8) -> bool
-    ensures { result ≡ begins_char byte }
-{
-    byte < 128 || byte >= 192
-}
-
 /// Where the line of an offset begins.
 fn line_start(text: &[u8], offset: usize) -> usize
-    requires { offset ≤ length text.now }
     ensures start { result ≡ line_start text.now offset }
     ensures within { result ≤ offset }
 {

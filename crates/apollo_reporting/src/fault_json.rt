@@ -1,8 +1,6 @@
 //! Faults as JSON.
-ghost use Rattle.std.specs.Prelude.{◌≡◌, ℕ, List, IfOk, string_bytes};
-ghost use Rattle.serde_json.specs.Written.{compact_text};
-ghost use Rattle.apollo_reporting.specs.FaultData.{fault_data};
-ghost use Rattle.apollo_reporting.specs.declared.detail.Detail.{Detail};
+ghost use Rattle.std.specs.Prelude.{IfOk, string_bytes};
+ghost use Rattle.apollo_reporting.specs.Said.{IsFaultJson};
 
 use crate::json_members::push_fault;
 use crate::reported::Reported;
@@ -15,14 +13,14 @@ use std::alloc::{AllocError, Global};
 /// `file` is the path of the file, lines and columns count from 1, columns by characters, and `path` is an array of strings:
 /// the definition, as `query Page`, then the response keys. What is not known, or isn't there, is null. The error is out of
 /// memory.
-#[tactic(auto, unfolding(crate::specs::MemberTexts::data_text))]
+#[tactic(auto, unfolding(crate::specs::MemberTexts::data_text), using(crate::proofs::SaidLemmas::of_said))]
 pub fn to_json<E: Reported>(
     alloc: Global,
     sources: &SourceMap,
     location: Option<SourceSpan>,
     fault: &E,
 ) -> Result<String, AllocError>
-    ensures { IfOk result (λ text. (said : List ℕ) × (details : List Detail) × (string_bytes text ≡ compact_text (fault_data sources.now location (E.said_about fault.now) said details))) }
+    ensures { IfOk result (λ text. IsFaultJson E.output E.said_about E.said_details sources.now location fault.now (string_bytes text)) }
 {
     let said = fault.to_string(alloc)?;
     let details = fault.details(alloc)?;

@@ -1,9 +1,10 @@
 //! Reports of faults, in the form that compilers use.
-ghost use Rattle.std.specs.Prelude.{◌≡◌, ℕ, List, IfOk, Some, option_map, string_bytes};
+ghost use Rattle.std.specs.Prelude.{◌≡◌, IfOk, Some, option_map, string_bytes};
 ghost use Rattle.std.specs.Fmt.{WritesOnOk};
 ghost use Rattle.apollo_reporting.specs.Abouts.{about_view};
 ghost use Rattle.apollo_reporting.specs.Places.{starts};
 ghost use Rattle.apollo_reporting.specs.Reports.{lines_behind, location_text, note_text, path_line, report_text};
+ghost use Rattle.apollo_reporting.specs.Said.{IsReport};
 
 use crate::about::{About, Earlier};
 use crate::places::start;
@@ -82,13 +83,14 @@ impl<E: Reported> fmt::Display for FaultReport<'_, E> {
 }
 
 /// The report of a fault, as the `Display` of [`report`] writes it. The error is out of memory.
+#[tactic(auto, using(crate::proofs::SaidLemmas::of_said))]
 pub fn report_text<E: Reported>(
     alloc: Global,
     sources: &SourceMap,
     location: Option<SourceSpan>,
     fault: &E,
 ) -> Result<String, AllocError>
-    ensures { IfOk result (λ text. (said : List ℕ) × (string_bytes text ≡ report_text sources.now location (E.said_about fault.now) said)) }
+    ensures { IfOk result (λ text. IsReport E.output E.said_about sources.now location fault.now (string_bytes text)) }
 {
     let said = fault.to_string(alloc)?;
     let about = fault.about();

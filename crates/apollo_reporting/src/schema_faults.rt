@@ -1,5 +1,7 @@
 //! Faults of schemas, as they are reported.
-ghost use Rattle.apollo_reporting.specs.SchemaFaults.{schema_fault_about};
+ghost use Rattle.std.specs.Prelude.{◌≡◌, ◌∷◌, [], IfOk, Some};
+ghost use Rattle.apollo_reporting.specs.SchemaFaults as spec;
+ghost use Rattle.apollo_reporting.specs.SchemaFaults.{kind_details, previous_and_text, previous_detail, schema_fault_about, schema_fault_details};
 
 use crate::about::About;
 use crate::detail::{Detail, one_text, two_texts};
@@ -21,6 +23,8 @@ const DEFINED: &str = "defined here";
 /// variant, in order.
 impl Reported for BuildError {
     ghost said_about = { schema_fault_about };
+
+    ghost said_details = { λ fault. Some (schema_fault_details fault) };
 
     fn about(&self) -> About<'_> {
         match self {
@@ -197,7 +201,9 @@ impl Reported for BuildError {
 }
 
 /// The place of the thing that is kept.
-fn one_place(alloc: Global, previous: Option<SourceSpan>) -> Result<Vec<Detail>, AllocError> {
+fn one_place(alloc: Global, previous: Option<SourceSpan>) -> Result<Vec<Detail>, AllocError>
+    ensures { IfOk result (λ details. details.items ≡ previous_detail previous ∷ []) }
+{
     Ok(vec![in alloc; Detail::place("previous_location", previous)]?)
 }
 
@@ -207,7 +213,9 @@ fn place_and_text(
     previous: Option<SourceSpan>,
     name: &'static str,
     text: &str,
-) -> Result<Vec<Detail>, AllocError> {
+) -> Result<Vec<Detail>, AllocError>
+    ensures { IfOk result (λ details. details.items ≡ previous_and_text previous name.now text.now) }
+{
     let text = Detail::text(alloc, name, text)?;
     Ok(vec![in alloc; Detail::place("previous_location", previous), text]?)
 }
@@ -219,7 +227,9 @@ fn kinds(
     extension: &StaticText,
     location: Option<SourceSpan>,
     definition: &StaticText,
-) -> Result<Vec<Detail>, AllocError> {
+) -> Result<Vec<Detail>, AllocError>
+    ensures { IfOk result (λ details. details.items ≡ kind_details name.now.text extension.now location definition.now) }
+{
     let name = Detail::text(alloc, "name", name.as_str())?;
     let extension = Detail::text(alloc, "describe_ext", extension.as_str())?;
     let location = Detail::place("def_location", location);
@@ -228,7 +238,9 @@ fn kinds(
 }
 
 /// The name of a part that a type has already, and the type's.
-fn part_and_type(alloc: Global, part: &Name, ty: &Name) -> Result<Vec<Detail>, AllocError> {
+fn part_and_type(alloc: Global, part: &Name, ty: &Name) -> Result<Vec<Detail>, AllocError>
+    ensures { IfOk result (λ details. details.items ≡ spec.part_and_type part.now ty.now) }
+{
     two_texts(
         alloc,
         ("name_at_previous_location", part.as_str()),

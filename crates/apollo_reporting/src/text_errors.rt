@@ -1,5 +1,6 @@
 //! Refusals of texts, as they are reported.
-ghost use Rattle.apollo_reporting.specs.TextErrors.{parse_error_about, parse_error_kind_about};
+ghost use Rattle.std.specs.Prelude.{Some};
+ghost use Rattle.apollo_reporting.specs.TextErrors.{parse_error_about, parse_error_details, parse_error_kind_about, parse_error_kind_details};
 
 use crate::about::About;
 use crate::detail::{Detail, one_text, two_texts};
@@ -10,6 +11,8 @@ use std::alloc::{AllocError, Global};
 /// It has no earlier place and no path. Details are the fields of the variant; a field without a name stands under `name`.
 impl Reported for ParseErrorKind {
     ghost said_about = { parse_error_kind_about };
+
+    ghost said_details = { λ kind. Some (parse_error_kind_details kind) };
 
     fn about(&self) -> About<'_> {
         About::new(match self {
@@ -31,9 +34,11 @@ impl Reported for ParseErrorKind {
 
     fn details(&self, alloc: Global) -> Result<Vec<Detail>, AllocError> {
         match self {
-            ParseErrorKind::UnexpectedCharacter { shown, .. } => {
-                one_text(alloc, "shown", shown.as_str())
-            }
+            ParseErrorKind::UnexpectedCharacter { character, shown } => two_texts(
+                alloc,
+                ("character", character.to_string(alloc)?.as_str()),
+                ("shown", shown.as_str()),
+            ),
             ParseErrorKind::Unexpected { expected, found } => two_texts(
                 alloc,
                 ("expected", expected.as_str()),
@@ -54,6 +59,8 @@ impl Reported for ParseErrorKind {
 /// What is said of its kind.
 impl Reported for ParseError {
     ghost said_about = { parse_error_about };
+
+    ghost said_details = { λ error. Some (parse_error_details error) };
 
     fn about(&self) -> About<'_> {
         self.kind.about()

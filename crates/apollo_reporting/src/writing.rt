@@ -5,7 +5,7 @@ ghost use Rattle.std.specs.List.{repeat};
 ghost use Rattle.apollo_reporting.specs.Excerpts.{pad};
 ghost use Rattle.apollo_reporting.specs.Reports.{line_begin};
 
-use crate::excerpt::begins_char;
+use graphql_nodes::line_column::begins_char;
 use std::fmt;
 use std::fmt::{Formatter, Write};
 

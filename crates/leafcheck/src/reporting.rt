@@ -1,5 +1,6 @@
 //! Leaf faults, as they are reported.
-ghost use Rattle.leafcheck.specs.FaultReports.{leaf_fault_about};
+ghost use Rattle.std.specs.Prelude.{Some};
+ghost use Rattle.leafcheck.specs.FaultReports.{leaf_fault_about, leaf_fault_details};
 
 use crate::leaf_fault::{LeafFault, LeafKind};
 use apollo_reporting::about::About;
@@ -10,6 +11,8 @@ use std::alloc::{AllocError, Global};
 /// The name of the kind, the path, the response key and the type of the set in which the field stands.
 impl Reported for LeafFault {
     ghost said_about = { leaf_fault_about };
+
+    ghost said_details = { λ fault. Some (leaf_fault_details fault) };
 
     fn about(&self) -> About<'_> {
         let about = match self.kind {
