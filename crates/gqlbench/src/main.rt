@@ -3,7 +3,7 @@
 
 use gqlbench_run::running::run;
 use gqltool_run::arguments::words;
-use gqltool_run::status::Status;
+use program_io::status::Status;
 use std::io;
 use std::process::ExitCode;
 

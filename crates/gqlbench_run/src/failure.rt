@@ -3,7 +3,7 @@
 use apollo_compiler::compile_error::CompileError;
 use apollo_compiler::text::{ParseError, ParseErrorKind};
 use gqltool_run::failure::Failure as InputFailure;
-use gqltool_run::status::Status;
+use program_io::status::Status;
 use std::alloc::AllocError;
 use std::io;
 use thiserror::Error;

@@ -7,10 +7,10 @@ use crate::memory::{ProcessStatus, peak_memory};
 use crate::phases::time;
 use crate::report::{Value, report_text};
 use gqltool_run::failure::Failure as InputFailure;
-use gqltool_run::input::Input;
-use gqltool_run::running::write_out;
-use gqltool_run::status::Status;
 use graphql_nodes::collections::hash_keys::HashKeys;
+use program_io::reading::read_text;
+use program_io::status::Status;
+use program_io::writing::write_out;
 use std::alloc::Global;
 use std::io::{Read, Write};
 use std::random::RandomSource;
@@ -73,7 +73,7 @@ fn report<S: Clock + RandomSource + ProcessStatus, R: Read, E: Write>(
         keys,
         command,
     };
-    let input = reader.read_all(alloc).map_err(InputFailure::from)?;
+    let input = read_text(alloc, reader).map_err(InputFailure::from)?;
     let ready = bench.read(input.as_str())?;
     let mut items = time(&bench, system, &ready, errors)?;
     if let Some(kilobytes) = peak_memory(alloc, system) {

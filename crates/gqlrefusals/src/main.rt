@@ -12,7 +12,7 @@ mod texts;
 use crate::scenario::{SCENARIOS, Scenario};
 use gqlrefusals_values::stop::{Stop, Told};
 use gqltool_run::arguments::words;
-use gqltool_run::status::Status;
+use program_io::status::Status;
 use std::alloc::Global;
 use std::io::{self, Write};
 use std::process::ExitCode;

@@ -4,7 +4,7 @@
 
 use gqlrows_run::running::run_rows;
 use gqltool_run::arguments::words;
-use gqltool_run::status::Status;
+use program_io::status::Status;
 use std::process::ExitCode;
 
 fn main(rt: HostRuntime) -> ExitCode {

@@ -2,7 +2,7 @@
 
 use crate::row::Row;
 use gqltool_run::running::run;
-use gqltool_run::status::Status;
+use program_io::status::Status;
 use std::alloc::{AllocError, Global};
 
 /// Adds what came in the place of what is expected, where it is another: a comment that names it, and its lines behind a mark.

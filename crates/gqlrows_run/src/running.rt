@@ -3,8 +3,8 @@
 use crate::report::report_on;
 use crate::row::read_rows;
 use crate::stop::Stop;
-use gqltool_run::running::write_out;
-use gqltool_run::status::Status;
+use program_io::status::Status;
+use program_io::writing::write_out;
 use std::alloc::Global;
 use std::fs;
 use std::io::{self, ErrorKind, Read, Write};

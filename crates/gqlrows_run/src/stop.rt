@@ -1,6 +1,6 @@
 //! Why no row is run.
 
-use gqltool_run::status::Status;
+use program_io::status::Status;
 use std::alloc::{AllocError, AllocFailed};
 use thiserror::Error;
 

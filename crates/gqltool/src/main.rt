@@ -3,8 +3,8 @@
 
 use gqltool_run::arguments::words;
 use gqltool_run::running::run_with_keys;
-use gqltool_run::status::Status;
 use graphql_nodes::collections::hash_keys::HashKeys;
+use program_io::status::Status;
 use std::io;
 use std::process::ExitCode;
 

@@ -7,9 +7,10 @@ use Rattle.apollo_executable.specs.Walks.WalkView.{AreWalked, TakesAllTurns}
 use Rattle.apollo_executable.specs.declared.document.ExecutableDocument.{ExecutableDocument}
 use Rattle.apollo_executable.specs.declared.selection.Field.{Field}
 use Rattle.apollo_executable.specs.declared.selection.SelectionSet.{SelectionSet}
-use Rattle.gqltool_run.specs.Pieces.{GoesOut, IsBegun, IsCutShort, IsSaid}
+use Rattle.program_io.specs.Writing.{GoesOut, IsBegun}
+use Rattle.gqltool_run.specs.Pieces.{IsCutShort, IsSaid}
 use Rattle.gqltool_run.specs.WalkCommand.{AreSetsText, IsSetText, IsWalkText, field_line, turns_line}
-use Rattle.gqltool_run.proofs.PieceLemmas.{goes-further, goes-nowhere, goes-with}
+use Rattle.program_io.proofs.WritingLemmas.{goes-further, goes-nowhere, goes-with}
 
 -- one line more
 pub lines-turn : {A : Type 0} (line : A → List ℕ) (whole text after : List ℕ) (begin middle new : Option (List ℕ)) (x : A) (coming rest : List A) → GoesOut whole begin middle (text ++ flat_map line coming) → coming ≡ x ∷ rest

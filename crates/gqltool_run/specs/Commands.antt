@@ -1,7 +1,8 @@
 -- The commands of the program, docs/NOTATION.md: what each answers, and what is written of it.
-use Rattle.std.specs.Prelude.{◌≡◌, ◌++◌, ℕ, Bool, List, [], Option}
+use Rattle.std.specs.Prelude.{◌≡◌, ◌++◌, ℕ, Bool, List, [], All, Option}
 use Rattle.std.specs.Io.KnownBytes.{Appends}
 use Rattle.graphql_ast.specs.declared.definition.Definition.{Definition}
+use Rattle.bench_notation.specs.Line.{IsLine, lines_of}
 use Rattle.bench_notation.specs.Text.{printed_definitions}
 use Rattle.apollo_executable.specs.declared.document.ExecutableDocument.{ExecutableDocument}
 use Rattle.apollo_coordinate.specs.declared.lookup_answers.SchemaCoordinateLookup.{SchemaCoordinateLookup}
@@ -43,9 +44,9 @@ IsCauseOf tasks.Doc input failure = IsDocumentCause input failure
 IsCauseOf tasks.Walk input failure = IsDocumentCause input failure
 IsCauseOf tasks.Leaf input failure = IsDocumentCause input failure
 
--- the text is the answer to these words and this input
+-- this input is made of lines of the notation, and the text is the answer to these words and it
 abbrev pub IsAnswerTo : List (List ℕ) → List ℕ → List ℕ → Bool → Type 0
-IsAnswerTo words input text has_faults = (task : Task) × (Ask words task × IsAnswerOf task input text has_faults)
+IsAnswerTo words input text has_faults = All IsLine (lines_of input) × ((task : Task) × (Ask words task × IsAnswerOf task input text has_faults))
 
 -- the text is such as these words answer where nothing is at fault
 abbrev pub IsPrintTo : List (List ℕ) → List ℕ → Type 0

@@ -4,7 +4,6 @@ pub mod CoordCommand
 pub mod DocCommand
 pub mod DocumentBuilding
 pub mod FaultLines
-pub mod Inputs
 pub mod LeafCommand
 pub mod Pieces
 pub mod Prepared

@@ -1,16 +1,8 @@
 -- A text that goes out in pieces while it is made.
-use Rattle.std.specs.Prelude.{◌≡◌, ◌++◌, ℕ, List, Option}
-use Rattle.std.specs.Io.KnownBytes.{Appends}
+use Rattle.std.specs.Prelude.{◌++◌, ℕ, List, Option}
+use Rattle.program_io.specs.Writing.{GoesOut}
 
 -- In all of this `old` is what was out before, and `new` what is out now, if these bytes are known.
-
--- of the text a beginning went out, and this is left
-abbrev pub GoesOut : List ℕ → Option (List ℕ) → Option (List ℕ) → List ℕ → Type 0
-GoesOut text old new left = (went : List ℕ) × (Appends old new went × (text ≡ went ++ left))
-
--- of the text a beginning went out
-abbrev pub IsBegun : List ℕ → Option (List ℕ) → Option (List ℕ) → Type 0
-IsBegun text old new = (left : List ℕ) × GoesOut text old new left
 
 -- behind the text that was held one is said of which P holds: of both a beginning went out, and this is left
 abbrev pub IsSaid : (List ℕ → Type 0) → Option (List ℕ) → Option (List ℕ) → List ℕ → List ℕ → Type 0

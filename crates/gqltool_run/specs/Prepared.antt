@@ -1,6 +1,8 @@
 -- What is ready to be said.
-use Rattle.std.specs.Prelude.{◌≡◌, ℕ, Bool, false, List, Option, IfSome, string_bytes}
+use Rattle.std.specs.Prelude.{◌≡◌, ℕ, Bool, false, List, All, string_bytes}
+use Rattle.program_io.specs.Files.{HoldsSome}
 use Rattle.apollo_compiler.specs.declared.compiled.Compiled.{Compiled}
+use Rattle.bench_notation.specs.Line.{IsLine, lines_of}
 use Rattle.gqltool_run.specs.declared.prepared.Prepared.{Prepared}
 use Rattle.gqltool_run.specs.declared.prepared.Prepared.TheVariants as prepared
 use Rattle.gqltool_run.specs.declared.task.Task.{Task}
@@ -23,7 +25,7 @@ abbrev pub IsReadyOf : Task → List ℕ → Prepared → Type 0
 IsReadyOf task input (prepared.Answer answer) = IsAnswerOf task input (string_bytes answer.text) answer.has_faults
 IsReadyOf task input (prepared.Walks compiled) = (task ≡ tasks.Walk) × IsCompiledDivided input compiled
 
--- this is ready for these words and an input that holds `held`, if its bytes are known
-abbrev pub IsReadyTo : List (List ℕ) → Option (List ℕ) → Prepared → Type 0
-IsReadyTo words held (prepared.Answer answer) = IfSome held (λ input. IsAnswerTo words input (string_bytes answer.text) answer.has_faults) × (answer.has_faults ≡ false → IsPrintTo words (string_bytes answer.text))
-IsReadyTo words held (prepared.Walks compiled) = AreWalkWords words × IfSome held (λ input. IsCompiledDivided input compiled)
+-- this is ready for these words and an input, where `held` says which bytes that may hold
+abbrev pub IsReadyTo : List (List ℕ) → (List ℕ → Type 0) → Prepared → Type 0
+IsReadyTo words held (prepared.Answer answer) = HoldsSome held (λ input. IsAnswerTo words input (string_bytes answer.text) answer.has_faults) × (answer.has_faults ≡ false → IsPrintTo words (string_bytes answer.text))
+IsReadyTo words held (prepared.Walks compiled) = AreWalkWords words × HoldsSome held (λ input. All IsLine (lines_of input) × IsCompiledDivided input compiled)

@@ -1,23 +1,14 @@
 -- How a run ends.
-use Rattle.std.specs.Prelude.{ℕ}
-use Rattle.gqltool_run.specs.declared.status.Status.{Status}
-use Rattle.gqltool_run.specs.declared.status.Status.TheVariants as s
+use Rattle.program_io.specs.declared.file_error.FileError.{FileError}
+use Rattle.program_io.specs.declared.file_error.FileError.TheVariants as i
+use Rattle.program_io.specs.declared.status.Status.{Status}
+use Rattle.program_io.specs.declared.status.Status.TheVariants as s
 use Rattle.gqltool_run.specs.declared.failure.Failure.{Failure}
 use Rattle.gqltool_run.specs.declared.failure.Failure.TheVariants as f
-use Rattle.gqltool_run.specs.declared.input.InputError.{InputError}
-use Rattle.gqltool_run.specs.declared.input.InputError.TheVariants as i
 use Rattle.apollo_compiler.specs.declared.compile_error.CompileError.{CompileError}
 use Rattle.apollo_compiler.specs.declared.compile_error.CompileError.TheVariants as e
 use Rattle.bench_notation.specs.declared.refusal.ReadError.{ReadError}
 use Rattle.bench_notation.specs.declared.refusal.ReadError.TheVariants as r
-
--- the exit status
-abbrev pub exit_code : Status → ℕ
-exit_code s.Done = 0
-exit_code s.Faults = 1
-exit_code s.Refused = 2
-exit_code s.Exhausted = 3
-exit_code s.NotWritten = 4
 
 -- all of the output is written
 abbrev pub Writes : Status → Type 0
@@ -47,6 +38,7 @@ failure_of_compiling e.Memory = f.Memory
 failure_of_compiling e.ExtensionIds = f.ExtensionIds
 
 -- why a run has nothing to write whose input could not be had
-abbrev pub failure_of_input : InputError → Failure
-failure_of_input i.CannotRead = f.CannotRead
+abbrev pub failure_of_input : FileError → Failure
+failure_of_input (i.CannotRead error) = f.CannotRead
+failure_of_input i.NotText = f.CannotRead
 failure_of_input i.Memory = f.Memory

@@ -1,5 +1,6 @@
 //! The answer to the words of the command line and an input.
-ghost use Rattle.std.specs.Prelude.{◌≡◌, All, Err, IfErr, IfOk, IfSome, IsErr, OnOk, false, string_bytes};
+ghost use Rattle.std.specs.Prelude.{◌≡◌, All, Err, IfErr, IfOk, IsErr, OnOk, false, string_bytes};
+ghost use Rattle.program_io.specs.Files.{HoldsSome};
 ghost use Rattle.bench_notation.specs.Line.{IsLine, lines_of, texts_of};
 ghost use Rattle.gqltool_run.specs.Commands.{IsAnswerTo, IsCauseOf, IsPrintTo};
 ghost use Rattle.gqltool_run.specs.Prepared.{IsReadyOf, IsReadyTo};
@@ -11,7 +12,6 @@ use crate::coord_command::coord_answer;
 use crate::doc_command::doc_answer;
 use crate::document_building::compile_documents;
 use crate::failure::Failure;
-use crate::input::Input;
 use crate::leaf_command::leaf_answer;
 use crate::prepared::Prepared;
 use crate::schema_command::schema_answer;
@@ -19,12 +19,14 @@ use crate::task::{Task, read_task};
 use crate::walk_command::whole_walk_answer;
 use apollo_coordinate::laws::coordinates;
 use graphql_nodes::collections::hash_keys::HashKeys;
+use program_io::input::Input;
+use program_io::reading::read_text;
 use std::alloc::Global;
 
 /// The answer to these words and all that there is to read.
 ///
 /// `Usage` and `NoCoordinate` come for words that [`read_task`] refuses, and nothing is read then. `CannotRead` comes where
-/// the input can't be read as a text: of [`BytesAtHand`](crate::input::BytesAtHand) only where it isn't UTF-8. `RefusedLine`
+/// the input can't be read as a text: of [`BytesAtHand`](program_io::input::BytesAtHand) only where it isn't UTF-8. `RefusedLine`
 /// tells the first line of it that says nothing where it stands, and `NoDivision` that none divides it, for `doc`, `walk` and
 /// `leaf`. `ExtensionIds` comes only where the numbers don't suffice for the extensions of the input; `Memory` is want of
 /// memory, and says nothing of the words or the input. There is no other error. What was built is left to the end of the process.
@@ -34,8 +36,7 @@ pub fn answer_to<R: Input>(
     words: &[&str],
     reader: &mut R,
 ) -> Result<Answer, Failure>
-    ensures read { OnOk result (IfSome (R.holds reader.old) (λ input. All IsLine (lines_of input))) }
-    ensures means { IfOk result (λ answer. IfSome (R.holds reader.old) (λ input. IsAnswerTo (texts_of words.now) input (string_bytes answer.text) answer.has_faults)) }
+    ensures means { IfOk result (λ answer. HoldsSome (R.holds reader.old) (λ input. IsAnswerTo (texts_of words.now) input (string_bytes answer.text) answer.has_faults)) }
     ensures prints { IfOk result (λ answer. answer.has_faults ≡ false → IsPrintTo (texts_of words.now) (string_bytes answer.text)) }
     ensures causes { IfErr result (IsCauseTo (texts_of words.now) (R.holds reader.old) (R.may_fail reader.old)) }
 
@@ -59,7 +60,6 @@ pub(crate) fn prepare<R: Input>(
     words: &[&str],
     reader: &mut R,
 ) -> Result<Prepared, Failure>
-    ensures read { OnOk result (IfSome (R.holds reader.old) (λ input. All IsLine (lines_of input))) }
     ensures ready { IfOk result (IsReadyTo (texts_of words.now) (R.holds reader.old)) }
     ensures causes { IfErr result (IsCauseTo (texts_of words.now) (R.holds reader.old) (R.may_fail reader.old)) }
     ensures usage { AreNoCommand (texts_of words.now) → (result ≡ Err Failure.Usage) × (reader.new ≡ reader.old) }
@@ -67,7 +67,7 @@ pub(crate) fn prepare<R: Input>(
 {
     coordinates();
     let task = read_task(alloc, words)?;
-    let input = reader.read_all(alloc)?;
+    let input = read_text(alloc, reader)?;
     prepare_task(alloc, keys, &task, input.as_str())
 }
 

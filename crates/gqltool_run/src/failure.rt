@@ -1,10 +1,10 @@
 //! Why a run has nothing to write.
 
-use crate::input::InputError;
-use crate::status::Status;
 use apollo_compiler::compile_error::CompileError;
 use bench_notation::refusal::{ReadError, RefusedLine};
 use graphql_nodes::name::InvalidNameError;
+use program_io::file_error::FileError;
+use program_io::status::Status;
 use std::alloc::AllocError;
 use thiserror::Error;
 
@@ -45,16 +45,16 @@ impl From<AllocError> for Failure {
     }
 }
 
-impl From<InputError> for Failure {
+impl From<FileError> for Failure {
     ghost use Rattle.std.specs.Prelude.{◌≡◌};
     ghost use Rattle.gqltool_run.specs.Status.{failure_of_input};
 
     ghost from_gives = { λ error failure. failure ≡ failure_of_input error };
 
-    fn from(error: InputError) -> Failure {
+    fn from(error: FileError) -> Failure {
         match error {
-            InputError::CannotRead => Failure::CannotRead,
-            InputError::Memory => Failure::Memory,
+            FileError::CannotRead(_) | FileError::NotText => Failure::CannotRead,
+            FileError::Memory => Failure::Memory,
         }
     }
 }

@@ -3,7 +3,7 @@
 //! The law is a function that does nothing. A proof cites it by a call, and finds its clauses there.
 ghost use Rattle.graphql_nodes.specs.Comparing.{ComparesBy};
 
-use crate::status::Status;
+use program_io::status::Status;
 
 /// Ends of runs are equal exactly where they are one.
 pub fn equality_of_statuses()

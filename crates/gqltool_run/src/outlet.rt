@@ -1,6 +1,6 @@
 //! Where a text goes while it is made.
 
-use crate::writing::write_text;
+use program_io::writing::write_text;
 use std::alloc::AllocError;
 use std::io::Write;
 
@@ -30,7 +30,7 @@ const PIECE: usize = 64 * 1024;
 /// What lets a long text out while it is made: any writer, or [`Kept`].
 pub(crate) trait Outlet {
     ghost use Rattle.std.specs.Prelude.{ℕ, List, Option, OnErr, OnOk, length, string_bytes};
-    ghost use Rattle.gqltool_run.specs.Pieces.{GoesOut, IsBegun};
+    ghost use Rattle.program_io.specs.Writing.{GoesOut, IsBegun};
 
     // The bytes that are out, where they are known.
     ghost sent: { Self → Option (List ℕ) };

@@ -1,8 +1,6 @@
 //! The run of the program.
-ghost use Rattle.std.specs.Prelude.{◌≡◌, ℕ, List, OnErr, OnOk, string_bytes};
-ghost use Rattle.std.specs.Io.KnownBytes.{Appends};
+ghost use Rattle.std.specs.Prelude.{◌≡◌, ℕ, List, string_bytes};
 ghost use Rattle.bench_notation.specs.Line.{texts_of};
-ghost use Rattle.gqltool_run.specs.Pieces.{IsBegun};
 ghost use Rattle.gqltool_run.specs.Prepared.{AreLinesOf, has_fault};
 ghost use Rattle.gqltool_run.specs.Runs.{IsRun, IsSentOut, IsWritten};
 ghost use Rattle.gqltool_run.specs.Status.{Writes, status_of};
@@ -10,17 +8,17 @@ ghost use Rattle.gqltool_run.specs.Status.{Writes, status_of};
 use crate::answer::Answer;
 use crate::answering::prepare;
 use crate::failure::Failure;
-use crate::input::Input;
 use crate::leaving::leave;
 use crate::outlet::CutShort;
 use crate::prepared::Prepared;
-use crate::status::Status;
 use crate::walk_command::walk_answer;
-use crate::writing::write_text;
 use apollo_compiler::compiled::Compiled;
 use graphql_nodes::collections::hash_keys::HashKeys;
+use program_io::input::Input;
+use program_io::status::Status;
+use program_io::writing::write_out;
 use std::alloc::Global;
-use std::io::{self, Write};
+use std::io::Write;
 
 /// Runs the program on the words that follow its name, and answers how that ended.
 ///
@@ -117,13 +115,4 @@ fn end_unwritten<E: Write>(errors: &mut E) -> Status
 {
     let _ = writeln!(errors, "cannot write output");
     Status::NotWritten
-}
-
-/// Writes all of a text, and has it written through. The error is the writer's, after which a beginning of the text is written.
-pub fn write_out<O: Write>(output: &mut O, text: &str) -> io::Result<()>
-    ensures written { OnOk result (Appends (O.contents output.old) (O.contents output.new) text.now) }
-    ensures begun { OnErr result (IsBegun text.now (O.contents output.old) (O.contents output.new)) }
-{
-    write_text(output, text)?;
-    output.flush()
 }

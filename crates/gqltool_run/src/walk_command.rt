@@ -5,7 +5,8 @@ ghost use Rattle.apollo_executable.specs.Operations.{all_operations};
 ghost use Rattle.apollo_executable.specs.Walks.WalkView.{IsNewWalk, TakesAllTurns};
 ghost use Rattle.apollo_executable.specs.declared.document.ExecutableDocument.{ExecutableDocument};
 ghost use Rattle.apollo_executable.specs.declared.selection.SelectionSet.{SelectionSet};
-ghost use Rattle.gqltool_run.specs.Pieces.{GoesOut, IsBegun, IsCutShort, IsSaid};
+ghost use Rattle.program_io.specs.Writing.{GoesOut, IsBegun};
+ghost use Rattle.gqltool_run.specs.Pieces.{IsCutShort, IsSaid};
 ghost use Rattle.gqltool_run.specs.Prepared.{AreLinesOf, has_fault};
 ghost use Rattle.gqltool_run.specs.WalkCommand.{AreSetsText, AreWalksText, IsSetText, IsWalkText, fragment_with_line, operation_line, operation_with_line, turns_line};
 

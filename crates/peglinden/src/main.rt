@@ -2,9 +2,9 @@
 #![tactic(auto)]
 
 use graphql_nodes::collections::hash_keys::HashKeys;
-use peglinden_files::system::SystemFiles;
 use peglinden_run::running::run;
-use peglinden_run::status::Status;
+use program_io::status::Status;
+use program_io::system::SystemFiles;
 use std::process::ExitCode;
 use std::{env, io};
 

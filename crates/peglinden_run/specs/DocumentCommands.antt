@@ -1,14 +1,14 @@
--- What the commands on documents over a schema answer: GraphQL specification of October 2021, sections
--- 2.2 to 2.8.
-use Rattle.std.specs.Prelude.{◌≡◌, ℕ, Bool, List, [], Option}
+-- What the commands on documents over a schema answer: GraphQL specification of October 2021, sections 2.2 to 2.8.
+use Rattle.std.specs.Prelude.{ℕ, Bool, List, []}
 use Rattle.apollo_executable.specs.Erasure.{erased_document}
 use Rattle.apollo_executable.specs.declared.document.ExecutableDocument.{ExecutableDocument}
+use Rattle.peglinden_run.specs.declared.answer.Answer.{Answer}
 use Rattle.peglinden_run.specs.declared.document_commands.Shown.{Shown}
 use Rattle.peglinden_run.specs.declared.document_commands.Shown.TheVariants as shown
 use Rattle.peglinden_run.specs.declared.typed_documents.TypedDocument.{TypedDocument}
 use Rattle.peglinden_run.specs.Ended.{ended}
 use Rattle.peglinden_run.specs.FieldsCommand.{fields_text}
-use Rattle.peglinden_run.specs.Findings.{IsShown, any_fault}
+use Rattle.peglinden_run.specs.Findings.{IsAnswerOf, found_in}
 use Rattle.peglinden_run.specs.TypedDocuments.{IsTyped}
 
 -- what a command writes of a typed document
@@ -17,11 +17,9 @@ output_of shown.Nothing document = []
 output_of shown.WriteOut document = ended (erased_document document).definitions
 output_of shown.Fields document = fields_text document
 
--- the text is what the command writes of the typed document of files over the schema of files, where
--- `held` is the bytes under each path, if they are known; or with the flag it is what JSON says of all
--- faults
-pub record IsDocumentAnswer (held : List ℕ → Option (List ℕ)) (what : Shown) (json : Bool) (schema_paths document_paths : List (List ℕ)) (text : List ℕ) (has_faults : Bool) : Type 0 where
+-- the answer is what the command writes of the typed document of files over the schema of files, where `held` says which bytes the file of
+-- a path may hold; or with the flag what JSON says of all faults
+pub record IsDocumentAnswer (held : List ℕ → List ℕ → Type 0) (what : Shown) (json : Bool) (schema_paths document_paths : List (List ℕ)) (answer : Answer) : Type 0 where
   pub typed : TypedDocument
-  pub is : IsTyped held schema_paths document_paths typed
-  pub shows : IsShown json typed.findings.schema_faults.items typed.findings.document_faults.items typed.findings.leaf_faults.items (output_of what typed.document) text
-  pub any : has_faults ≡ any_fault typed.findings.schema_faults.items typed.findings.document_faults.items typed.findings.leaf_faults.items
+  pub is_typed : IsTyped held schema_paths document_paths typed
+  pub is : IsAnswerOf json (found_in typed.findings) (output_of what typed.document) answer

@@ -1,30 +1,95 @@
 -- What a command shows of what is at fault.
-use Rattle.std.specs.Prelude.{◌≡◌, ◌++◌, ◌==◌, ◌&&◌, ℕ, Bool, true, false, not, List, length}
+use Rattle.std.specs.Prelude.{◌≡◌, ◌++◌, ◌+◌, ◌-◌, ◌^◌, ◌==◌, ◌&&◌, ℕ, min, Bool, true, false, not, List, [], length, string_bytes}
+use Rattle.graphql_nodes.specs.Sources.{Files}
 use Rattle.apollo_elaboration.specs.Typable.{Fault as DocumentFault}
 use Rattle.apollo_meaning.specs.Faults.Collisions.{Fault}
+use Rattle.apollo_reporting.specs.DocumentFaults.{document_fault_about}
+use Rattle.apollo_reporting.specs.SchemaFaults.{schema_fault_about}
+use Rattle.leafcheck.specs.FaultReports.{leaf_fault_about}
 use Rattle.leafcheck.specs.declared.leaf_fault.LeafFault.{LeafFault}
-use Rattle.peglinden_run.specs.Reports.{AreJsonLines}
+use Rattle.peglinden_run.specs.declared.answer.Answer.{Answer}
+use Rattle.peglinden_run.specs.declared.findings.Findings.{Findings}
+use Rattle.peglinden_run.specs.Reports.{IsJsonLine, IsReport, SaysEach, count_line}
 
--- In all of this the faults are those of a schema, of a document, and leaf faults.
+-- what is at fault in a schema, in a document and as leaves, and the source files that it stands in
+pub record Found : Type 0 where
+  pub sources : Files
+  pub schema : List Fault
+  pub document : List DocumentFault
+  pub leaves : List LeafFault
+
+-- what is at fault of these findings
+abbrev pub found_in : Findings → Found
+found_in findings = record { sources = findings.sources; schema = findings.schema_faults.items; document = findings.document_faults.items; leaves = findings.leaf_faults.items }
+
+-- what is at fault in a schema alone
+abbrev pub of_schema : Files → List Fault → Found
+of_schema sources faults = record { sources = sources; schema = faults; document = []; leaves = [] }
 
 -- whether anything is at fault
-abbrev pub any_fault : List Fault → List DocumentFault → List LeafFault → Bool
-any_fault schema document leaves = not (((length schema == 0) && (length document == 0)) && (length leaves == 0))
+abbrev pub any_fault : Found → Bool
+any_fault found = not (((length found.schema == 0) && (length found.document == 0)) && (length found.leaves == 0))
 
--- one line of JSON for each fault, in order
-pub record AreAllJsonLines (schema : List Fault) (document : List DocumentFault) (leaves : List LeafFault) (lines : List ℕ) : Type 0 where
+-- how many faults there are, or the greatest number where they are more
+abbrev pub fault_count : Found → ℕ
+fault_count found = min (length found.schema + length found.document + length found.leaves) (2 ^ 64 - 1)
+
+-- the report of a fault of a schema
+abbrev pub IsSchemaReport : Files → Fault → List ℕ → Type 0
+IsSchemaReport sources fault text = IsReport sources fault.0 (schema_fault_about fault.1) text
+
+-- the report of a fault of a document
+abbrev pub IsDocumentReport : Files → DocumentFault → List ℕ → Type 0
+IsDocumentReport sources fault text = IsReport sources fault.0 (document_fault_about fault.1) text
+
+-- the report of a leaf fault
+abbrev pub IsLeafReport : Files → LeafFault → List ℕ → Type 0
+IsLeafReport sources fault text = IsReport sources fault.location (leaf_fault_about fault) text
+
+-- a fault of a schema as a line of JSON
+abbrev pub IsSchemaLine : Files → Fault → List ℕ → Type 0
+IsSchemaLine sources fault text = IsJsonLine sources fault.0 (schema_fault_about fault.1) text
+
+-- a fault of a document as a line of JSON
+abbrev pub IsDocumentLine : Files → DocumentFault → List ℕ → Type 0
+IsDocumentLine sources fault text = IsJsonLine sources fault.0 (document_fault_about fault.1) text
+
+-- a leaf fault as a line of JSON
+abbrev pub IsLeafLine : Files → LeafFault → List ℕ → Type 0
+IsLeafLine sources fault text = IsJsonLine sources fault.location (leaf_fault_about fault) text
+
+-- the reports of all that is at fault, in order, and how much that is
+pub record AreReports (found : Found) (text : List ℕ) : Type 0 where
+  -- the reports of the schema's faults
+  pub of_schema : List ℕ
+  pub schema : SaysEach (IsSchemaReport found.sources) found.schema of_schema
+  -- the reports of the document's faults
+  pub of_document : List ℕ
+  pub document : SaysEach (IsDocumentReport found.sources) found.document of_document
+  -- the reports of the leaf faults
+  pub of_leaves : List ℕ
+  pub leaves : SaysEach (IsLeafReport found.sources) found.leaves of_leaves
+  pub are : text ≡ of_schema ++ of_document ++ of_leaves ++ count_line (fault_count found)
+
+-- a line of JSON for each thing that is at fault, in order
+pub record AreJsonLines (found : Found) (text : List ℕ) : Type 0 where
   -- the lines of the schema's faults
   pub of_schema : List ℕ
-  pub schema_says : AreJsonLines schema of_schema
+  pub schema : SaysEach (IsSchemaLine found.sources) found.schema of_schema
   -- the lines of the document's faults
   pub of_document : List ℕ
-  pub document_says : AreJsonLines document of_document
+  pub document : SaysEach (IsDocumentLine found.sources) found.document of_document
   -- the lines of the leaf faults
   pub of_leaves : List ℕ
-  pub leaves_say : AreJsonLines leaves of_leaves
-  pub are : lines ≡ of_schema ++ of_document ++ of_leaves
+  pub leaves : SaysEach (IsLeafLine found.sources) found.leaves of_leaves
+  pub are : text ≡ of_schema ++ of_document ++ of_leaves
 
--- the text is the output of a command, or with the flag the lines of JSON
-abbrev pub IsShown : Bool → List Fault → List DocumentFault → List LeafFault → List ℕ → List ℕ → Type 0
-IsShown false schema document leaves output text = text ≡ output
-IsShown true schema document leaves output text = AreAllJsonLines schema document leaves text
+-- what is written: the output of a command, and on standard error the reports; or with the flag the lines of JSON alone
+abbrev pub IsShown : Bool → Found → List ℕ → Answer → Type 0
+IsShown false found output answer = (string_bytes answer.output ≡ output) × AreReports found (string_bytes answer.errors)
+IsShown true found output answer = AreJsonLines found (string_bytes answer.output) × (string_bytes answer.errors ≡ [])
+
+-- the answer shows that, and whether anything is at fault
+pub record IsAnswerOf (json : Bool) (found : Found) (output : List ℕ) (answer : Answer) : Type 0 where
+  pub shows : IsShown json found output answer
+  pub any : answer.has_faults ≡ any_fault found

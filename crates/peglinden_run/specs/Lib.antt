@@ -7,6 +7,7 @@ pub mod FormatCommand
 pub mod LookedUp
 pub mod LookupCommand
 pub mod Naming
+pub mod RefusedFiles
 pub mod Reports
 pub mod Requests
 pub mod Runs

@@ -1,9 +1,5 @@
--- What the command `lookup` answers: Schema Coordinates RFC, and GraphQL specification of October 2021,
--- section 3.
-use Rattle.std.specs.Prelude.{◌≡◌, ◌++◌, ◌==◌, if◌then◌else◌, ℕ, Bool, true, false, not, ◌||◌, List, [], Option, None, Some, codes}
-use Rattle.graphql_nodes.specs.PlaceTexts.{place_text}
-use Rattle.graphql_nodes.specs.Sources.{Files}
-use Rattle.graphql_nodes.specs.declared.source.SourceSpan.{SourceSpan}
+-- What the command `lookup` answers: Schema Coordinates RFC, and GraphQL specification of October 2021, section 3.
+use Rattle.std.specs.Prelude.{◌≡◌, ℕ, Bool, true, false, List, [], string_bytes}
 use Rattle.apollo_coordinate.specs.CoordinateLookups.{PointsTo, PointsToNothing}
 use Rattle.apollo_coordinate.specs.CoordinateText.{IsCoordinateText, SaysCoordinate}
 use Rattle.apollo_coordinate.specs.declared.coordinates.SchemaCoordinate.{SchemaCoordinate}
@@ -12,40 +8,34 @@ use Rattle.apollo_coordinate.specs.declared.lookup_answers.SchemaLookupError.{Sc
 use Rattle.apollo_meaning.specs.Faults.Collisions.{Fault}
 use Rattle.apollo_schema.specs.declared.schema.Schema.{Schema}
 use Rattle.apollo_compiler.specs.Lists.{no_options}
+use Rattle.peglinden_run.specs.declared.answer.Answer.{Answer}
 use Rattle.peglinden_run.specs.declared.failure.Failure.{Failure}
 use Rattle.peglinden_run.specs.declared.failure.Failure.TheVariants as failures
-use Rattle.peglinden_run.specs.Ended.{ended}
-use Rattle.peglinden_run.specs.Findings.{any_fault}
-use Rattle.peglinden_run.specs.LookedUp.{found_definitions, found_location}
+use Rattle.peglinden_run.specs.LookedUp.{found_text}
 use Rattle.peglinden_run.specs.SchemaCommand.{IsSchemaCause, IsSchemaOf}
 
--- a comment that says where something stands; what stands in no file is built-in
-abbrev pub place_comment : Files → Option SourceSpan → List ℕ
-place_comment files (Some span) = if span.file.0 == 0 then codes "# built-in\n" else codes "# " ++ place_text span files ++ codes "\n"
-place_comment files None = codes "# built-in\n"
+-- the coordinate points to something, of which the text is written, and nothing is reported
+abbrev pub Finds : Schema → SchemaCoordinate → Answer → Type 0
+Finds schema coordinate answer = (found : SchemaCoordinateLookup) × (PointsTo schema coordinate found × (string_bytes answer.output ≡ found_text schema.sources found) × (string_bytes answer.errors ≡ []))
 
--- what is written of what a coordinate points to: where that stands, and the definitions that show it
-abbrev pub found_text : Schema → SchemaCoordinate → SchemaCoordinateLookup → List ℕ
-found_text schema coordinate found = place_comment schema.sources (found_location found) ++ ended (found_definitions schema coordinate found)
+-- it points to nothing, and nothing is written
+abbrev pub FindsNothing : Schema → SchemaCoordinate → Answer → Type 0
+FindsNothing schema coordinate answer = (error : SchemaLookupError) × (PointsToNothing schema coordinate error × (string_bytes answer.output ≡ []))
 
--- whether the coordinate points to something: then the text is what is written of that, and else it is
--- empty
-abbrev pub IsFinding : Schema → SchemaCoordinate → Bool → List ℕ → Type 0
-IsFinding schema coordinate true text = (found : SchemaCoordinateLookup) × (PointsTo schema coordinate found × (text ≡ found_text schema coordinate found))
-IsFinding schema coordinate false text = (error : SchemaLookupError) × (PointsToNothing schema coordinate error × (text ≡ []))
+-- at fault is what points to nothing, and that alone
+abbrev pub IsFinding : Schema → SchemaCoordinate → Bool → Answer → Type 0
+IsFinding schema coordinate false answer = Finds schema coordinate answer
+IsFinding schema coordinate true answer = FindsNothing schema coordinate answer
 
--- the text is the answer to the coordinate that a text says and to files, where `held` is the bytes under
--- each path, if they are known
-pub record IsLookupAnswer (held : List ℕ → Option (List ℕ)) (coordinate_text : List ℕ) (paths : List (List ℕ)) (text : List ℕ) (has_faults : Bool) : Type 0 where
+-- the answer is that to the coordinate that a text says and to files, where `held` says which bytes the file of a path may hold; what is at
+-- fault in the schema is passed over
+pub record IsLookupAnswer (held : List ℕ → List ℕ → Type 0) (coordinate_text : List ℕ) (paths : List (List ℕ)) (answer : Answer) : Type 0 where
   pub coordinate : SchemaCoordinate
   pub says : SaysCoordinate coordinate_text coordinate
   pub schema : Schema
   pub faults : List Fault
   pub means : IsSchemaOf held no_options paths schema faults
-  -- whether the coordinate points to something
-  pub is_found : Bool
-  pub finds : IsFinding schema coordinate is_found text
-  pub any : has_faults ≡ (not is_found || any_fault faults [] [])
+  pub finds : IsFinding schema coordinate answer.has_faults answer
 
 -- why a text says no coordinate; that memory ran out says nothing of it
 abbrev pub IsCoordinateCause : List ℕ → Failure → Type 0
@@ -54,6 +44,6 @@ IsCoordinateCause text failures.Memory = Unit {0}
 IsCoordinateCause text _ = ⊥
 
 -- why there is no answer: the text says no coordinate, or the files make no schema
-abbrev pub IsLookupCause : (List ℕ → Option (List ℕ)) → (List ℕ → Type 0) → List ℕ → List (List ℕ) → Failure → Type 0
+abbrev pub IsLookupCause : (List ℕ → List ℕ → Type 0) → (List ℕ → Type 0) → List ℕ → List (List ℕ) → Failure → Type 0
 IsLookupCause held may_fail text paths (failures.NoCoordinate sentence) = ¬ IsCoordinateText text
 IsLookupCause held may_fail text paths failure = IsSchemaCause held may_fail no_options paths failure

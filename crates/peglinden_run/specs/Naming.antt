@@ -2,7 +2,7 @@
 use Rattle.std.specs.Prelude.{ℕ, Bool, List, ◌||◌}
 use Rattle.std.specs.Borrow.{Bor}
 use Rattle.std.specs.List.{list_any}
-use Rattle.peglinden_files.specs.Files.{is_input}
+use Rattle.program_io.specs.Files.{is_input}
 use Rattle.peglinden_words.specs.declared.request.Request.{Request}
 use Rattle.peglinden_words.specs.declared.request.Request.TheVariants as requests
 

@@ -1,11 +1,32 @@
 -- What is written of faults.
-use Rattle.std.specs.Prelude.{◌≡◌, ◌++◌, ℕ, List, [], ◌∷◌, codes}
+use Rattle.std.specs.Prelude.{◌≡◌, ◌++◌, ℕ, suc, List, [], ◌∷◌, Option, codes}
+use Rattle.graphql_nodes.specs.Sources.{Files}
+use Rattle.graphql_nodes.specs.declared.source.SourceSpan.{SourceSpan}
+use Rattle.serde_json.specs.Written.{compact_text}
+use Rattle.apollo_reporting.specs.Abouts.{AboutView}
+use Rattle.apollo_reporting.specs.Counts.{count_text}
+use Rattle.apollo_reporting.specs.FaultData.{fault_data}
+use Rattle.apollo_reporting.specs.Reports.{report_text}
+use Rattle.apollo_reporting.specs.declared.detail.Detail.{Detail}
 
--- a line of JSON, which says this of a fault
-abbrev pub json_line : List ℕ → List ℕ
-json_line said = said ++ codes "\n"
+-- the text is the report of a fault at this location, with an empty line behind it
+abbrev pub IsReport : Files → Option SourceSpan → AboutView → List ℕ → Type 0
+IsReport files location about text = (said : List ℕ) × (text ≡ report_text files location about said ++ codes "\n")
 
--- one line of JSON for each of these faults, in order, which says something of it
-abbrev pub AreJsonLines : {E : Type 0} → List E → List ℕ → Type 0
-AreJsonLines [] lines = lines ≡ []
-AreJsonLines (fault ∷ faults) lines = (said : List ℕ) × ((rest : List ℕ) × ((lines ≡ json_line said ++ rest) × AreJsonLines faults rest))
+-- the text is the JSON of a fault at this location, as a line
+abbrev pub IsJsonLine : Files → Option SourceSpan → AboutView → List ℕ → Type 0
+IsJsonLine files location about text = (said : List ℕ) × ((details : List Detail) × (text ≡ compact_text (fault_data files location about said details) ++ codes "\n"))
+
+-- behind what was there a text stands of which P holds
+abbrev pub Adds : (List ℕ → Type 0) → List ℕ → List ℕ → Type 0
+Adds P old new = (added : List ℕ) × ((new ≡ old ++ added) × P added)
+
+-- the text is one after the other, in order, of which `Says` holds of each of these
+abbrev pub SaysEach : {A : Type 0} → (A → List ℕ → Type 0) → List A → List ℕ → Type 0
+SaysEach Says [] text = text ≡ []
+SaysEach Says (x ∷ xs) text = (first : List ℕ) × ((rest : List ℕ) × ((text ≡ first ++ rest) × (Says x first × SaysEach Says xs rest)))
+
+-- how many faults there are, on a line, or nothing where there is none
+abbrev pub count_line : ℕ → List ℕ
+count_line 0 = []
+count_line (suc n) = count_text (suc n) ++ codes "\n"

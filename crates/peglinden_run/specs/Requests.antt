@@ -1,31 +1,31 @@
 -- The answers to requests, and why there are none.
-use Rattle.std.specs.Prelude.{ℕ, Bool, List, Option}
+use Rattle.std.specs.Prelude.{ℕ, List}
 use Rattle.peglinden_words.specs.declared.request.Request.{Request}
 use Rattle.peglinden_words.specs.declared.request.Request.TheVariants as requests
+use Rattle.peglinden_run.specs.declared.answer.Answer.{Answer}
 use Rattle.peglinden_run.specs.declared.document_commands.Shown.TheVariants as shown
 use Rattle.peglinden_run.specs.declared.failure.Failure.{Failure}
 use Rattle.peglinden_run.specs.Documents.{texts_of}
 use Rattle.peglinden_run.specs.DocumentCommands.{IsDocumentAnswer}
 use Rattle.peglinden_run.specs.FormatCommand.{IsFormatAnswer}
 use Rattle.peglinden_run.specs.LookupCommand.{IsLookupAnswer, IsLookupCause}
+use Rattle.peglinden_run.specs.RefusedFiles.{IsFilesCause}
 use Rattle.peglinden_run.specs.SchemaCommand.{IsSchemaAnswer, IsSchemaCause}
-use Rattle.peglinden_run.specs.Status.{IsFilesCause}
 use Rattle.peglinden_run.specs.TypedDocuments.{IsTypedCause}
 
--- In all of this `held` is the bytes under each path, if they are known, and reading a path may fail for
--- `may_fail`.
+-- In all of this `held` says which bytes the file of a path may hold, and `may_fail` whether reading it may fail.
 
--- the text is the answer to the request, with something at fault or not
-abbrev pub IsAnswerTo : Request → (List ℕ → Option (List ℕ)) → List ℕ → Bool → Type 0
-IsAnswerTo (requests.Schema adopt ignore_builtin json files) held text has_faults = IsSchemaAnswer held (record { adopt_orphan_extensions = adopt; ignore_builtin_redefinitions = ignore_builtin }) json (texts_of files.items) text has_faults
-IsAnswerTo (requests.Check json schema documents) held text has_faults = IsDocumentAnswer held shown.Nothing json (texts_of schema.items) (texts_of documents.items) text has_faults
-IsAnswerTo (requests.Typed json schema documents) held text has_faults = IsDocumentAnswer held shown.WriteOut json (texts_of schema.items) (texts_of documents.items) text has_faults
-IsAnswerTo (requests.Fields json schema documents) held text has_faults = IsDocumentAnswer held shown.Fields json (texts_of schema.items) (texts_of documents.items) text has_faults
-IsAnswerTo (requests.Lookup coordinate files) held text has_faults = IsLookupAnswer held coordinate.now (texts_of files.items) text has_faults
-IsAnswerTo (requests.Format check files) held text has_faults = IsFormatAnswer held check (texts_of files.items) text has_faults
+-- the answer is one to the request
+abbrev pub IsAnswerTo : Request → (List ℕ → List ℕ → Type 0) → Answer → Type 0
+IsAnswerTo (requests.Schema adopt ignore_builtin json files) held answer = IsSchemaAnswer held (record { adopt_orphan_extensions = adopt; ignore_builtin_redefinitions = ignore_builtin }) json (texts_of files.items) answer
+IsAnswerTo (requests.Check json schema documents) held answer = IsDocumentAnswer held shown.Nothing json (texts_of schema.items) (texts_of documents.items) answer
+IsAnswerTo (requests.Typed json schema documents) held answer = IsDocumentAnswer held shown.WriteOut json (texts_of schema.items) (texts_of documents.items) answer
+IsAnswerTo (requests.Fields json schema documents) held answer = IsDocumentAnswer held shown.Fields json (texts_of schema.items) (texts_of documents.items) answer
+IsAnswerTo (requests.Lookup coordinate files) held answer = IsLookupAnswer held coordinate.now (texts_of files.items) answer
+IsAnswerTo (requests.Format check files) held answer = IsFormatAnswer held check (texts_of files.items) answer
 
 -- why there is no answer to the request
-abbrev pub IsCauseTo : Request → (List ℕ → Option (List ℕ)) → (List ℕ → Type 0) → Failure → Type 0
+abbrev pub IsCauseTo : Request → (List ℕ → List ℕ → Type 0) → (List ℕ → Type 0) → Failure → Type 0
 IsCauseTo (requests.Schema adopt ignore_builtin json files) held may_fail failure = IsSchemaCause held may_fail (record { adopt_orphan_extensions = adopt; ignore_builtin_redefinitions = ignore_builtin }) (texts_of files.items) failure
 IsCauseTo (requests.Check json schema documents) held may_fail failure = IsTypedCause held may_fail (texts_of schema.items) (texts_of documents.items) failure
 IsCauseTo (requests.Typed json schema documents) held may_fail failure = IsTypedCause held may_fail (texts_of schema.items) (texts_of documents.items) failure

@@ -1,21 +1,23 @@
 -- How a run ends.
-use Rattle.std.specs.Prelude.{◌≡◌, ◌⊎◌, ℕ, Bool, true, false, List, Option, None, Some, IfSome}
+use Rattle.std.specs.Prelude.{◌≡◌, ◌⊎◌, ℕ, Bool, true, false, List, Option, None, Some, string_bytes}
 use Rattle.std.specs.Io.KnownBytes.{Appends}
-use Rattle.peglinden_files.specs.Files.{may_fail_with_input, with_input}
 use Rattle.clap.specs.Walk.{Text}
+use Rattle.program_io.specs.Files.{may_fail_with_input, with_input}
+use Rattle.program_io.specs.Writing.{IsBegun}
+use Rattle.program_io.specs.declared.status.Status.{Status}
+use Rattle.program_io.specs.declared.status.Status.TheVariants as s
 use Rattle.peglinden_words.specs.Refusals.{are_mistaken, call_for_help}
 use Rattle.peglinden_words.specs.Requests.{asked, asked_of}
 use Rattle.peglinden_words.specs.declared.request.Request.{Request}
+use Rattle.peglinden_run.specs.declared.answer.Answer.{Answer}
 use Rattle.peglinden_run.specs.declared.failure.Failure.{Failure}
-use Rattle.peglinden_run.specs.declared.status.Status.{Status}
-use Rattle.peglinden_run.specs.declared.status.Status.TheVariants as s
 use Rattle.peglinden_run.specs.Naming.{names_input}
 use Rattle.peglinden_run.specs.Requests.{IsAnswerTo, IsCauseTo}
-use Rattle.peglinden_run.specs.Status.{status_of}
+use Rattle.peglinden_run.specs.Status.{message_of, status_of}
 
--- In all of this `held` is the bytes under each path, if they are known, and reading a path may fail for
--- `may_fail`; `old` is what stood on standard output before, and `new` what stands there now, if these
--- bytes are known.
+-- In all of this `held` says which bytes the file of a path may hold, and `may_fail` whether reading it may fail; `old` is what stood on
+-- standard output before, and `new` what stands there now, and so `old_errors` and `new_errors` on standard error, if these bytes are
+-- known.
 
 -- the run has no answer
 abbrev pub IsUnanswered : Status → Type 0
@@ -23,68 +25,59 @@ IsUnanswered s.Refused = Unit {0}
 IsUnanswered s.Exhausted = Unit {0}
 IsUnanswered _ = ⊥
 
--- a run that has its whole output ends so: it is appended, and whether something is at fault decides; or
--- the writer failed, or its flush did
-abbrev pub IsWritten : List ℕ → Bool → Option (List ℕ) → Option (List ℕ) → Status → Type 0
-IsWritten text has_faults old new s.Done = (has_faults ≡ false) × Appends old new text
-IsWritten text has_faults old new s.Faults = (has_faults ≡ true) × Appends old new text
-IsWritten text has_faults old new s.NotWritten = Unit {0}
-IsWritten text has_faults old new _ = ⊥
+-- a run that has its whole text ends so: it is appended; or the writer failed, or its flush did, and a beginning of it is appended
+abbrev pub IsTextWritten : List ℕ → Option (List ℕ) → Option (List ℕ) → Status → Type 0
+IsTextWritten text old new s.Done = Appends old new text
+IsTextWritten text old new s.NotWritten = IsBegun text old new
+IsTextWritten text old new _ = ⊥
 
--- the answer to the request is appended, with something at fault or not
-abbrev pub AppendsAnswer : Request → (List ℕ → Option (List ℕ)) → Bool → Option (List ℕ) → Option (List ℕ) → Type 0
-AppendsAnswer request held has_faults old new = (text : List ℕ) × (IsAnswerTo request held text has_faults × Appends old new text)
+-- a run that has its whole answer ends so: the output is appended, and whether something is at fault decides; then a beginning of the
+-- reports is appended on standard error, and all of them unless that writer fails; or a beginning of the output is appended
+abbrev pub IsWritten : Answer → Option (List ℕ) → Option (List ℕ) → Option (List ℕ) → Option (List ℕ) → Status → Type 0
+IsWritten answer old new old_errors new_errors s.Done = (answer.has_faults ≡ false) × Appends old new (string_bytes answer.output)
+IsWritten answer old new old_errors new_errors s.Faults = (answer.has_faults ≡ true) × Appends old new (string_bytes answer.output) × IsBegun (string_bytes answer.errors) old_errors new_errors
+IsWritten answer old new old_errors new_errors s.NotWritten = IsBegun (string_bytes answer.output) old new
+IsWritten answer old new old_errors new_errors _ = ⊥
 
--- the request has an answer
-abbrev pub HasAnswer : Request → (List ℕ → Option (List ℕ)) → Type 0
-HasAnswer request held = (text : List ℕ) × ((has_faults : Bool) × IsAnswerTo request held text has_faults)
+-- the request has an answer, and a run that has it ends so
+abbrev pub WritesAnswer : Request → (List ℕ → List ℕ → Type 0) → Option (List ℕ) → Option (List ℕ) → Option (List ℕ) → Option (List ℕ) → Status → Type 0
+WritesAnswer request held old new old_errors new_errors status = (answer : Answer) × (IsAnswerTo request held answer × IsWritten answer old new old_errors new_errors status)
 
--- there is a cause for which the request has no answer, and it ends a run so
-abbrev pub HasCause : Request → (List ℕ → Option (List ℕ)) → (List ℕ → Type 0) → Status → Type 0
-HasCause request held may_fail status = (failure : Failure) × ((status_of failure ≡ status) × IsCauseTo request held may_fail failure)
+-- there is a cause for which the request has no answer, and it ends a run so; a beginning of what is reported of it is appended on standard
+-- error, and all of it unless that writer fails
+abbrev pub HasCause : Request → (List ℕ → List ℕ → Type 0) → (List ℕ → Type 0) → Option (List ℕ) → Option (List ℕ) → Status → Type 0
+HasCause request held may_fail old_errors new_errors status = (failure : Failure) × ((status_of failure ≡ status) × IsCauseTo request held may_fail failure × IsBegun (message_of failure) old_errors new_errors)
 
--- a run on the request over these files may end so: its answer is appended, or isn't written, or there is
--- a cause for which it has none
-abbrev pub MayEnd : Request → (List ℕ → Option (List ℕ)) → (List ℕ → Type 0) → Option (List ℕ) → Option (List ℕ) → Status → Type 0
-MayEnd request held may_fail old new s.Done = AppendsAnswer request held false old new
-MayEnd request held may_fail old new s.Faults = AppendsAnswer request held true old new
-MayEnd request held may_fail old new s.Refused = HasCause request held may_fail s.Refused
-MayEnd request held may_fail old new s.Exhausted = HasCause request held may_fail s.Exhausted
-MayEnd request held may_fail old new s.NotWritten = HasAnswer request held
+-- a run on the request over these files may end so: there is a cause for which it has no answer, or its answer is written, to its end or
+-- in part
+abbrev pub MayEnd : Request → (List ℕ → List ℕ → Type 0) → (List ℕ → Type 0) → Option (List ℕ) → Option (List ℕ) → Option (List ℕ) → Option (List ℕ) → Status → Type 0
+MayEnd request held may_fail old new old_errors new_errors s.Refused = HasCause request held may_fail old_errors new_errors s.Refused
+MayEnd request held may_fail old new old_errors new_errors s.Exhausted = HasCause request held may_fail old_errors new_errors s.Exhausted
+MayEnd request held may_fail old new old_errors new_errors status = WritesAnswer request held old new old_errors new_errors status
 
--- standard input held these bytes, which are the known ones, and a run over the files and them may end
--- so; or reading it failed
-abbrev pub MayEndWithInput : Request → Option (List ℕ) → (List ℕ → Option (List ℕ)) → (List ℕ → Type 0) → Option (List ℕ) → Option (List ℕ) → Status → Type 0
-MayEndWithInput request remaining held may_fail old new status =
-    ((input : List ℕ) × (IfSome remaining (λ bytes. input ≡ bytes) × MayEnd request (with_input input held) (may_fail_with_input may_fail) old new status)) ⊎ IsUnanswered status
+-- a run over the files and standard input may end so: standard input gave these bytes, which it may hold; or it failed, which it may, and
+-- holds nothing; or memory ran out while it was read, and it neither holds anything nor fails
+abbrev pub MayEndWithInput : Request → (List ℕ → Type 0) → Type 0 → (List ℕ → List ℕ → Type 0) → (List ℕ → Type 0) → Option (List ℕ) → Option (List ℕ) → Option (List ℕ) → Option (List ℕ) → Status → Type 0
+MayEndWithInput request input_held input_may_fail held may_fail old new old_errors new_errors status =
+    ((input : List ℕ) × (input_held input × MayEnd request (with_input (λ bytes. bytes ≡ input) held) (may_fail_with_input ⊥ may_fail) old new old_errors new_errors status))
+    ⊎ ((input_may_fail × MayEnd request (with_input (λ bytes. ⊥) held) (may_fail_with_input (Unit {0}) may_fail) old new old_errors new_errors status)
+    ⊎ MayEnd request (with_input (λ bytes. ⊥) held) (may_fail_with_input ⊥ may_fail) old new old_errors new_errors status)
 
 -- a run may end so: with the flag the request names standard input, and else that is left as it was
-abbrev pub EndsAs : {R : Type 0} → Bool → Request → Option (List ℕ) → (List ℕ → Option (List ℕ)) → (List ℕ → Type 0) → R → R → Option (List ℕ) → Option (List ℕ) → Status → Type 0
-EndsAs false request remaining held may_fail reader reader_after old new status = MayEnd request held may_fail old new status × (reader_after ≡ reader)
-EndsAs true request remaining held may_fail reader reader_after old new status = MayEndWithInput request remaining held may_fail old new status
+abbrev pub EndsAs : {R : Type 0} → Bool → Request → (List ℕ → Type 0) → Type 0 → (List ℕ → List ℕ → Type 0) → (List ℕ → Type 0) → R → R → Option (List ℕ) → Option (List ℕ) → Option (List ℕ) → Option (List ℕ) → Status → Type 0
+EndsAs false request input_held input_may_fail held may_fail reader reader_after old new old_errors new_errors status = MayEnd request held may_fail old new old_errors new_errors status × (reader_after ≡ reader)
+EndsAs true request input_held input_may_fail held may_fail reader reader_after old new old_errors new_errors status = MayEndWithInput request input_held input_may_fail held may_fail old new old_errors new_errors status
 
--- a run on the request that ended so, where a reader has this left, if it is known, with its reader and
--- its writers before it and after it
-pub record IsRunOf {R O E : Type 0} (request : Request) (named : Bool) (remaining : Option (List ℕ)) (held : List ℕ → Option (List ℕ)) (may_fail : List ℕ → Type 0) (contents : O → Option (List ℕ)) (reader reader_after : R) (output output_after : O) (errors errors_after : E) (status : Status) : Type 0 where
-  -- what it wrote, and how it ended, is as it may be
-  pub ends : EndsAs named request remaining held may_fail reader reader_after (contents output) (contents output_after) status
-  -- where it has no answer it wrote nothing
-  pub unanswered : IsUnanswered status → output_after ≡ output
-  -- where nothing is at fault, nothing is reported
-  pub quiet : status ≡ s.Done → errors_after ≡ errors
-
--- a run on words that ask for nothing may end so: they call for help or for the version, and a text is
--- appended, or isn't written; or they are a mistake; that memory ran out says nothing of them
+-- a run on words that ask for nothing may end so: they call for help or for the version, and a text is appended, or a beginning of it; or
+-- they are a mistake; that memory ran out says nothing of them
 abbrev pub IsUnasked : List Text → Option (List ℕ) → Option (List ℕ) → Status → Type 0
-IsUnasked words old new s.Done = (asked words ≡ None) × (call_for_help words ≡ true) × ((text : List ℕ) × Appends old new text)
 IsUnasked words old new s.Faults = ⊥
 IsUnasked words old new s.Refused = (asked words ≡ None) × (are_mistaken words ≡ true)
 IsUnasked words old new s.Exhausted = Unit {0}
-IsUnasked words old new s.NotWritten = (asked words ≡ None) × (call_for_help words ≡ true)
+IsUnasked words old new status = (asked words ≡ None) × (call_for_help words ≡ true) × ((text : List ℕ) × IsTextWritten text old new status)
 
--- a run on words that ended so: it is the run on the request that they make, or they ask for nothing, and
--- standard input is left as it was
-abbrev pub IsRunOn : {R O E : Type 0} → List Text → Option (List ℕ) → (List ℕ → Option (List ℕ)) → (List ℕ → Type 0) → (O → Option (List ℕ)) → R → R → O → O → E → E → Status → Type 0
-IsRunOn words remaining held may_fail contents reader reader_after output output_after errors errors_after status =
-    ((request : Request) × ((asked words ≡ Some (asked_of request)) × IsRunOf request (names_input request) remaining held may_fail contents reader reader_after output output_after errors errors_after status))
-    ⊎ (IsUnasked words (contents output) (contents output_after) status × (reader_after ≡ reader))
+-- a run on words that ended so: it is the run on the request that they make, or they ask for nothing, and standard input is left as it was
+abbrev pub IsRunOn : {R : Type 0} → List Text → (List ℕ → Type 0) → Type 0 → (List ℕ → List ℕ → Type 0) → (List ℕ → Type 0) → R → R → Option (List ℕ) → Option (List ℕ) → Option (List ℕ) → Option (List ℕ) → Status → Type 0
+IsRunOn words input_held input_may_fail held may_fail reader reader_after old new old_errors new_errors status =
+    ((request : Request) × ((asked words ≡ Some (asked_of request)) × EndsAs (names_input request) request input_held input_may_fail held may_fail reader reader_after old new old_errors new_errors status))
+    ⊎ (IsUnasked words old new status × (reader_after ≡ reader))

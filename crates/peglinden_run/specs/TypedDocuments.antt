@@ -1,6 +1,6 @@
--- Documents of files, typed over the schema of files: GraphQL specification of October 2021, sections 2.2
--- to 2.8 and 3.
-use Rattle.std.specs.Prelude.{◌≡◌, ◌++◌, ℕ, true, false, List, Option, Some, length, take, drop}
+-- Documents of files, typed over the schema of files: GraphQL specification of October 2021, sections 2.2 to 2.8 and 3.
+use Rattle.std.specs.Prelude.{◌≡◌, ◌++◌, ℕ, true, false, List, Some, length, take, drop}
+use Rattle.graphql_nodes.specs.Sources.{merged}
 use Rattle.graphql_ast.specs.declared.document.Document.{Document}
 use Rattle.apollo_schema.specs.declared.schema.Schema.{Schema}
 use Rattle.apollo_schema.specs.MeantSchema.{MeansSchema}
@@ -8,18 +8,18 @@ use Rattle.apollo_meaning.specs.Faults.ListFaults.{faults_of}
 use Rattle.apollo_meaning.specs.Order.SpentIds.{SpendsIds}
 use Rattle.apollo_document.specs.Documents.{IsDocumentOf}
 use Rattle.apollo_document.specs.DocumentFaults.{document_faults}
-use Rattle.apollo_compiler.specs.Lists.{executable_list, no_options, schema_list}
+use Rattle.apollo_compiler.specs.Lists.{all_sources, executable_list, no_options, schema_list}
 use Rattle.leafcheck.specs.LeafFaults.{leaf_faults}
 use Rattle.peglinden_run.specs.declared.failure.Failure.{Failure}
 use Rattle.peglinden_run.specs.declared.failure.Failure.TheVariants as failures
 use Rattle.peglinden_run.specs.declared.typed_documents.TypedDocument.{TypedDocument}
-use Rattle.peglinden_run.specs.Documents.{AreDocumentsAt, HasRefusedFile}
+use Rattle.peglinden_run.specs.Documents.{AreDocumentsAt}
+use Rattle.peglinden_run.specs.RefusedFiles.{IsFilesReport}
 
--- In all of this `held` is the bytes under each path, if they are known, and reading a path may fail for
--- `may_fail`.
+-- In all of this `held` says which bytes the file of a path may hold, and `may_fail` whether reading it may fail.
 
 -- the documents are those of files of a schema and of files behind them
-abbrev pub AreBothAt : (List ℕ → Option (List ℕ)) → List (List ℕ) → List (List ℕ) → List Document → Type 0
+abbrev pub AreBothAt : (List ℕ → List ℕ → Type 0) → List (List ℕ) → List (List ℕ) → List Document → Type 0
 AreBothAt held schema_paths document_paths documents = AreDocumentsAt held 1 (schema_paths ++ document_paths) documents
 
 -- of such documents those of the schema
@@ -30,9 +30,9 @@ schema_part schema_paths documents = take (length schema_paths) documents
 abbrev pub document_part : List (List ℕ) → List Document → List Document
 document_part schema_paths documents = drop (length schema_paths) documents
 
--- the typed document of files over the schema of files, which has no options, with the faults of that
--- schema, of the document, in which definitions of the type system are at fault, and of its leaves
-pub record IsTyped (held : List ℕ → Option (List ℕ)) (schema_paths document_paths : List (List ℕ)) (typed : TypedDocument) : Type 0 where
+-- the typed document of files over the schema of files, which has no options, with the faults of that schema, of the document, in which
+-- definitions of the type system are at fault, and of its leaves, and the source files of both
+pub record IsTyped (held : List ℕ → List ℕ → Type 0) (schema_paths document_paths : List (List ℕ)) (typed : TypedDocument) : Type 0 where
   pub schema : Schema
   -- the documents of all files
   pub documents : List Document
@@ -42,11 +42,12 @@ pub record IsTyped (held : List ℕ → Option (List ℕ)) (schema_paths documen
   pub schema_are : typed.findings.schema_faults.items ≡ faults_of false (schema_list no_options (schema_part schema_paths documents))
   pub are : typed.findings.document_faults.items ≡ document_faults (Some schema) (executable_list true (document_part schema_paths documents))
   pub leaves_are : typed.findings.leaf_faults.items ≡ leaf_faults schema typed.document
+  pub sources : typed.findings.sources ≡ merged (all_sources (schema_part schema_paths documents)) (all_sources (document_part schema_paths documents))
 
--- why there is no such document: a file is refused, or the extensions of the schema spend the numbers;
--- that memory ran out says nothing of the files
-abbrev pub IsTypedCause : (List ℕ → Option (List ℕ)) → (List ℕ → Type 0) → List (List ℕ) → List (List ℕ) → Failure → Type 0
-IsTypedCause held may_fail schema_paths document_paths (failures.Files reports) = HasRefusedFile held may_fail 1 (schema_paths ++ document_paths)
+-- why there is no such document: a file is refused, or the extensions of the schema spend the numbers; that memory ran out says nothing
+-- of the files
+abbrev pub IsTypedCause : (List ℕ → List ℕ → Type 0) → (List ℕ → Type 0) → List (List ℕ) → List (List ℕ) → Failure → Type 0
+IsTypedCause held may_fail schema_paths document_paths (failures.Files reports) = IsFilesReport held may_fail (schema_paths ++ document_paths) (string_bytes reports)
 IsTypedCause held may_fail schema_paths document_paths failures.Memory = Unit {0}
 IsTypedCause held may_fail schema_paths document_paths failures.ExtensionIds = (documents : List Document) × (AreBothAt held schema_paths document_paths documents × SpendsIds 0 false (schema_list no_options (schema_part schema_paths documents)))
 IsTypedCause held may_fail schema_paths document_paths _ = ⊥

@@ -1,5 +1,5 @@
 //! The answer to a request.
-ghost use Rattle.std.specs.Prelude.{IfErr, IfOk, string_bytes};
+ghost use Rattle.std.specs.Prelude.{IfErr, IfOk};
 ghost use Rattle.peglinden_run.specs.Requests.{IsAnswerTo, IsCauseTo};
 
 use crate::answer::Answer;
@@ -10,8 +10,8 @@ use crate::lookup_command::lookup_answer;
 use crate::schema_command::schema_answer;
 use apollo_compiler::compile_options::CompileOptions;
 use graphql_nodes::collections::hash_keys::HashKeys;
-use peglinden_files::files::Files;
 use peglinden_words::request::Request;
+use program_io::files::Files;
 use std::alloc::Global;
 
 /// The answer to a request over these files. All tables hash by these keys; the answer is the same under
@@ -27,7 +27,7 @@ pub fn answer_to<F: Files>(
     request: &Request<'_>,
     files: &F,
 ) -> Result<Answer, Failure>
-    ensures means { IfOk result (λ answer. IsAnswerTo request.now (F.holds files.now) (string_bytes answer.output) answer.has_faults) }
+    ensures means { IfOk result (IsAnswerTo request.now (F.holds files.now)) }
     ensures causes { IfErr result (IsCauseTo request.now (F.holds files.now) (F.may_fail files.now)) }
 {
     match request {

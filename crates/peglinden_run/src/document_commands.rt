@@ -11,7 +11,7 @@ use crate::fields_command::fields_text;
 use crate::typed_documents::type_documents;
 use apollo_executable::document::ExecutableDocument;
 use graphql_nodes::collections::hash_keys::HashKeys;
-use peglinden_files::files::Files;
+use program_io::files::Files;
 use std::alloc::{AllocError, Global};
 
 /// What of a typed document goes to standard output.
@@ -38,7 +38,7 @@ pub(crate) fn document_answer<F: Files>(
     schema_paths: &[&str],
     document_paths: &[&str],
 ) -> Result<Answer, Failure>
-    ensures means { IfOk result (λ answer. IsDocumentAnswer (F.holds files.now) shown json (texts_of schema_paths.now) (texts_of document_paths.now) (string_bytes answer.output) answer.has_faults) }
+    ensures means { IfOk result (IsDocumentAnswer (F.holds files.now) shown json (texts_of schema_paths.now) (texts_of document_paths.now)) }
     ensures causes { IfErr result (IsTypedCause (F.holds files.now) (F.may_fail files.now) (texts_of schema_paths.now) (texts_of document_paths.now)) }
 {
     let typed = type_documents(alloc, keys, files, schema_paths, document_paths)?;

@@ -1,22 +1,24 @@
 //! The documents that files hold.
-ghost use Rattle.std.specs.Prelude.{◌≡◌, ◌≢◌, ◌∷◌, ◌++◌, [], false, IfErr, IfOk, MatchOption, OnOk, string_bytes};
-ghost use Rattle.peglinden_run.specs.Documents.{AreDocumentsAt, IsDocumentAt, IsDocumentOf, IsNoDocument, IsRefusedFile, texts_of};
-ghost use Rattle.peglinden_run.specs.Status.{IsFilesCause};
+ghost use Rattle.std.specs.Prelude.{◌≡◌, ◌≢◌, ◌∷◌, ◌++◌, ◌↔◌, [], true, IfErr, IfOk, MatchResult, OnOk, string_bytes};
+ghost use Rattle.peglinden_run.specs.Documents.{AreDocumentsAt, IsDocumentAt, IsDocumentOf};
+ghost use Rattle.peglinden_run.specs.Documents.{texts_of};
+ghost use Rattle.peglinden_run.specs.RefusedFiles.{IsFilesCause, IsRefusedFile, IsRefusedText};
 
 use crate::failure::Failure;
-use crate::reports::{push_count, push_parse_report, push_unread};
+use crate::reports::{parse_report, push_count, unread_report};
 use apollo_compiler::text::{ParseErrorKind, ParseOptions, parse_document};
 use graphql_ast::document::Document;
 use graphql_nodes::collections::shared::Shared;
 use graphql_nodes::collections::text::Text;
 use graphql_nodes::source::{FileId, SourceFile};
-use peglinden_files::files::{FileError, Files};
+use program_io::file_error::FileError;
+use program_io::files::Files;
 use std::alloc::{AllocError, Global};
 
 /// The documents of the files of these paths, each under its place among them as its number, from 1 on.
 ///
-/// `Files` reports each file that can't be read or is no document, and `Memory` comes where memory ran
-/// out. There is no other error.
+/// `Files` reports each file that can't be read or is no document, and how many they are; all files are looked at. `Memory` comes where
+/// memory ran out. There is no other error.
 pub fn read_documents<F: Files>(
     alloc: Global,
     files: &F,
@@ -30,9 +32,12 @@ pub fn read_documents<F: Files>(
     let mut refused: usize = 0;
     for index in 0..paths.len() {
         let number = FileId(index as u64 + 1);
-        match read_or_report(alloc, files, number, paths[index], &mut reports)? {
-            Some(document) => push_document(&mut documents, document)?,
-            None => refused = refused.saturating_add(1),
+        match read_file(alloc, files, number, paths[index])? {
+            Ok(document) => push_document(&mut documents, document)?,
+            Err(report) => {
+                reports.push_str(report.as_str())?;
+                refused += 1;
+            }
         }
     }
     if refused == 0 {
@@ -42,37 +47,31 @@ pub fn read_documents<F: Files>(
     Err(Failure::Files(reports))
 }
 
-/// The document of the file of this path, under this number; or none where the file can't be read or is
-/// no document, which is reported. The error is out of memory.
-fn read_or_report<F: Files>(
+/// The document of the file of this path, under this number; or the report of why the file can't be read or is no document. The error
+/// is out of memory.
+fn read_file<F: Files>(
     alloc: Global,
     files: &F,
     number: FileId,
     path: &str,
-    reports: &mut String,
-) -> Result<Option<Document>, AllocError>
-    ensures { number.0 ≢ 0 → IfOk result (λ read. MatchOption read (IsRefusedFile (F.holds files.now) (F.may_fail files.now) number.0 path.now) (IsDocumentAt (F.holds files.now) number.0 path.now)) }
+) -> Result<Result<Document, String>, AllocError>
+    ensures { number.0 ≢ 0 → IfOk result (λ read. MatchResult read (IsDocumentAt (F.holds files.now) number.0 path.now) (λ report. IsRefusedFile (F.holds files.now) (F.may_fail files.now) number.0 path.now (string_bytes report))) }
 {
     match files.read(alloc, path) {
-        Ok(text) => parse_or_report(alloc, number, path, text, reports),
+        Ok(text) => parse_text(alloc, number, path, text),
         Err(FileError::Memory) => Err(AllocError),
-        Err(error) => {
-            push_unread(alloc, reports, path, &error)?;
-            Ok(None)
-        }
+        Err(error) => Ok(Err(unread_report(alloc, path, &error)?)),
     }
 }
 
-/// The document of a text, under this path and number; or none where the text is no document, which is
-/// reported. The error is out of memory.
-fn parse_or_report(
+/// The document of a text, under this path and number; or the report of why it is none. The error is out of memory.
+fn parse_text(
     alloc: Global,
     number: FileId,
     path: &str,
     text: String,
-    reports: &mut String,
-) -> Result<Option<Document>, AllocError>
-    ensures { number.0 ≢ 0 → IfOk result (λ read. MatchOption read (IsNoDocument number.0 (string_bytes text)) (IsDocumentOf number.0 path.now (string_bytes text))) }
+) -> Result<Result<Document, String>, AllocError>
+    ensures { number.0 ≢ 0 → IfOk result (λ read. MatchResult read (IsDocumentOf number.0 path.now (string_bytes text)) (λ report. IsRefusedText number.0 path.now (string_bytes text) (string_bytes report))) }
 {
     let file = SourceFile {
         path: Text::from_str(alloc, path)?,
@@ -80,12 +79,9 @@ fn parse_or_report(
     };
     let source = Shared::new(alloc, file)?;
     match parse_document(alloc, number, &source, ParseOptions::new()) {
-        Ok(document) => Ok(Some(document)),
+        Ok(document) => Ok(Ok(document)),
         Err(error) if is_memory(&error.kind) => Err(AllocError),
-        Err(error) => {
-            push_parse_report(alloc, reports, number, &source, &error)?;
-            Ok(None)
-        }
+        Err(error) => Ok(Err(parse_report(alloc, number, &source, &error)?)),
     }
 }
 
@@ -98,7 +94,7 @@ fn push_document(documents: &mut Vec<Document>, document: Document) -> Result<()
 
 /// Whether memory ran out, so that nothing is said of a text.
 fn is_memory(kind: &ParseErrorKind) -> bool
-    ensures { result ≡ false → kind.now ≢ ParseErrorKind.Memory }
+    ensures { (result ≡ true) ↔ (kind.now ≡ ParseErrorKind.Memory) }
 {
     matches!(kind, ParseErrorKind::Memory)
 }

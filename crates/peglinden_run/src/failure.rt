@@ -1,14 +1,14 @@
 //! Why a request has no answer.
 
-use crate::status::Status;
 use apollo_compiler::compile_error::CompileError;
+use program_io::status::Status;
 use std::alloc::AllocError;
 
 /// Why a request has no answer.
 #[derive(Debug, Drop)]
 pub enum Failure {
-    /// A file can't be read, or is no document: a report of each such file, for standard error, each line
-    /// with its end.
+    /// A file can't be read, or is no document: a report of each such file, and how many they are, for
+    /// standard error, each line with its end.
     Files(String),
     /// The text of `lookup` is no coordinate: a sentence that says so, for standard error, with its line
     /// end.
@@ -46,7 +46,7 @@ impl From<CompileError> for Failure {
 
 impl Failure {
     ghost use Rattle.std.specs.Prelude.{◌≡◌};
-    ghost use Rattle.peglinden_run.specs.Status.{status_of};
+    ghost use Rattle.peglinden_run.specs.Status.{message_of, status_of};
 
     /// How the run ends: `Exhausted` for `Memory` and `ExtensionIds`, and `Refused` for the others.
     pub fn status(&self) -> Status
@@ -59,8 +59,9 @@ impl Failure {
     }
 
     /// What standard error is to say of it, with its line end.
-    /// No clause: the sentence is for people.
-    pub fn message(&self) -> &str {
+    pub fn message(&self) -> &str
+        ensures { result.now ≡ message_of self.now }
+    {
         match self {
             Failure::Files(reports) => reports.as_str(),
             Failure::NoCoordinate(sentence) => sentence.as_str(),

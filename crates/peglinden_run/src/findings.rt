@@ -1,15 +1,14 @@
 //! What is at fault in a schema and in documents over it.
-ghost use Rattle.std.specs.Prelude.{◌≡◌, ◌++◌, ℕ, List, [], IfOk, OnOk, string_bytes};
-ghost use Rattle.peglinden_run.specs.Findings.{AreAllJsonLines, IsShown, any_fault};
-ghost use Rattle.peglinden_run.specs.Reports.{AreJsonLines};
+ghost use Rattle.std.specs.Prelude.{◌≡◌, IfOk, OnOk, string_bytes};
+ghost use Rattle.peglinden_run.specs.Findings.{AreJsonLines, AreReports, IsAnswerOf, IsLeafLine, IsLeafReport, any_fault, fault_count};
+ghost use Rattle.peglinden_run.specs.Findings.{found_in, of_schema};
+ghost use Rattle.peglinden_run.specs.Reports.{Adds, SaysEach};
 
 use crate::answer::Answer;
 use crate::reports::{push_count, push_json, push_json_lines, push_report, push_reports};
 use apollo_elaboration::build_error as of_documents;
 use apollo_meaning::build_error as of_schemas;
-use graphql_ast::document::Document;
-use graphql_nodes::collections::table::Table;
-use graphql_nodes::source::{SourceMap, merge_sources};
+use graphql_nodes::source::SourceMap;
 use leafcheck::leaf_fault::LeafFault;
 use std::alloc::{AllocError, Global};
 
@@ -22,27 +21,17 @@ pub(crate) struct Findings {
     pub leaf_faults: Vec<LeafFault>,
 }
 
-/// The sources of all these documents. The error is out of memory.
-/// No clause: they are shown in reports, which are for people.
-pub(crate) fn sources_of(alloc: Global, documents: &[Document]) -> Result<SourceMap, AllocError> {
-    let mut sources = Table::new(alloc);
-    for document in documents {
-        merge_sources(&mut sources, &document.sources)?;
-    }
-    Ok(sources)
-}
-
 impl Findings {
-    /// What is at fault in a schema alone. The error is out of memory.
+    /// What is at fault in a schema of these sources alone. The error is out of memory.
     pub fn of_schema(
         alloc: Global,
-        documents: &[Document],
+        sources: &SourceMap,
         faults: of_schemas::Faults,
     ) -> Result<Findings, AllocError>
-        ensures { IfOk result (λ findings. (findings.schema_faults ≡ faults) × (findings.document_faults.items ≡ []) × (findings.leaf_faults.items ≡ [])) }
+        ensures { IfOk result (λ findings. found_in findings ≡ of_schema sources.now faults.items) }
     {
         Ok(Findings {
-            sources: sources_of(alloc, documents)?,
+            sources: sources.clone()?,
             schema_faults: faults,
             document_faults: Vec::new(alloc),
             leaf_faults: Vec::new(alloc),
@@ -50,8 +39,8 @@ impl Findings {
     }
 
     /// Whether anything is at fault.
-    pub fn any(&self) -> bool
-        ensures { result ≡ any_fault self.now.schema_faults.items self.now.document_faults.items self.now.leaf_faults.items }
+    fn any(&self) -> bool
+        ensures { result ≡ any_fault (found_in self.now) }
     {
         !(self.schema_faults.is_empty()
             && self.document_faults.is_empty()
@@ -59,68 +48,49 @@ impl Findings {
     }
 
     /// How many faults there are, or the greatest number where they are more.
-    /// No clause: it is said to people.
-    fn count(&self) -> usize {
+    fn count(&self) -> usize
+        ensures { result ≡ fault_count (found_in self.now) }
+    {
         self.schema_faults
             .len()
             .saturating_add(self.document_faults.len())
             .saturating_add(self.leaf_faults.len())
     }
 
-    /// The reports of all faults, and how many there are; nothing where there is none. The error is out
-    /// of memory. No clause: they are for people.
-    pub fn reports(&self, alloc: Global) -> Result<String, AllocError> {
+    /// The reports of all faults, and how many there are; nothing where there is none. The error is out of memory.
+    fn reports(&self, alloc: Global) -> Result<String, AllocError>
+        ensures { IfOk result (λ reports. AreReports (found_in self.now) (string_bytes reports)) }
+    {
+        let sources = &self.sources;
         let mut reports = String::new(alloc);
+        push_reports(alloc, &mut reports, sources, self.schema_faults.as_slice())?;
         push_reports(
             alloc,
             &mut reports,
-            &self.sources,
-            self.schema_faults.as_slice(),
-        )?;
-        push_reports(
-            alloc,
-            &mut reports,
-            &self.sources,
+            sources,
             self.document_faults.as_slice(),
         )?;
-        for fault in &self.leaf_faults {
-            push_report(alloc, &mut reports, &self.sources, fault.location, fault)?;
-        }
+        push_leaf_reports(alloc, &mut reports, sources, self.leaf_faults.as_slice())?;
         push_count(alloc, &mut reports, self.count())?;
         Ok(reports)
     }
 
     /// The JSON of all faults, one a line. The error is out of memory.
     fn json_lines(&self, alloc: Global) -> Result<String, AllocError>
-        ensures { IfOk result (λ lines. AreAllJsonLines self.now.schema_faults.items self.now.document_faults.items self.now.leaf_faults.items (string_bytes lines)) }
+        ensures { IfOk result (λ lines. AreJsonLines (found_in self.now) (string_bytes lines)) }
     {
+        let sources = &self.sources;
         let mut lines = String::new(alloc);
-        push_json_lines(
-            alloc,
-            &mut lines,
-            &self.sources,
-            self.schema_faults.as_slice(),
-        )?;
-        push_json_lines(
-            alloc,
-            &mut lines,
-            &self.sources,
-            self.document_faults.as_slice(),
-        )?;
-        push_leaf_lines(
-            alloc,
-            &mut lines,
-            &self.sources,
-            self.leaf_faults.as_slice(),
-        )?;
+        push_json_lines(alloc, &mut lines, sources, self.schema_faults.as_slice())?;
+        push_json_lines(alloc, &mut lines, sources, self.document_faults.as_slice())?;
+        push_leaf_lines(alloc, &mut lines, sources, self.leaf_faults.as_slice())?;
         Ok(lines)
     }
 
-    /// The answer of this output, or with `json` the JSON of the faults in its place, and of these
-    /// faults. The error is out of memory.
+    /// The answer of this output and the reports of these faults, or with `json` of the JSON of the faults alone. The error is out of
+    /// memory.
     pub fn answer(&self, alloc: Global, json: bool, output: String) -> Result<Answer, AllocError>
-        ensures shown { IfOk result (λ answer. IsShown json self.now.schema_faults.items self.now.document_faults.items self.now.leaf_faults.items (string_bytes output) (string_bytes answer.output)) }
-        ensures any { IfOk result (λ answer. answer.has_faults ≡ any_fault self.now.schema_faults.items self.now.document_faults.items self.now.leaf_faults.items) }
+        ensures { IfOk result (IsAnswerOf json (found_in self.now) (string_bytes output)) }
     {
         if json {
             Ok(Answer {
@@ -138,6 +108,21 @@ impl Findings {
     }
 }
 
+/// Adds the reports of leaf faults, in order, each with an empty line behind it. The error is out of memory.
+fn push_leaf_reports(
+    alloc: Global,
+    reports: &mut String,
+    sources: &SourceMap,
+    faults: &[LeafFault],
+) -> Result<(), AllocError>
+    ensures { OnOk result (Adds (SaysEach (IsLeafReport sources.now) faults.now) (string_bytes reports.old) (string_bytes reports.new)) }
+{
+    for fault in faults {
+        push_report(alloc, reports, sources, fault.location, fault)?;
+    }
+    Ok(())
+}
+
 /// Adds the JSON of leaf faults, one a line, in order. The error is out of memory.
 fn push_leaf_lines(
     alloc: Global,
@@ -145,7 +130,7 @@ fn push_leaf_lines(
     sources: &SourceMap,
     faults: &[LeafFault],
 ) -> Result<(), AllocError>
-    ensures { OnOk result ((added : List ℕ) × ((string_bytes lines.new ≡ string_bytes lines.old ++ added) × AreJsonLines faults.now added)) }
+    ensures { OnOk result (Adds (SaysEach (IsLeafLine sources.now) faults.now) (string_bytes lines.old) (string_bytes lines.new)) }
 {
     for fault in faults {
         push_json(alloc, lines, sources, fault.location, fault)?;

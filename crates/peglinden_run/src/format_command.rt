@@ -3,14 +3,14 @@ ghost use Rattle.std.specs.Prelude.{◌≡◌, ◌++◌, IfErr, IfOk, OnOk, stri
 ghost use Rattle.std.specs.List.{flat_map};
 ghost use Rattle.peglinden_run.specs.Documents.{texts_of};
 ghost use Rattle.peglinden_run.specs.FormatCommand.{IsFormatAnswer, changed_line, formatted};
-ghost use Rattle.peglinden_run.specs.Status.{IsFilesCause};
+ghost use Rattle.peglinden_run.specs.RefusedFiles.{IsFilesCause};
 
 use crate::answer::Answer;
 use crate::documents::read_documents;
 use crate::ended::ended_text;
 use crate::failure::Failure;
 use graphql_ast::document::Document;
-use peglinden_files::files::Files;
+use program_io::files::Files;
 use std::alloc::{AllocError, Global};
 
 /// The answer of `format` to files: the text of each in our layout, one behind the other, each with a
@@ -25,7 +25,7 @@ pub(crate) fn format_answer<F: Files>(
     files: &F,
     paths: &[&str],
 ) -> Result<Answer, Failure>
-    ensures means { IfOk result (λ answer. IsFormatAnswer (F.holds files.now) check (texts_of paths.now) (string_bytes answer.output) answer.has_faults) }
+    ensures means { IfOk result (IsFormatAnswer (F.holds files.now) check (texts_of paths.now)) }
     ensures causes { IfErr result (IsFilesCause (F.holds files.now) (F.may_fail files.now) (texts_of paths.now)) }
 {
     let documents = read_documents(alloc, files, paths)?;

@@ -17,5 +17,4 @@ mod naming;
 mod reports;
 pub mod running;
 mod schema_command;
-pub mod status;
 mod typed_documents;

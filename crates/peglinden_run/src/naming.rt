@@ -2,8 +2,8 @@
 ghost use Rattle.std.specs.Prelude.{◌≡◌};
 ghost use Rattle.peglinden_run.specs.Naming.{any_input, names_input};
 
-use peglinden_files::with_input::is_input;
 use peglinden_words::request::Request;
+use program_io::with_input::is_input;
 
 /// Whether one of these paths names standard input.
 fn any_input(paths: &[&str]) -> bool

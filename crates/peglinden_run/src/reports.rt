@@ -1,6 +1,8 @@
 //! Reports of what is at fault, for people and as JSON.
-ghost use Rattle.std.specs.Prelude.{◌≡◌, ◌++◌, ℕ, List, OnOk, string_bytes};
-ghost use Rattle.peglinden_run.specs.Reports.{AreJsonLines, json_line};
+ghost use Rattle.std.specs.Prelude.{◌≡◌, ◌++◌, ◌∷◌, [], IfOk, OnOk, Some, string_bytes};
+ghost use Rattle.apollo_reporting.specs.TextErrors.{parse_error_about};
+ghost use Rattle.peglinden_run.specs.RefusedFiles.{IsUnreadReport};
+ghost use Rattle.peglinden_run.specs.Reports.{Adds, IsJsonLine, IsReport, SaysEach, count_line};
 
 use apollo_reporting::counts::faults_line;
 use apollo_reporting::fault_json::to_json;
@@ -10,73 +12,75 @@ use graphql_nodes::collections::shared::Shared;
 use graphql_nodes::collections::table::Table;
 use graphql_nodes::source::{FileId, SourceFile, SourceMap, SourceSpan};
 use graphql_text::parse_error::ParseError;
-use peglinden_files::files::FileError;
+use program_io::file_error::FileError;
 use std::alloc::{AllocError, Global};
 
-/// Adds that the file of this path isn't read, with the words of the system, and an empty line.
-/// No clause: the sentence is for people.
-pub(crate) fn push_unread(
+/// The report that the file of this path isn't read, with the words of the system, and an empty line. The error is out of memory.
+pub(crate) fn unread_report(
     alloc: Global,
-    reports: &mut String,
     path: &str,
     error: &FileError,
-) -> Result<(), AllocError> {
-    reports.push_str("error: cannot read `")?;
-    reports.push_str(path)?;
-    reports.push_str("`: ")?;
-    reports.push_str(error.to_string(alloc)?.as_str())?;
-    reports.push_str("\n\n")
+) -> Result<String, AllocError>
+    ensures { IfOk result (λ report. IsUnreadReport path.now (string_bytes report)) }
+{
+    let why = error.to_string(alloc)?;
+    format!(in alloc; "error: cannot read `{path}`: {why}\n\n")
 }
 
-/// Adds the report of a text that is refused, and an empty line.
-/// No clause: the report is for people.
-pub(crate) fn push_parse_report(
+/// The report of a text that is refused, and an empty line. The error is out of memory.
+pub(crate) fn parse_report(
     alloc: Global,
-    reports: &mut String,
     number: FileId,
     source: &Shared<SourceFile>,
     error: &ParseError,
-) -> Result<(), AllocError> {
+) -> Result<String, AllocError>
+    ensures { IfOk result (λ report. IsReport ((number, source.now) ∷ []) (Some error.now.location) (parse_error_about error.now) (string_bytes report)) }
+{
     let mut sources = Table::new(alloc);
     sources.insert(number, source.clone()?)?;
-    push_report(alloc, reports, &sources, Some(error.location), error)
+    let mut report = report_text(alloc, &sources, Some(error.location), error)?;
+    report.push_str("\n")?;
+    Ok(report)
 }
 
-/// Adds the report of a fault, and an empty line.
-/// No clause: the report is for people.
+/// Adds the report of a fault, and an empty line. The error is out of memory.
 pub(crate) fn push_report<E: Reported>(
     alloc: Global,
     reports: &mut String,
     sources: &SourceMap,
     location: Option<SourceSpan>,
     fault: &E,
-) -> Result<(), AllocError> {
+) -> Result<(), AllocError>
+    ensures { OnOk result (Adds (IsReport sources.now location (E.said_about fault.now)) (string_bytes reports.old) (string_bytes reports.new)) }
+{
     let report = report_text(alloc, sources, location, fault)?;
     reports.push_str(report.as_str())?;
     reports.push_str("\n")
 }
 
-/// Adds the reports of faults, each with an empty line behind it.
-/// No clause: the reports are for people.
+/// Adds the reports of faults, in order, each with an empty line behind it. The error is out of memory.
 pub(crate) fn push_reports<E: Reported>(
     alloc: Global,
     reports: &mut String,
     sources: &SourceMap,
     faults: &[(Option<SourceSpan>, E)],
-) -> Result<(), AllocError> {
+) -> Result<(), AllocError>
+    ensures { OnOk result (Adds (SaysEach (λ fault. IsReport sources.now fault.0 (E.said_about fault.1)) faults.now) (string_bytes reports.old) (string_bytes reports.new)) }
+{
     for fault in faults {
         push_report(alloc, reports, sources, fault.0, &fault.1)?;
     }
     Ok(())
 }
 
-/// Adds how many faults there are, where there are any.
-/// No clause: the line is for people.
+/// Adds how many faults there are, on a line, where there are any. The error is out of memory.
 pub(crate) fn push_count(
     alloc: Global,
     reports: &mut String,
     count: usize,
-) -> Result<(), AllocError> {
+) -> Result<(), AllocError>
+    ensures { OnOk result (string_bytes reports.new ≡ string_bytes reports.old ++ count_line count) }
+{
     if count == 0 {
         return Ok(());
     }
@@ -84,7 +88,7 @@ pub(crate) fn push_count(
     reports.push_str("\n")
 }
 
-/// Adds the JSON of a fault, as a line.
+/// Adds the JSON of a fault, as a line. The error is out of memory.
 pub(crate) fn push_json<E: Reported>(
     alloc: Global,
     lines: &mut String,
@@ -92,20 +96,20 @@ pub(crate) fn push_json<E: Reported>(
     location: Option<SourceSpan>,
     fault: &E,
 ) -> Result<(), AllocError>
-    ensures { OnOk result ((said : List ℕ) × (string_bytes lines.new ≡ string_bytes lines.old ++ json_line said)) }
+    ensures { OnOk result (Adds (IsJsonLine sources.now location (E.said_about fault.now)) (string_bytes lines.old) (string_bytes lines.new)) }
 {
     lines.push_str(to_json(alloc, sources, location, fault)?.as_str())?;
     lines.push_str("\n")
 }
 
-/// Adds the JSON of faults, one a line, in order.
+/// Adds the JSON of faults, one a line, in order. The error is out of memory.
 pub(crate) fn push_json_lines<E: Reported>(
     alloc: Global,
     lines: &mut String,
     sources: &SourceMap,
     faults: &[(Option<SourceSpan>, E)],
 ) -> Result<(), AllocError>
-    ensures { OnOk result ((added : List ℕ) × ((string_bytes lines.new ≡ string_bytes lines.old ++ added) × AreJsonLines faults.now added)) }
+    ensures { OnOk result (Adds (SaysEach (λ fault. IsJsonLine sources.now fault.0 (E.said_about fault.1)) faults.now) (string_bytes lines.old) (string_bytes lines.new)) }
 {
     for fault in faults {
         push_json(alloc, lines, sources, fault.0, &fault.1)?;

@@ -1,5 +1,5 @@
 //! The command `schema`.
-ghost use Rattle.std.specs.Prelude.{IfErr, IfOk, string_bytes};
+ghost use Rattle.std.specs.Prelude.{IfErr, IfOk};
 ghost use Rattle.peglinden_run.specs.Documents.{texts_of};
 ghost use Rattle.peglinden_run.specs.SchemaCommand.{IsSchemaAnswer, IsSchemaCause};
 
@@ -11,7 +11,7 @@ use crate::findings::Findings;
 use apollo_compiler::building::build_schema;
 use apollo_compiler::compile_options::CompileOptions;
 use graphql_nodes::collections::hash_keys::HashKeys;
-use peglinden_files::files::Files;
+use program_io::files::Files;
 use std::alloc::Global;
 
 /// The answer of `schema` with these options to files: the write-out of the schema of their documents, as
@@ -27,13 +27,13 @@ pub(crate) fn schema_answer<F: Files>(
     files: &F,
     paths: &[&str],
 ) -> Result<Answer, Failure>
-    ensures means { IfOk result (λ answer. IsSchemaAnswer (F.holds files.now) options json (texts_of paths.now) (string_bytes answer.output) answer.has_faults) }
+    ensures means { IfOk result (IsSchemaAnswer (F.holds files.now) options json (texts_of paths.now)) }
     ensures causes { IfErr result (IsSchemaCause (F.holds files.now) (F.may_fail files.now) options (texts_of paths.now)) }
 {
     let documents = read_documents(alloc, files, paths)?;
     let (schema, faults) = build_schema(alloc, keys, options, documents.as_slice())?;
     let written = schema.to_ast(alloc)?;
     let output = ended_text(alloc, written.as_slice())?;
-    let findings = Findings::of_schema(alloc, documents.as_slice(), faults)?;
+    let findings = Findings::of_schema(alloc, &schema.sources, faults)?;
     Ok(findings.answer(alloc, json, output)?)
 }

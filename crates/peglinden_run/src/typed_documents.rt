@@ -5,14 +5,15 @@ ghost use Rattle.peglinden_run.specs.TypedDocuments.{IsTyped, IsTypedCause};
 
 use crate::documents::read_documents;
 use crate::failure::Failure;
-use crate::findings::{Findings, sources_of};
+use crate::findings::Findings;
 use apollo_compiler::building::build_schema;
 use apollo_compiler::compile_options::CompileOptions;
 use apollo_compiler::document_building::build_executable_document;
 use apollo_executable::document::ExecutableDocument;
 use graphql_nodes::collections::hash_keys::HashKeys;
+use graphql_nodes::source::merge_sources;
 use leafcheck::checking::leaf_faults;
-use peglinden_files::files::Files;
+use program_io::files::Files;
 use std::alloc::Global;
 
 /// A typed document, and what is at fault in it and in its schema.
@@ -47,8 +48,10 @@ pub(crate) fn type_documents<F: Files>(
     let (schema, schema_faults) = build_schema(alloc, keys, CompileOptions::none(), of_schema)?;
     let (document, document_faults) = build_executable_document(alloc, &schema, executable, true)?;
     let leaf_faults = leaf_faults(alloc, &schema, &document)?;
+    let mut sources = schema.sources.clone()?;
+    merge_sources(&mut sources, &document.sources)?;
     let findings = Findings {
-        sources: sources_of(alloc, documents.as_slice())?,
+        sources,
         schema_faults,
         document_faults,
         leaf_faults,

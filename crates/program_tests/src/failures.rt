@@ -2,7 +2,7 @@
 
 use bench_notation::refusal::{ReadError, Reason, RefusedLine};
 use gqltool_run::failure::Failure;
-use gqltool_run::status::Status;
+use program_io::status::Status;
 use std::test::Fail;
 
 #[test]

@@ -1,7 +1,7 @@
 //! Streams that a signal interrupts before each of their calls: each call is made again.
 
 use crate::running::ended;
-use gqltool_run::status::Status;
+use program_io::status::Status;
 use std::io::{self, Error, ErrorKind, Read, Write};
 
 /// So many bytes at most go through at once.

@@ -1,8 +1,8 @@
 //! Answers of `walk` that go out in pieces.
 
 use crate::running::{answer_on, ended, expect_run};
-use gqltool_run::input::BytesAtHand;
-use gqltool_run::status::Status;
+use program_io::input::BytesAtHand;
+use program_io::status::Status;
 use std::alloc::{AllocError, Global};
 use std::io::{self, Error, ErrorKind, Write};
 use std::test::Fail;

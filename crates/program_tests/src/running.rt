@@ -3,10 +3,10 @@
 use gqltool_run::answer::Answer;
 use gqltool_run::answering::answer_to;
 use gqltool_run::failure::Failure;
-use gqltool_run::input::{BytesAtHand, Input};
 use gqltool_run::running::run;
-use gqltool_run::status::Status;
 use graphql_nodes::collections::hash_keys::HashKeys;
+use program_io::input::{BytesAtHand, Input};
+use program_io::status::Status;
 use std::alloc::Global;
 use std::io::Write;
 use std::process::Abort;

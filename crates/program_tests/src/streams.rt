@@ -3,8 +3,8 @@
 use crate::failing::{FailingReader, FailingWriter};
 use crate::running::{answer_on, ended, expect_run};
 use gqltool_run::failure::Failure;
-use gqltool_run::input::{BytesAtHand, Input};
-use gqltool_run::status::Status;
+use program_io::input::{BytesAtHand, Input};
+use program_io::status::Status;
 use std::alloc::Global;
 use std::io::{self, Error, ErrorKind, Read, Write};
 

@@ -3,7 +3,7 @@
 use gqlbench_run::memory::ProcessStatus;
 use gqlbench_run::running::run;
 use gqlbench_run::stopwatch::summary;
-use gqltool_run::status::Status;
+use program_io::status::Status;
 use program_tests::failing::FailingWriter;
 use std::alloc::Global;
 use std::cell::Cell;

@@ -2,7 +2,7 @@
 
 use gqlrows_run::row::read_rows;
 use gqlrows_run::running::run_rows;
-use gqltool_run::status::Status;
+use program_io::status::Status;
 use program_tests::failing::FailingReader;
 use std::io::{BufWriter, ErrorKind, Read, Write};
 use std::process::Abort;

@@ -1,7 +1,8 @@
-use Rattle.std.proofs.Common.{◌≡◌, false, All, IfOk, IfSome, Result, Ok, Err, string_bytes, sym, subst, inr, ◌∙◌}
+use Rattle.std.proofs.Common.{◌≡◌, false, IfOk, Result, Ok, Err, string_bytes, sym, subst, inr, ◌∙◌}
 use Rattle.std.proofs.lemmas.Bool.{true≢false}
 use Rattle.std.proofs.lemmas.Result.{IfErr-weaker, IfOk-weaker}
-use Rattle.bench_notation.specs.Line.{IsLine, lines_of, texts_of}
+use Rattle.bench_notation.specs.Line.{texts_of}
+use Rattle.program_io.specs.Files.{HoldsSome}
 use Rattle.gqltool_run.specs.declared.answer.Answer.{Answer}
 use Rattle.gqltool_run.specs.declared.failure.Failure.{Failure}
 use Rattle.gqltool_run.specs.declared.failure.Failure.TheVariants as failures
@@ -34,18 +35,13 @@ returns-in-Ok-Answer-clause-usage g c = λ none. absurd (no_error ((c.in-Ok-Answ
 pub returns-in-Ok-Answer-clause-no_coordinate : goal.returns-in-Ok-Answer-clause-no_coordinate
 returns-in-Ok-Answer-clause-no_coordinate g c = λ refused. absurd (true≢false (sym ((c.in-Ok-Answer.ensures.no_coordinate refused).0)))
 
-pub returns-in-Ok-Walks-clause-read : goal.returns-in-Ok-Walks-clause-read
-returns-in-Ok-Walks-clause-read g c =
-    IfOk-weaker c.whole_walk_answer.result (λ (answer : Answer). AreLinesOf c.in-Ok-Walks.compiled (string_bytes answer.text)) (λ (answer : Answer). IfSome (g.R.Input.holds c.args.reader.now) (λ input. All IsLine (lines_of input)))
-    (λ answer lines. c.in-Ok-Walks.ensures.read) c.whole_walk_answer.ensures.text
-
 pub returns-in-Ok-Walks-clause-means : goal.returns-in-Ok-Walks-clause-means
 returns-in-Ok-Walks-clause-means g c =
     let words = texts_of c.args.words.now in
     let held = g.R.Input.holds c.args.reader.now in
     let compiled = c.in-Ok-Walks.compiled in
     let ready : IsReadyTo words held (prepared.Walks compiled) = rw c.in-Ok-Walks.field-0-is at c.in-Ok-Walks.ensures.ready in
-    IfOk-weaker c.whole_walk_answer.result (λ (answer : Answer). AreLinesOf compiled (string_bytes answer.text) × (answer.has_faults ≡ has_fault compiled)) (λ (answer : Answer). IfSome held (λ input. IsAnswerTo words input (string_bytes answer.text) answer.has_faults))
+    IfOk-weaker c.whole_walk_answer.result (λ (answer : Answer). AreLinesOf compiled (string_bytes answer.text) × (answer.has_faults ≡ has_fault compiled)) (λ (answer : Answer). HoldsSome held (λ input. IsAnswerTo words input (string_bytes answer.text) answer.has_faults))
     (λ answer is. walks_answer words held compiled (string_bytes answer.text) answer.has_faults ready.0 ready.1 is.0 is.1) (both_ok (λ (answer : Answer). AreLinesOf compiled (string_bytes answer.text)) (λ (answer : Answer). answer.has_faults ≡ has_fault compiled) c.whole_walk_answer.result c.whole_walk_answer.ensures.text c.whole_walk_answer.ensures.faults)
 
 pub returns-in-Ok-Walks-clause-prints : goal.returns-in-Ok-Walks-clause-prints

@@ -1,5 +1,5 @@
 use Rattle.std.proofs.Common.{ℕ, List, string_bytes, sym, subst}
-use Rattle.gqltool_run.specs.declared.status.Status.{Status}
+use Rattle.program_io.specs.declared.status.Status.{Status}
 use Rattle.gqltool_run.specs.Prepared.{AreLinesOf, has_fault}
 use Rattle.gqltool_run.specs.Runs.{IsSentOut}
 use Rattle.gqltool_run.specs.Status.{Writes}

@@ -2,8 +2,8 @@ use Rattle.std.proofs.Common.{◌≡◌, ◌⊎◌, string_bytes, inl, inr, refl
 use Rattle.std.proofs.lemmas.Bool.{true≢false}
 use Rattle.bench_notation.specs.Line.{texts_of}
 use Rattle.gqltool_run.specs.declared.prepared.Prepared.TheVariants as prepared
-use Rattle.gqltool_run.specs.declared.status.Status.{Status}
-use Rattle.gqltool_run.specs.declared.status.Status.TheVariants as s
+use Rattle.program_io.specs.declared.status.Status.{Status}
+use Rattle.program_io.specs.declared.status.Status.TheVariants as s
 use Rattle.gqltool_run.specs.declared.task.Task.TheVariants as tasks
 use Rattle.gqltool_run.specs.Prepared.{IsReadyTo, has_fault}
 use Rattle.gqltool_run.specs.Runs.{IsSentOut, IsWritten, MayEnd}
@@ -25,7 +25,7 @@ returns-in-Ok-Answer g c =
     let ready : IsReadyTo words held (prepared.Answer answer) = rw c.in-Ok-Answer.field-0-is at is.ready in
     let written = c.end_with_answer.ensures.written in
     record {
-      ends = with_answer words held may_fail old new text answer.has_faults c.end_with_answer.result written is.read ready.0 ready.1;
+      ends = with_answer words held may_fail old new text answer.has_faults c.end_with_answer.result written ready.0 ready.1;
       refused = λ e. absurd (subst (IsWritten text answer.has_faults old new) e written);
       exhausted = λ e no_walk. absurd (subst (IsWritten text answer.has_faults old new) e written);
       begun = λ e. absurd (subst (IsWritten text answer.has_faults old new) e written);
@@ -49,7 +49,7 @@ returns-in-Ok-Walks g c =
     let sent = c.end_with_walks.ensures.sent.1.1 in
     let means = walks_answer words held compiled text (has_fault compiled) ready.0 ready.1 lines refl in
     record {
-      ends = with_sent_answer words tasks.Walk held may_fail old new text (has_fault compiled) c.end_with_walks.result sent ready.0 is.read means (walks_print words compiled text ready.0 lines);
+      ends = with_sent_answer words tasks.Walk held may_fail old new text (has_fault compiled) c.end_with_walks.result sent ready.0 means (walks_print words compiled text ready.0 lines);
       refused = λ e. absurd (subst (IsSentOut text (has_fault compiled) old new) e sent);
       exhausted = λ e no_walk. absurd (no_walk ready.0);
       begun = λ e. inr (beginning_appended words held old new text (has_fault compiled) means (subst (IsSentOut text (has_fault compiled) old new) e sent));

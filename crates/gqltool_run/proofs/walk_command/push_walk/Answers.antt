@@ -9,9 +9,9 @@ use Rattle.apollo_executable.specs.Walks.WalkView.{TakesAllTurns, WalkView}
 use Rattle.apollo_executable.specs.declared.document.ExecutableDocument.{ExecutableDocument}
 use Rattle.apollo_executable.specs.declared.selection.Field.{Field}
 use Rattle.apollo_executable.specs.declared.selection.SelectionSet.{SelectionSet}
-use Rattle.gqltool_run.specs.Pieces.{GoesOut, IsBegun}
+use Rattle.program_io.specs.Writing.{GoesOut, IsBegun}
 use Rattle.gqltool_run.specs.WalkCommand.{field_line, turns_line}
-use Rattle.gqltool_run.proofs.PieceLemmas.{goes-nowhere}
+use Rattle.program_io.proofs.WritingLemmas.{goes-nowhere}
 use Rattle.gqltool_run.proofs.WalkTextLemmas.{lines-cut, lines-turn, walk-cut, walk-end, walk-end-cut}
 use Rattle.gqltool_run.proofs.walk_command.push_walk.Given.{Over}
 use Rattle.gqltool_run.proofs.walk_command.push_walk.Goals as goal

@@ -1,6 +1,6 @@
 use Rattle.std.proofs.Common.{◌≡◌, ◌++◌, false, length, string_bytes}
 use Rattle.std.specs.List.{flat_map}
-use Rattle.gqltool_run.specs.Pieces.{GoesOut}
+use Rattle.program_io.specs.Writing.{GoesOut}
 use Rattle.gqltool_run.specs.WalkCommand.{field_line}
 use Rattle.gqltool_run.proofs.walk_command.push_walk.Given as goal
 

@@ -1,6 +1,6 @@
 use Rattle.std.proofs.Common.{◌++◌, codes, string_bytes}
 use Rattle.std.proofs.lemmas.Result.{err_from_is_err_and}
-use Rattle.gqltool_run.proofs.PieceLemmas.{goes-nowhere}
+use Rattle.program_io.proofs.WritingLemmas.{goes-nowhere}
 use Rattle.gqltool_run.proofs.walk_command.say_line.Goals as goal
 
 pub returns-in_err-push_line-clause-begun : goal.returns-in_err-push_line-clause-begun

@@ -1,7 +1,7 @@
 use Rattle.std.proofs.Common.{◌++◌, string_bytes}
 use Rattle.std.proofs.lemmas.Result.{err_from_is_err_and}
 use Rattle.gqltool_run.specs.WalkCommand.{turns_line}
-use Rattle.gqltool_run.proofs.PieceLemmas.{goes-nowhere}
+use Rattle.program_io.proofs.WritingLemmas.{goes-nowhere}
 use Rattle.gqltool_run.proofs.walk_command.say_turns.Goals as goal
 
 pub returns-in_err-number-clause-begun : goal.returns-in_err-number-clause-begun

@@ -1,14 +1,16 @@
 //! Files in memory.
 ghost use Rattle.std.specs.Prelude.{◌≡◌};
 ghost use Rattle.std.specs.Option.{option_map};
-ghost use Rattle.peglinden_files.specs.Files.{bytes_at};
+ghost use Rattle.program_io.specs.Files.{bytes_at};
 
-use crate::files::{FileError, Files, text_of_copy};
+use crate::file_error::FileError;
+use crate::files::Files;
+use crate::reading::text_of_copy;
 use std::alloc::Global;
 use std::io::{self, ErrorKind};
 
-/// Files in memory: their paths and their bytes. Of two files of one path the first counts. A path of
-/// none is not found; reading a file that is there fails only where it isn't UTF-8, or memory runs out.
+/// Files in memory: their paths and their bytes. Of two files of one path the first counts. A path of none is not found; reading
+/// a file that is there fails only where it isn't UTF-8, or memory runs out.
 #[derive(Clone, Copy)]
 pub struct FilesAtHand<'a>(pub &'a [(&'a str, &'a [u8])]);
 
@@ -27,10 +29,10 @@ impl FilesAtHand<'_> {
 }
 
 impl Files for FilesAtHand<'_> {
-    ghost use Rattle.std.specs.Prelude.{◌≡◌, None};
-    ghost use Rattle.peglinden_files.specs.Files.{bytes_at};
+    ghost use Rattle.std.specs.Prelude.{◌≡◌, None, Some};
+    ghost use Rattle.program_io.specs.Files.{bytes_at};
 
-    ghost holds = { λ files path. bytes_at files.0.now path };
+    ghost holds = { λ files path bytes. bytes_at files.0.now path ≡ Some bytes };
 
     ghost may_fail = { λ files path. bytes_at files.0.now path ≡ None };
 

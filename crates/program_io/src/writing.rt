@@ -2,12 +2,21 @@
 ghost use Rattle.std.specs.Prelude.{OnErr, OnOk};
 ghost use Rattle.std.specs.Io.{WritesAtMost};
 ghost use Rattle.std.specs.Io.KnownBytes.{Appends, WriteAppends};
-ghost use Rattle.gqltool_run.specs.Pieces.{IsBegun};
+ghost use Rattle.program_io.specs.Writing.{IsBegun};
 
 use std::io::{self, ErrorKind, Write};
 
+/// Writes all of a text, and has it written through. The error is the writer's, after which a beginning of the text is written.
+pub fn write_out<O: Write>(output: &mut O, text: &str) -> io::Result<()>
+    ensures written { OnOk result (Appends (O.contents output.old) (O.contents output.new) text.now) }
+    ensures begun { OnErr result (IsBegun text.now (O.contents output.old) (O.contents output.new)) }
+{
+    write_text(output, text)?;
+    output.flush()
+}
+
 /// Writes all of a text. The error is the writer's, after which a beginning of the text is written.
-pub(crate) fn write_text<O: Write>(output: &mut O, text: &str) -> io::Result<()>
+pub fn write_text<O: Write>(output: &mut O, text: &str) -> io::Result<()>
     ensures written { OnOk result (Appends (O.contents output.old) (O.contents output.new) text.now) }
     ensures begun { OnErr result (IsBegun text.now (O.contents output.old) (O.contents output.new)) }
 {

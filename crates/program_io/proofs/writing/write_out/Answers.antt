@@ -1,7 +1,7 @@
 use Rattle.std.proofs.Common.{[], Result, Ok, Err, OnErr, sym}
 use Rattle.std.proofs.lemmas.List.{append-nil}
 use Rattle.std.proofs.KnownBytes.{Appends-kept}
-use Rattle.gqltool_run.proofs.running.write_out.Goals as goal
+use Rattle.program_io.proofs.writing.write_out.Goals as goal
 
 at_any_error : {T E P : Type 0} (r : Result T E) → P → OnErr r P
 at_any_error (Ok x) p = tt

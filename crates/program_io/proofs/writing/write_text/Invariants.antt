@@ -1,6 +1,6 @@
 use Rattle.std.proofs.Common.{length}
-use Rattle.gqltool_run.specs.Pieces.{GoesOut}
-use Rattle.gqltool_run.proofs.writing.write_text.Given as goal
+use Rattle.program_io.specs.Writing.{GoesOut}
+use Rattle.program_io.proofs.writing.write_text.Given as goal
 
 abbrev pub invariant-loop-left : goal.invariant-loop-left
 invariant-loop-left g l = GoesOut l.text (g.O.Write.contents l.fn.output) (g.O.Write.contents l.output) l.left

@@ -1,7 +1,7 @@
 use Rattle.std.proofs.Common.{◌≡◌, ℕ, ◌-◌, List, ◌++◌, length, take, drop, sym, ap, ◌∙◌, take-append-drop}
 use Rattle.std.proofs.lemmas.List.{take_rest}
-use Rattle.gqltool_run.proofs.PieceLemmas.{goes-further}
-use Rattle.gqltool_run.proofs.writing.write_text.Goals as goal
+use Rattle.program_io.proofs.WritingLemmas.{goes-further}
+use Rattle.program_io.proofs.writing.write_text.Goals as goal
 
 -- a text is what was taken of it, and what is left then
 taken : (text : List ℕ) (n : ℕ) → text ≡ take n text ++ take (length text - n) (drop n text)

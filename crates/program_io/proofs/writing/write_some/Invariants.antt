@@ -1,5 +1,5 @@
 use Rattle.std.specs.Io.KnownBytes.{Keeps}
-use Rattle.gqltool_run.proofs.writing.write_some.Given as goal
+use Rattle.program_io.proofs.writing.write_some.Given as goal
 
 abbrev pub invariant-loop : goal.invariant-loop
 invariant-loop g l = Keeps (g.O.Write.contents l.fn.output) (g.O.Write.contents l.output)

@@ -1,0 +1,13 @@
+//! What programs read and write, and how they end: files by their paths, and standard input, each as a whole; and texts, which
+//! are written to their end or in part.
+#![tactic(auto)]
+
+pub mod at_hand;
+pub mod file_error;
+pub mod files;
+pub mod input;
+pub mod reading;
+pub mod status;
+pub mod system;
+pub mod with_input;
+pub mod writing;
