@@ -6,8 +6,8 @@ use apollo_compiler::collections::Shared;
 use apollo_compiler::executable::{Operation, RequestError};
 use apollo_compiler::text::{ParseOptions, parse_document};
 use apollo_compiler::{
-    CompileOptions, Document, ExecutableDocument, FileId, HashKeys, Name, Node, Schema, SourceFile,
-    build_executable_document, build_schema,
+    CompileOptions, Document, ExecutableDocument, ExecutableOptions, FileId, HashKeys, Name, Node,
+    Schema, SourceFile, build_executable_document, build_schema,
 };
 use std::alloc::Global;
 use std::slice;
@@ -83,9 +83,9 @@ fn main(rt: HostRuntime) -> Result<()> {
     let alloc = rt.alloc();
     let schema = schema(alloc, &document(alloc, 1, "store.graphql", SCHEMA)?)?;
     let queries = document(alloc, 2, "queries.graphql", QUERIES)?;
-    // Definitions of types don't belong here: each is a fault.
     let queries = slice::from_ref(&queries);
-    let (document, faults) = build_executable_document(alloc, &schema, queries, true)?;
+    let options = ExecutableOptions::none();
+    let (document, faults) = build_executable_document(alloc, &schema, options, queries)?;
     for (_, fault) in faults.iter() {
         println!(rt; "fault: {fault}")?;
     }
