@@ -14,6 +14,7 @@ pub mod executable_options;
 pub mod laws;
 mod prepared;
 mod rebuilding;
+pub mod report;
 pub mod text;
 mod typing;
 
@@ -27,7 +28,6 @@ pub use crate::executable_options::ExecutableOptions;
 pub use apollo_coordinate as coordinate;
 pub use apollo_executable::document::ExecutableDocument;
 pub use apollo_field_usage as usage;
-pub use apollo_reporting as report;
 pub use apollo_schema as schema;
 pub use apollo_schema::schema::Schema;
 pub use graphql_ast as ast;
