@@ -1,96 +1,105 @@
-//! A schema of two documents that are made by calls: what is at fault in them, and where, and the schema written out.
-//!
-//! A book shop says its types in two files. The first extends a type that the second defines, which is right; the second gives
-//! `Book` the field `title` once more, which is a fault. A build uses all that it can, and tells the rest.
+//! Trees made by calls: a schema of two documents, and a query over it, with a variable and a fragment. Both are written as
+//! GraphQL text.
 #![tactic(auto)]
 
-use anyhow::Result;
+use anyhow::{Result, ensure};
 use apollo_compiler::ast::{
-    Definition, Document, FieldDefinition, ObjectTypeDefinition, ObjectTypeExtension, Type,
+    Argument, Definition, Document, Field, FieldDefinition, FragmentDefinition, FragmentSpread,
+    InputValueDefinition, ObjectTypeDefinition, ObjectTypeExtension, OperationDefinition,
+    OperationType, Type, Value, VariableDefinition,
 };
-use apollo_compiler::schema::{BuildFailure, SchemaBuilder, WithErrors};
-use apollo_compiler::text::definitions;
-use apollo_compiler::{FileId, Name, Node, Schema, SourceSpan};
+use apollo_compiler::text::{definitions, text};
+use apollo_compiler::{ExecutableOptions, Name, Node, Schema, build_executable_document};
 use std::alloc::Global;
 
-/// A field of a named type, whose name stands at a location in a file. Whoever reads GraphQL text hands such locations in.
-fn field(
-    alloc: Global,
-    name: &str,
-    type_name: &str,
-    at: (u64, usize),
-) -> Result<Node<FieldDefinition>> {
-    let location = SourceSpan {
-        file: FileId(at.0),
-        start: at.1,
-        end: at.1.saturating_add(name.len()),
-    };
-    // `Name::new` refuses what is no name of GraphQL. Every other call here fails for want of memory alone.
-    let name = Name::new(alloc, name)?.with_location(location);
-    let ty = Type::named(Name::new(alloc, type_name)?);
-    let field = FieldDefinition::new(alloc, name, ty);
-    Ok(Node::new_opt_location(alloc, field, Some(location))?)
+/// A name, which is refused where it is no name of GraphQL. Every other call here fails only where memory runs out.
+fn name(alloc: Global, text: &str) -> Result<Name> {
+    Ok(Name::new(alloc, text)?)
 }
 
-/// `extend type Book { author: String }`, in file 1. What else a part may have, as directives, are fields to be set.
-fn extension(alloc: Global) -> Result<Document> {
-    let mut book = ObjectTypeExtension::new(alloc, Name::new(alloc, "Book")?);
+/// A field of a type, without arguments.
+fn field(alloc: Global, text: &str, ty: &str) -> Result<FieldDefinition> {
+    let ty = Type::named(name(alloc, ty)?);
+    Ok(FieldDefinition::new(alloc, name(alloc, text)?, ty))
+}
+
+/// `type Query { book(isbn: ID!): Book }`
+fn query_type(alloc: Global) -> Result<Definition> {
+    let id = Type::named(name(alloc, "ID")?).non_null();
+    let isbn = InputValueDefinition::new(alloc, name(alloc, "isbn")?, id)?;
+    let mut book = field(alloc, "book", "Book")?;
+    book.arguments.push(Node::new(alloc, isbn)?)?;
+    let mut query = ObjectTypeDefinition::new(alloc, name(alloc, "Query")?);
+    query.fields.push(Node::new(alloc, book)?)?;
+    Ok(Node::new(alloc, query)?.into())
+}
+
+/// `type Book { title: String }`
+fn book_type(alloc: Global) -> Result<Definition> {
+    let mut book = ObjectTypeDefinition::new(alloc, name(alloc, "Book")?);
     book.fields
-        .push(field(alloc, "author", "String", (1, 19))?)?;
-    let definitions = vec![in alloc; Node::new(alloc, book)?.into()]?;
-    Ok(Document::from_definitions(alloc, definitions))
+        .push(Node::new(alloc, field(alloc, "title", "String")?)?)?;
+    Ok(Node::new(alloc, book)?.into())
 }
 
-/// `type Book { title: String pages: Int title: Int }`, in file 2.
-fn definition(alloc: Global) -> Result<Document> {
-    let mut book = ObjectTypeDefinition::new(alloc, Name::new(alloc, "Book")?);
-    for (name, type_name, start) in [
-        ("title", "String", 12),
-        ("pages", "Int", 26),
-        ("title", "Int", 37),
-    ] {
-        book.fields
-            .push(field(alloc, name, type_name, (2, start))?)?;
+/// `extend type Book { author: String }`
+fn extension(alloc: Global) -> Result<Definition> {
+    let mut book = ObjectTypeExtension::new(alloc, name(alloc, "Book")?);
+    book.fields
+        .push(Node::new(alloc, field(alloc, "author", "String")?)?)?;
+    Ok(Node::new(alloc, book)?.into())
+}
+
+/// `query Shown($isbn: ID!) { book(isbn: $isbn) { ...Parts } }`
+fn operation(alloc: Global) -> Result<Definition> {
+    let value = Node::new(alloc, Value::Variable(name(alloc, "isbn")?))?;
+    let argument = Argument::new(name(alloc, "isbn")?, value);
+    let spread = FragmentSpread::new(alloc, name(alloc, "Parts")?);
+    let mut book = Field::new(alloc, name(alloc, "book")?);
+    book.arguments.push(Node::new(alloc, argument)?)?;
+    book.selection_set.push(Node::new(alloc, spread)?.into())?;
+
+    let id = Type::named(name(alloc, "ID")?).non_null();
+    let isbn = VariableDefinition::new(alloc, name(alloc, "isbn")?, id)?;
+    let mut shown = OperationDefinition::new(alloc, OperationType::Query);
+    shown.name = Some(name(alloc, "Shown")?);
+    shown.variables.push(Node::new(alloc, isbn)?)?;
+    shown.selection_set.push(Node::new(alloc, book)?.into())?;
+    Ok(Node::new(alloc, shown)?.into())
+}
+
+/// `fragment Parts on Book { title author }`
+fn fragment(alloc: Global) -> Result<Definition> {
+    let mut parts = FragmentDefinition::new(alloc, name(alloc, "Parts")?, name(alloc, "Book")?);
+    for text in ["title", "author"] {
+        let field = Field::new(alloc, name(alloc, text)?);
+        parts.selection_set.push(Node::new(alloc, field)?.into())?;
     }
-    let definitions = vec![in alloc; Node::new(alloc, book)?.into()]?;
-    Ok(Document::from_definitions(alloc, definitions))
+    Ok(Node::new(alloc, parts)?.into())
 }
 
-/// Adds the documents in order. In which order makes no difference to what is folded into `Book`.
-fn builder(alloc: Global) -> Result<SchemaBuilder> {
+/// The schema of two documents. It makes no difference that the extension comes first.
+fn schema(alloc: Global) -> Result<Schema> {
+    let extension = vec![in alloc; extension(alloc)?]?;
+    let types = vec![in alloc; query_type(alloc)?, book_type(alloc)?]?;
     let mut builder = Schema::builder(alloc)?;
-    builder.add_ast(&extension(alloc)?)?;
-    builder.add_ast(&definition(alloc)?)?;
-    Ok(builder)
-}
-
-/// The faults, each with its location, and the schema that could be built.
-fn print_faults(rt: &HostRuntime, found: WithErrors<Schema>) -> Result<Schema> {
-    for (location, fault) in found.errors.iter() {
-        match location {
-            Some(span) => println!(rt; "file {}, byte {}: {fault}", span.file.0, span.start)?,
-            None => println!(rt; "somewhere: {fault}")?,
-        }
-    }
-    Ok(found.partial)
-}
-
-/// The schema as GraphQL text: definitions, and extensions where a part came from one.
-fn print_schema(rt: &HostRuntime, schema: &Schema) -> Result<()> {
-    let written = schema.to_ast(rt.alloc())?;
-    println!(rt; "{}", definitions(written.as_slice()))?;
-    Ok(())
+    builder.add_ast(&Document::from_definitions(alloc, extension))?;
+    builder.add_ast(&Document::from_definitions(alloc, types))?;
+    Ok(builder.build()?)
 }
 
 fn main(rt: HostRuntime) -> Result<()> {
-    match builder(rt.alloc())?.build() {
-        Ok(schema) => print_schema(&rt, &schema),
-        Err(BuildFailure::Faults(found)) => {
-            let schema = print_faults(&rt, found)?;
-            print_schema(&rt, &schema)
-        }
-        Err(BuildFailure::Memory) => anyhow::bail!("out of memory"),
-        Err(BuildFailure::ExtensionIds) => anyhow::bail!("too many extensions"),
-        Err(BuildFailure::Failed) => anyhow::bail!("a document was refused before"),
-    }
+    let alloc = rt.alloc();
+    let schema = schema(alloc)?;
+    let types = schema.to_ast(alloc)?;
+    println!(rt; "{}\n", definitions(types.as_slice()))?;
+
+    let query = vec![in alloc; operation(alloc)?, fragment(alloc)?]?;
+    let documents = [Document::from_definitions(alloc, query)];
+    let options = ExecutableOptions::none();
+    let (typed, faults) = build_executable_document(alloc, &schema, options, &documents)?;
+    ensure!(faults.is_empty(), "the query has faults");
+    let query = typed.to_ast(alloc)?;
+    println!(rt; "{}", text(&query))?;
+    Ok(())
 }
