@@ -8,10 +8,15 @@ use Rattle.apollo_meaning.specs.Items.ListItems.{Added, added}
 use Rattle.apollo_canonical.specs.WrittenAgain.{with_built_ins}
 use Rattle.apollo_document.specs.AddedDefinitions.{DocumentItem, document_list}
 use Rattle.apollo_compiler.specs.declared.compile_options.CompileOptions.{CompileOptions}
+use Rattle.apollo_compiler.specs.declared.executable_options.ExecutableOptions.{ExecutableOptions}
 
 -- neither names that are extended only are adopted, nor redefinitions of built-in types ignored
 abbrev pub no_options : CompileOptions
 no_options = record { adopt_orphan_extensions = false; ignore_builtin_redefinitions = false }
+
+-- definitions of the type system in executable documents are passed over
+abbrev pub no_executable_options : ExecutableOptions
+no_executable_options = record { type_system_definitions_are_errors = false }
 
 -- the definitions of all documents, in order
 abbrev pub all_definitions : List Document → List Definition

@@ -9,6 +9,7 @@ use crate::building::build_prepared;
 use crate::compile_error::CompileError;
 use crate::compile_options::CompileOptions;
 use crate::compiled::Compiled;
+use crate::executable_options::ExecutableOptions;
 use crate::laws::headline;
 use crate::prepared::Prepared;
 use crate::rebuilding::rebuild;
@@ -76,12 +77,10 @@ pub fn compile_with_keys(
     let prepared = Prepared::new(alloc, keys)?;
     let (schema, schema_faults) = build_prepared(alloc, &prepared, options, schema_documents)?;
     let rebuilt = rebuild(alloc, &prepared, &schema)?;
-    let typed = type_documents(
-        alloc,
-        &schema,
-        executable_documents,
+    let executable_options = ExecutableOptions {
         type_system_definitions_are_errors,
-    )?;
+    };
+    let typed = type_documents(alloc, &schema, executable_options, executable_documents)?;
     Ok(Compiled {
         schema,
         schema_faults,

@@ -100,6 +100,7 @@ pub use apollo_elaboration::laws as elaboration;
 // failed.
 use crate::compile_error::CompileError;
 use crate::compile_options::CompileOptions;
+use crate::executable_options::ExecutableOptions;
 pub use apollo_document::laws as document;
 pub use apollo_document::laws::document_again;
 use apollo_document::laws::{every_list_means_a_document, kept_operations_are_rooted};
@@ -185,11 +186,13 @@ pub fn headline()
 /// Choices of options are equal exactly where they are one, and so are errors.
 pub fn equality_of_options_and_errors()
     ensures options { ComparesBy ⟦<CompileOptions as PartialEq>⟧.eq (λ options. options) }
+    ensures executable_options { ComparesBy ⟦<ExecutableOptions as PartialEq>⟧.eq (λ options. options) }
     ensures error { ComparesBy ⟦<CompileError as PartialEq>⟧.eq (λ error. error) }
 {}
 
 /// Each clone of a choice of options is the original, and so is each clone of an error.
 pub fn clones_are_exact()
     ensures options { IsExact ⟦<CompileOptions as Clone>⟧.is_clone }
+    ensures executable_options { IsExact ⟦<ExecutableOptions as Clone>⟧.is_clone }
     ensures error { IsExact ⟦<CompileError as Clone>⟧.is_clone }
 {}

@@ -6,6 +6,7 @@ ghost use Rattle.apollo_executable.specs.Erasure.{erased_document};
 ghost use Rattle.apollo_compiler.specs.Lists.{all_sources, executable_list};
 
 use crate::document_building::build_executable_document;
+use crate::executable_options::ExecutableOptions;
 use apollo_document::Faults;
 use apollo_executable::document::ExecutableDocument;
 use apollo_schema::schema::Schema;
@@ -20,24 +21,20 @@ pub(crate) struct TypedDocument {
     pub erased: Document,
 }
 
-/// The typed document of these documents, as [`build_executable_document`] says, and as syntax. The error is want of memory.
+/// The typed document of these documents, as [`build_executable_document`] says, and as syntax. The error is that memory ran
+/// out.
 pub(crate) fn type_documents(
     alloc: Global,
     schema: &Schema,
+    options: ExecutableOptions,
     documents: &[Document],
-    type_system_definitions_are_errors: bool,
 ) -> Result<TypedDocument, AllocError>
-    ensures means { IfOk result (λ typed. IsDocumentOf (Some schema.now) (executable_list type_system_definitions_are_errors documents.now) typed.document) }
+    ensures means { IfOk result (λ typed. IsDocumentOf (Some schema.now) (executable_list options.type_system_definitions_are_errors documents.now) typed.document) }
     ensures sources { IfOk result (λ typed. typed.document.sources ≡ all_sources documents.now) }
-    ensures faults { IfOk result (λ typed. typed.faults.items ≡ document_faults (Some schema.now) (executable_list type_system_definitions_are_errors documents.now)) }
+    ensures faults { IfOk result (λ typed. typed.faults.items ≡ document_faults (Some schema.now) (executable_list options.type_system_definitions_are_errors documents.now)) }
     ensures erased { IfOk result (λ typed. typed.erased ≡ erased_document typed.document) }
 {
-    let (document, faults) = build_executable_document(
-        alloc,
-        schema,
-        documents,
-        type_system_definitions_are_errors,
-    )?;
+    let (document, faults) = build_executable_document(alloc, schema, options, documents)?;
     let erased = document.to_ast(alloc)?;
     Ok(TypedDocument {
         document,

@@ -1,6 +1,6 @@
 //! What documents are compiled to, looked at part by part.
 
-use crate::compiling::{PLAIN, expect_told};
+use crate::compiling::{PLAIN, TYPING, expect_told};
 use apollo_compiler::{
     Compiled, Definition, HashKeys, build_executable_document, build_schema, compile,
     compile_with_keys,
@@ -113,7 +113,7 @@ fn told_of_builds(alloc: Global, input: &str) -> Result<String, Fail> {
     let ast = schema.to_ast(alloc)?;
     push_part(&mut text, "schema", ast.as_slice(), faults.as_slice())?;
     let queries = documents.executable.as_slice();
-    let (document, faults) = build_executable_document(alloc, &schema, queries, true)?;
+    let (document, faults) = build_executable_document(alloc, &schema, TYPING, queries)?;
     let erased = document.to_ast(alloc)?;
     let definitions = erased.definitions.as_slice();
     push_part(&mut text, "document", definitions, faults.as_slice())?;

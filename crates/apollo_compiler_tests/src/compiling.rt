@@ -1,6 +1,6 @@
 //! What is told of what documents are compiled to. One function owns what is compiled, which is dear to prove.
 
-use apollo_compiler::{CompileOptions, Compiled, Document, compile};
+use apollo_compiler::{CompileOptions, Compiled, Document, ExecutableOptions, compile};
 use bench_notation::printing::print;
 use bench_notation::reading::read;
 use bench_notation::refusal::ReadError;
@@ -16,6 +16,11 @@ pub const EQUAL: &str = "no fault: true\nequal: true\nsame definitions: true\nsa
 pub const PLAIN: CompileOptions = CompileOptions {
     adopt_orphan_extensions: false,
     ignore_builtin_redefinitions: false,
+};
+
+/// A definition of the type system in an executable document is a fault.
+pub const TYPING: ExecutableOptions = ExecutableOptions {
+    type_system_definitions_are_errors: true,
 };
 
 /// Adds the write-out, and then whether there is no fault in the rebuild, and what is the same in it.

@@ -3,7 +3,9 @@
 use crate::compiling::PLAIN;
 use crate::texts::read;
 use apollo_compiler::usage::{FieldUsage, field_usage};
-use apollo_compiler::{FileId, HashKeys, build_executable_document, build_schema};
+use apollo_compiler::{
+    ExecutableOptions, FileId, HashKeys, build_executable_document, build_schema,
+};
 use std::alloc::Global;
 use std::slice;
 
@@ -20,7 +22,8 @@ fn usages(alloc: Global) -> Option<Vec<FieldUsage>> {
     let (schema, _) = build_schema(alloc, HashKeys::FIXED, PLAIN, slice::from_ref(&schema)).ok()?;
     let query = read(alloc, FileId(2), QUERY)?;
     let documents = slice::from_ref(&query);
-    let (document, _) = build_executable_document(alloc, &schema, documents, true).ok()?;
+    let options = ExecutableOptions::none();
+    let (document, _) = build_executable_document(alloc, &schema, options, documents).ok()?;
     let operation = document.operations.iter().next()?;
     field_usage(alloc, &document, operation).ok()
 }

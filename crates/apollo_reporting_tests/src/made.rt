@@ -3,8 +3,8 @@
 use apollo_compiler::schema::Schema;
 use apollo_compiler::text::{ParseOptions, parse_document};
 use apollo_compiler::{
-    CompileOptions, Document, ExecutableDocument, FileId, HashKeys, SourceFile, SourceMap,
-    SourceSpan, build_executable_document, build_schema,
+    CompileOptions, Document, ExecutableDocument, ExecutableOptions, FileId, HashKeys, SourceFile,
+    SourceMap, SourceSpan, build_executable_document, build_schema,
 };
 use apollo_meaning::build_error::BuildError;
 use apollo_reporting::detail::Detail;
@@ -25,6 +25,10 @@ static STORE: &str =
 const PLAIN: CompileOptions = CompileOptions {
     adopt_orphan_extensions: false,
     ignore_builtin_redefinitions: false,
+};
+
+const TYPING: ExecutableOptions = ExecutableOptions {
+    type_system_definitions_are_errors: true,
 };
 
 /// How a fault is told.
@@ -102,7 +106,7 @@ pub fn told_of_schema(alloc: Global, form: Form, text: &str) -> Option<String> {
 fn told_over(alloc: Global, form: Form, schema: &Schema, text: &str) -> Option<String> {
     let document = read(alloc, FileId(2), "page.graphql", text)?;
     let documents = slice::from_ref(&document);
-    let (typed, faults) = build_executable_document(alloc, schema, documents, true).ok()?;
+    let (typed, faults) = build_executable_document(alloc, schema, TYPING, documents).ok()?;
     told(alloc, form, &typed.sources, faults.as_slice()).ok()
 }
 
@@ -119,7 +123,7 @@ fn leaves(alloc: Global, text: &str) -> Option<(ExecutableDocument, Vec<LeafFaul
     let schema = store(alloc)?;
     let document = read(alloc, FileId(2), "page.graphql", text)?;
     let documents = slice::from_ref(&document);
-    let (typed, _faults) = build_executable_document(alloc, &schema, documents, true).ok()?;
+    let (typed, _faults) = build_executable_document(alloc, &schema, TYPING, documents).ok()?;
     let faults = leaf_faults(alloc, &schema, &typed).ok()?;
     Some((typed, faults))
 }

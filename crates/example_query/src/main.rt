@@ -1,96 +1,57 @@
-//! GraphQL text read as a schema and a document: faults with their paths, an operation got by its name, its fields walked.
+//! A query over a schema, both in files that the command line names: what is at fault in them, and which fields each operation reaches.
 #![tactic(auto)]
 
-use anyhow::{Result, bail};
+use anyhow::{Context, Result};
 use apollo_compiler::collections::Shared;
-use apollo_compiler::executable::{Operation, RequestError};
-use apollo_compiler::text::{ParseOptions, parse_document};
+use apollo_compiler::report::report;
+use apollo_compiler::text::{ParseOptions, parse_document, ty};
+use apollo_compiler::usage::field_usage;
 use apollo_compiler::{
-    CompileOptions, Document, ExecutableDocument, FileId, HashKeys, Name, Node, Schema, SourceFile,
+    CompileOptions, Document, ExecutableOptions, FileId, HashKeys, SourceFile, SourceMap,
     build_executable_document, build_schema,
 };
-use std::alloc::Global;
-use std::slice;
+use leafcheck::leaf_faults;
+use std::{env, fs};
 
-const SCHEMA: &str = "type Query { book(isbn: ID!): Book }
-type Book { title: String author: Author }
-type Author { name: String }
-";
-
-const QUERIES: &str = "query Shown { book(isbn: \"1\") { title author { ...Names } price } }
-query Asked { __schema { types { name } } }
-fragment Names on Author { name }
-";
-
-/// The document of a text, which is the file of this number: every number but 0 will do.
-fn document(alloc: Global, number: u64, path: &str, text: &str) -> Result<Document> {
-    let source = Shared::new(alloc, SourceFile::new(alloc, path, text)?)?;
-    // The error says what is wrong with the text first, and where.
-    Ok(parse_document(alloc, FileId(number), &source, ParseOptions::new())?)
-}
-
-/// The schema of a document. A server draws its keys, for documents from strangers.
-fn schema(alloc: Global, document: &Document) -> Result<Schema> {
-    let options = CompileOptions::none();
-    let documents = slice::from_ref(document);
-    let (schema, faults) = build_schema(alloc, HashKeys::FIXED, options, documents)?;
-    if !faults.is_empty() {
-        bail!("the schema has faults");
-    }
-    Ok(schema)
-}
-
-/// Prints each field that an operation reaches, with its type: through fragments, each fragment once.
-fn print_walk(
-    rt: &HostRuntime,
-    document: &ExecutableDocument,
-    operation: &Operation,
-) -> Result<()> {
+/// The document of a file of GraphQL text. The sources keep the text, for reports.
+fn read(rt: &HostRuntime, sources: &mut SourceMap, number: FileId, path: &str) -> Result<Document> {
     let alloc = rt.alloc();
-    for field in operation.all_fields(alloc, document) {
-        let field = field?;
-        println!(rt;
-            "  {}: {}",
-            field.response_key(),
-            field.ty().inner_named_type()
-        )?;
+    let text = fs::read_to_string(rt, path).context("reading a file")?;
+    let file = Shared::new(alloc, SourceFile::new(alloc, path, text.as_str())?)?;
+    sources.insert(number, file.clone()?)?;
+    let document = parse_document(alloc, number, &file, ParseOptions::new());
+    if let Err(error) = &document {
+        print!(rt; "{}", report(sources, Some(error.location), error))?;
     }
-    let asks_for_schema = operation.is_introspection(alloc, document)?;
-    println!(rt; "  introspection alone: {asks_for_schema}")?;
-    Ok(())
-}
-
-/// Prints the operation that a request asks for. With several operations the request has to name one.
-fn print_operation(
-    rt: &HostRuntime,
-    document: &ExecutableDocument,
-    name: Option<&str>,
-) -> Result<()> {
-    let name = match name {
-        Some(name) => Some(Name::new(rt.alloc(), name)?),
-        None => None,
-    };
-    match document.operations.get(name.as_ref()) {
-        Ok(operation) => {
-            println!(rt; "{}", operation.selection_set.ty)?;
-            print_walk(rt, document, operation)
-        }
-        Err(error) => Ok(println!(rt; "no operation: {error}")?),
-    }
+    Ok(document?)
 }
 
 fn main(rt: HostRuntime) -> Result<()> {
     let alloc = rt.alloc();
-    let schema = schema(alloc, &document(alloc, 1, "store.graphql", SCHEMA)?)?;
-    let queries = document(alloc, 2, "queries.graphql", QUERIES)?;
-    // Definitions of types don't belong here: each is a fault.
-    let queries = slice::from_ref(&queries);
-    let (document, faults) = build_executable_document(alloc, &schema, queries, true)?;
-    for (_, fault) in faults.iter() {
-        println!(rt; "fault: {fault}")?;
+    let mut paths = env::args(&rt)?.skip(1);
+    let mut sources = SourceMap::new(alloc);
+    let path = paths.next().context("no schema")?;
+    let documents = [read(&rt, &mut sources, FileId(1), path.as_str())?];
+    let keys = HashKeys::drawn(&rt)?;
+    let (schema, faults) = build_schema(alloc, keys, CompileOptions::none(), &documents)?;
+    for (location, fault) in faults.iter() {
+        print!(rt; "{}", report(&sources, *location, fault))?;
     }
-    print_operation(&rt, &document, Some("Shown"))?;
-    print_operation(&rt, &document, Some("Asked"))?;
-    print_operation(&rt, &document, Some("Missing"))?;
-    print_operation(&rt, &document, None)
+    let path = paths.next().context("no query")?;
+    let documents = [read(&rt, &mut sources, FileId(2), path.as_str())?];
+    let options = ExecutableOptions::none();
+    let (query, faults) = build_executable_document(alloc, &schema, options, &documents)?;
+    for (location, fault) in faults.iter() {
+        print!(rt; "{}", report(&sources, *location, fault))?;
+    }
+    for fault in leaf_faults(alloc, &schema, &query)?.iter() {
+        print!(rt; "{}", report(&sources, fault.location, fault))?;
+    }
+    for operation in query.operations.iter() {
+        for usage in field_usage(alloc, &query, operation)?.iter() {
+            let field = usage.coordinate.lookup_field(&schema)?;
+            println!(rt; "{} {usage}: {}", usage.count, ty(&field.ty))?;
+        }
+    }
+    Ok(())
 }

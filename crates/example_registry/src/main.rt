@@ -1,59 +1,67 @@
-//! What a schema registry runs on each upload: the files' documents compiled, their faults told, and whether the schema that
-//! comes out is canonical, which means that its write-out builds again to an equal schema with the same write-out.
-//!
-//! The files that are named on the command line are in the line notation. The status is 1 where something is at fault.
+//! What a registry runs on each upload: one schema of several files of GraphQL text, refused where it has faults, and else written
+//! in its canonical form. A service may extend types that no file defines: they are taken as defined.
 #![tactic(auto)]
 
-use anyhow::{Context, Result};
-use apollo_compiler::compiled::Compiled;
-use apollo_compiler::{CompileOptions, Document, HashKeys, compile_with_keys};
-use bench_notation::reading::read;
-use std::process::ExitCode;
+use anyhow::{Context, Result, ensure};
+use apollo_compiler::collections::Shared;
+use apollo_compiler::report::report;
+use apollo_compiler::text::{ParseOptions, definitions_text, parse_document};
+use apollo_compiler::{
+    CompileOptions, Document, FileId, HashKeys, Schema, SourceFile, build_schema,
+};
+use std::alloc::Global;
 use std::{env, fs};
 
-/// The documents of the files, in the order of the command line.
+const ADOPTING: CompileOptions = CompileOptions {
+    adopt_orphan_extensions: true,
+    ignore_builtin_redefinitions: false,
+};
+
+/// The document of a text, which is the file of this number.
+fn parse(alloc: Global, number: usize, path: &str, text: &str) -> Result<Document> {
+    let file = Shared::new(alloc, SourceFile::new(alloc, path, text)?)?;
+    Ok(parse_document(alloc, FileId(number as u64), &file, ParseOptions::new())?)
+}
+
+/// The documents of the files that the command line names, numbered from 1.
 fn documents(rt: &HostRuntime) -> Result<Vec<Document>> {
-    let alloc = rt.alloc();
-    let mut documents = Vec::new(alloc);
-    for path in env::args(rt)?.skip(1) {
+    let mut documents = Vec::new(rt.alloc());
+    for (number, path) in env::args(rt)?.enumerate().skip(1) {
         let text = fs::read_to_string(rt, path.as_str()).context("reading a file")?;
-        for document in read(alloc, text.as_str())? {
-            documents.push(document)?;
-        }
+        let document = parse(rt.alloc(), number, path.as_str(), text.as_str());
+        documents.push(document.context(path)?)?;
     }
     Ok(documents)
 }
 
-/// Whether the write-out builds again, without fault, to an equal schema that is written out the same. It does, by the law
-/// `headline`, where nothing is marked built-in and each schema definition names a root: then only `true` is printed.
-fn is_canonical(compiled: &Compiled) -> bool {
-    compiled.rebuilt_faults.is_empty()
-        && compiled.rebuilt == compiled.schema
-        && compiled.rebuilt_ast == compiled.ast
+fn schema_text(alloc: Global, schema: &Schema) -> Result<String> {
+    let written = schema.to_ast(alloc)?;
+    Ok(definitions_text(alloc, written.as_slice())?)
 }
 
-fn print_report(rt: &HostRuntime, compiled: &Compiled) -> Result<()> {
-    for (_, fault) in compiled.schema_faults.iter() {
-        println!(rt; "fault: {fault}")?;
-    }
-    println!(rt; "definitions and extensions: {}", compiled.ast.len())?;
-    println!(rt; "canonical: {}", is_canonical(compiled))?;
-    Ok(())
+/// Whether the text of a schema, built again, has no fault, and makes an equal schema with the same text. It is proved that it does.
+fn is_canonical(alloc: Global, keys: HashKeys, schema: &Schema, text: &str) -> Result<bool> {
+    let documents = [parse(alloc, 1, "schema.graphql", text)?];
+    let (again, faults) = build_schema(alloc, keys, ADOPTING, &documents)?;
+    let text_again = schema_text(alloc, &again)?;
+    Ok(faults.is_empty() && again == *schema && text_again.as_str() == text)
 }
 
-fn main(rt: HostRuntime) -> Result<ExitCode> {
+fn main(rt: HostRuntime) -> Result<()> {
+    let alloc = rt.alloc();
     let documents = documents(&rt)?;
-    // Types that are extended only are taken as defined: a registry sees one service at a time.
-    let options = CompileOptions {
-        adopt_orphan_extensions: true,
-        ignore_builtin_redefinitions: false,
-    };
-    // Uploads come from strangers, who could make names that all collide under keys that they know.
-    let keys = HashKeys::drawn(&rt).context("drawing keys")?;
-    let compiled = compile_with_keys(rt.alloc(), keys, options, documents.as_slice(), &[], true)?;
-    print_report(&rt, &compiled)?;
-    match compiled.schema_faults.is_empty() {
-        true => Ok(ExitCode::SUCCESS),
-        false => Ok(ExitCode::from(1)),
+    // Uploads come from strangers: under keys that nobody can foretell they can't make names that collide.
+    let keys = HashKeys::drawn(&rt)?;
+    let (schema, faults) = build_schema(alloc, keys, ADOPTING, documents.as_slice())?;
+    for (location, fault) in faults.iter() {
+        eprint!(rt; "{}", report(&schema.sources, *location, fault))?;
     }
+    ensure!(faults.is_empty(), "the schema has faults");
+    let text = schema_text(alloc, &schema)?;
+    ensure!(
+        is_canonical(alloc, keys, &schema, text.as_str())?,
+        "the text is not canonical"
+    );
+    println!(rt; "{text}")?;
+    Ok(())
 }

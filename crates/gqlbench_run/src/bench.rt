@@ -6,6 +6,7 @@ use crate::failure::Failure;
 use apollo_compiler::building::build_schema;
 use apollo_compiler::compile_options::CompileOptions;
 use apollo_compiler::document_building::build_executable_document;
+use apollo_compiler::executable_options::ExecutableOptions;
 use apollo_compiler::text::{ParseOptions, document_text, parse_document};
 use apollo_compiler::{FileId, SourceFile};
 use apollo_document::Faults as DocumentFaults;
@@ -25,6 +26,11 @@ use std::slice;
 const REBUILDING: CompileOptions = CompileOptions {
     adopt_orphan_extensions: true,
     ignore_builtin_redefinitions: false,
+};
+
+/// The options under which documents are typed: a definition of the type system is a fault.
+const TYPING: ExecutableOptions = ExecutableOptions {
+    type_system_definitions_are_errors: true,
 };
 
 /// A schema and its faults.
@@ -130,6 +136,6 @@ impl Bench {
 
     /// The typed document of documents over a schema.
     pub fn type_over(&self, schema: &Schema, documents: &[Document]) -> Result<Typed, Failure> {
-        Ok(build_executable_document(self.alloc, schema, documents, true)?)
+        Ok(build_executable_document(self.alloc, schema, TYPING, documents)?)
     }
 }

@@ -9,6 +9,7 @@ use crate::findings::Findings;
 use apollo_compiler::building::build_schema;
 use apollo_compiler::compile_options::CompileOptions;
 use apollo_compiler::document_building::build_executable_document;
+use apollo_compiler::executable_options::ExecutableOptions;
 use apollo_executable::document::ExecutableDocument;
 use graphql_nodes::collections::hash_keys::HashKeys;
 use graphql_nodes::source::merge_sources;
@@ -46,7 +47,12 @@ pub(crate) fn type_documents<F: Files>(
     let documents = read_documents(alloc, files, paths.as_slice())?;
     let (of_schema, executable) = documents.as_slice().split_at(schema_paths.len());
     let (schema, schema_faults) = build_schema(alloc, keys, CompileOptions::none(), of_schema)?;
-    let (document, document_faults) = build_executable_document(alloc, &schema, executable, true)?;
+    let options = ExecutableOptions {
+        type_system_definitions_are_errors: true,
+    };
+    let (document, document_faults) = build_executable_document(
+        alloc, &schema, options, executable,
+    )?;
     let leaf_faults = leaf_faults(alloc, &schema, &document)?;
     let mut sources = schema.sources.clone()?;
     merge_sources(&mut sources, &document.sources)?;

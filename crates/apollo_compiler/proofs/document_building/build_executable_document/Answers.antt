@@ -13,7 +13,7 @@ use Rattle.apollo_compiler.proofs.document_building.build_executable_document.Go
 pub loop-document-preserved : goal.loop-document-preserved
 loop-document-preserved c =
     let s = Some c.args.schema.now in
-    let b = c.args.type_system_definitions_are_errors in
+    let b = c.args.options.type_system_definitions_are_errors in
     let ds = c.args.documents.now in
     let i = c.loop-document.document-index in
     let d = c.document-item.result in
@@ -26,7 +26,7 @@ loop-document-preserved c =
 pub returns-clause-means : goal.returns-clause-means
 returns-clause-means c =
     let s = Some c.args.schema.now in
-    let b = c.args.type_system_definitions_are_errors in
+    let b = c.args.options.type_system_definitions_are_errors in
     let ds = c.args.documents.now in
     let i = c.loop-document.document-index in
     subst (λ (l : List Document). IsDocumentOf s (executable_list b l) c.in-Ok-build.built.0) (take_all i ds (omega arith))
@@ -38,7 +38,7 @@ returns-clause-sources c = c.in-Ok-build.ensures.sources ∙ c.loop-document.inv
 pub returns-clause-faults : goal.returns-clause-faults
 returns-clause-faults c =
     let s = Some c.args.schema.now in
-    let b = c.args.type_system_definitions_are_errors in
+    let b = c.args.options.type_system_definitions_are_errors in
     let ds = c.args.documents.now in
     let i = c.loop-document.document-index in
     c.in-Ok-build.ensures.faults s (executable_list b (take i ds)) c.loop-document.invariant.stands

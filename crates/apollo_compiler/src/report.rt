@@ -1,0 +1,6 @@
+//! Faults as compilers report them, with their line and a mark, and as JSON. A caller's own errors take part by [`Reported`].
+
+pub use apollo_reporting::report::{FaultReport, report, report_text};
+pub use apollo_reporting::{
+    About, Detail, DetailValue, Earlier, FaultCount, Reported, faults_line, to_json,
+};
