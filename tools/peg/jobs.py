@@ -55,7 +55,7 @@ def run(jobs, side_by_side=2):
 
 def of_both(*words):
     """The jobs that the tests and the gate have both. `--built` leaves out what would be compiled without proof."""
-    checks = ["checked_sources", "checked_documents", "quoted_code", "worked", "checked_program"]
+    checks = ["checked_sources", "checked_documents", "quoted_code", "worked", "checked_program", "checked_cases"]
     return [
         command("tools/fuzz", "--hostile"),
         command("tools/colliding_names", "--check"),
