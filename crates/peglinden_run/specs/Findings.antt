@@ -1,11 +1,11 @@
 -- What a command shows of what is at fault.
-use Rattle.std.specs.Prelude.{◌≡◌, ◌++◌, ◌+◌, ◌-◌, ◌^◌, ◌==◌, ◌&&◌, ℕ, min, Bool, true, false, not, List, [], length, string_bytes}
+use Rattle.std.specs.Prelude.{◌≡◌, ◌++◌, ◌+◌, ◌-◌, ◌^◌, ◌==◌, ◌&&◌, ℕ, min, Bool, true, false, not, List, [], Some, length, string_bytes}
 use Rattle.graphql_nodes.specs.Sources.{Files}
 use Rattle.apollo_elaboration.specs.Typable.{Fault as DocumentFault}
 use Rattle.apollo_meaning.specs.Faults.Collisions.{Fault}
-use Rattle.apollo_reporting.specs.DocumentFaults.{document_fault_about}
-use Rattle.apollo_reporting.specs.SchemaFaults.{schema_fault_about}
-use Rattle.leafcheck.specs.FaultReports.{leaf_fault_about}
+use Rattle.apollo_reporting.specs.DocumentFaults.{document_fault_about, document_fault_details}
+use Rattle.apollo_reporting.specs.SchemaFaults.{schema_fault_about, schema_fault_details}
+use Rattle.leafcheck.specs.FaultReports.{leaf_fault_about, leaf_fault_details}
 use Rattle.leafcheck.specs.declared.leaf_fault.LeafFault.{LeafFault}
 use Rattle.peglinden_run.specs.declared.answer.Answer.{Answer}
 use Rattle.peglinden_run.specs.declared.findings.Findings.{Findings}
@@ -48,15 +48,15 @@ IsLeafReport sources fault text = IsReport sources fault.location (leaf_fault_ab
 
 -- a fault of a schema as a line of JSON
 abbrev pub IsSchemaLine : Files → Fault → List ℕ → Type 0
-IsSchemaLine sources fault text = IsJsonLine sources fault.0 (schema_fault_about fault.1) text
+IsSchemaLine sources fault text = IsJsonLine sources fault.0 (schema_fault_about fault.1) (Some (schema_fault_details fault.1)) text
 
 -- a fault of a document as a line of JSON
 abbrev pub IsDocumentLine : Files → DocumentFault → List ℕ → Type 0
-IsDocumentLine sources fault text = IsJsonLine sources fault.0 (document_fault_about fault.1) text
+IsDocumentLine sources fault text = IsJsonLine sources fault.0 (document_fault_about fault.1) (Some (document_fault_details fault.1)) text
 
 -- a leaf fault as a line of JSON
 abbrev pub IsLeafLine : Files → LeafFault → List ℕ → Type 0
-IsLeafLine sources fault text = IsJsonLine sources fault.location (leaf_fault_about fault) text
+IsLeafLine sources fault text = IsJsonLine sources fault.location (leaf_fault_about fault) (Some (leaf_fault_details fault)) text
 
 -- the reports of all that is at fault, in order, and how much that is
 pub record AreReports (found : Found) (text : List ℕ) : Type 0 where

@@ -7,15 +7,16 @@ use Rattle.apollo_reporting.specs.Abouts.{AboutView}
 use Rattle.apollo_reporting.specs.Counts.{count_text}
 use Rattle.apollo_reporting.specs.FaultData.{fault_data}
 use Rattle.apollo_reporting.specs.Reports.{report_text}
+use Rattle.apollo_reporting.specs.Said.{OfSaid}
 use Rattle.apollo_reporting.specs.declared.detail.Detail.{Detail}
 
--- the text is the report of a fault at this location, with an empty line behind it
+-- the text is the report of a fault at this location, by some sentence and what else reports say of it, with an empty line behind it
 abbrev pub IsReport : Files → Option SourceSpan → AboutView → List ℕ → Type 0
-IsReport files location about text = (said : List ℕ) × (text ≡ report_text files location about said ++ codes "\n")
+IsReport files location about text = (sentence : List ℕ) × (text ≡ report_text files location about sentence ++ codes "\n")
 
--- the text is the JSON of a fault at this location, as a line
-abbrev pub IsJsonLine : Files → Option SourceSpan → AboutView → List ℕ → Type 0
-IsJsonLine files location about text = (said : List ℕ) × ((details : List Detail) × (text ≡ compact_text (fault_data files location about said details) ++ codes "\n"))
+-- the text is the JSON of a fault at this location, by some sentence, what else reports say of it and its details, as a line
+abbrev pub IsJsonLine : Files → Option SourceSpan → AboutView → Option (List Detail) → List ℕ → Type 0
+IsJsonLine files location about of_details text = (sentence : List ℕ) × OfSaid of_details (λ details. text ≡ compact_text (fault_data files location about sentence details) ++ codes "\n")
 
 -- behind what was there a text stands of which P holds
 abbrev pub Adds : (List ℕ → Type 0) → List ℕ → List ℕ → Type 0

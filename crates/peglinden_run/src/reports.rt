@@ -96,7 +96,7 @@ pub(crate) fn push_json<E: Reported>(
     location: Option<SourceSpan>,
     fault: &E,
 ) -> Result<(), AllocError>
-    ensures { OnOk result (Adds (IsJsonLine sources.now location (E.said_about fault.now)) (string_bytes lines.old) (string_bytes lines.new)) }
+    ensures { OnOk result (Adds (IsJsonLine sources.now location (E.said_about fault.now) (E.said_details fault.now)) (string_bytes lines.old) (string_bytes lines.new)) }
 {
     lines.push_str(to_json(alloc, sources, location, fault)?.as_str())?;
     lines.push_str("\n")
@@ -109,7 +109,7 @@ pub(crate) fn push_json_lines<E: Reported>(
     sources: &SourceMap,
     faults: &[(Option<SourceSpan>, E)],
 ) -> Result<(), AllocError>
-    ensures { OnOk result (Adds (SaysEach (λ fault. IsJsonLine sources.now fault.0 (E.said_about fault.1)) faults.now) (string_bytes lines.old) (string_bytes lines.new)) }
+    ensures { OnOk result (Adds (SaysEach (λ fault. IsJsonLine sources.now fault.0 (E.said_about fault.1) (E.said_details fault.1)) faults.now) (string_bytes lines.old) (string_bytes lines.new)) }
 {
     for fault in faults {
         push_json(alloc, lines, sources, fault.0, &fault.1)?;

@@ -1,0 +1,14 @@
+//! Tests of the run of `peglinden`, over files and standard input in memory: each row is what a run is on, what it writes on both streams,
+//! and how it ends.
+#![tactic(auto)]
+
+#[cfg(test)]
+mod commands;
+#[cfg(test)]
+mod files;
+#[cfg(test)]
+mod inputs;
+#[cfg(test)]
+mod rows;
+#[cfg(test)]
+mod streams;

@@ -1,0 +1,117 @@
+//! Rows of runs. What a run promises stands in its contract. Here nothing is promised, so that no test carries it along.
+
+use graphql_nodes::collections::hash_keys::HashKeys;
+use peglinden_run::running::run;
+use program_io::at_hand::FilesAtHand;
+use program_io::input::BytesAtHand;
+use program_io::status::Status;
+use std::alloc::Global;
+use std::io::Write;
+use std::process::Abort;
+
+/// A run, what it writes on both streams, and how it ends.
+#[derive(Clone, Copy)]
+pub struct Row {
+    pub words: &'static [&'static str],
+    pub output: &'static str,
+    pub errors: &'static str,
+    pub status: Status,
+}
+
+/// The files of the rows: a schema and documents over it, one with a fault, and a schema with one; and texts of every sort.
+pub static FILES: [(&str, &[u8]); 10] = [
+    ("store.graphql", STORE.as_bytes()),
+    ("page.graphql", PAGE.as_bytes()),
+    ("faulty.graphql", FAULTY.as_bytes()),
+    (
+        "twice.graphql",
+        b"type Book { title: String }\ntype Book { price: Int }\n",
+    ),
+    ("parts.graphql", PARTS.as_bytes()),
+    ("broken.graphql", b"type Query {\n  book: }\n"),
+    ("bytes.graphql", b"type Query { a: Int }\xff"),
+    ("empty.graphql", b""),
+    ("open.graphql", b"scalar Date"),
+    ("lines.graphql", b"type Query {\r\n  a: Int\r\n}\r\n"),
+];
+
+const STORE: &str = "type Query {
+  book: Book
+}
+
+type Book {
+  title: String
+}
+";
+
+const PAGE: &str = "query Page {
+  book {
+    title
+  }
+}
+";
+
+const FAULTY: &str = "query Page {
+  book {
+    pages
+  }
+}
+";
+
+/// One of each that a coordinate points to.
+const PARTS: &str = "directive @shown(where: Place) on FIELD
+
+type Book {
+  \"What it costs.\"
+  price(in: Money = EURO): Int
+}
+
+enum Money {
+  EURO
+}
+
+input Place {
+  shelf: Int = 1
+}
+";
+
+/// How a run over these files and this input ends.
+/// No clause: it serves tests.
+pub fn ended<O: Write, E: Write>(
+    alloc: Global,
+    words: &[&str],
+    input: &[u8],
+    output: &mut O,
+    errors: &mut E,
+) -> Status {
+    let files = FilesAtHand(&FILES);
+    let mut reader = BytesAtHand(input);
+    run(
+        alloc,
+        HashKeys::FIXED,
+        words,
+        &files,
+        &mut reader,
+        output,
+        errors,
+    )
+}
+
+/// Expects of a row on this input what it says.
+/// No clause: it serves tests.
+pub fn expect(rt: &(impl Abort + AllocGlobal), row: &Row, input: &[u8]) {
+    let mut output = Vec::new(rt.alloc());
+    let mut errors = Vec::new(rt.alloc());
+    let status = ended(rt.alloc(), row.words, input, &mut output, &mut errors);
+    assert_eq!(rt; errors.as_slice(), row.errors.as_bytes());
+    assert_eq!(rt; output.as_slice(), row.output.as_bytes());
+    assert_eq!(rt; status, row.status);
+}
+
+/// Expects of each row, without an input, what it says.
+/// No clause: it serves tests.
+pub fn expect_all(rt: &(impl Abort + AllocGlobal), rows: &[Row]) {
+    for row in rows {
+        expect(rt, row, b"");
+    }
+}
