@@ -62,6 +62,7 @@ def of_both(*words):
         command("tools/fuzz", "2000", "1"),
         command("tools/fuzz", "--peer", "100", "1"),
         command("tools/fuzz", "--texts", "100", "1"),
+        command("tools/fuzz", "--files", "100", "1"),
         command("tools/checked_examples", *words),
         *(command(f"tools/{check}") for check in checks),
     ]

@@ -33,7 +33,7 @@ function printedDefinitions(definitions) {
   return texts.map((text, at) => (at > 0 && text.startsWith('{') && !standApart(texts[at - 1], text) ? `query ${text}` : text));
 }
 
-module.exports = function printedText(sort, text, parseSelections) {
+function printedText(sort, text, parseSelections) {
   switch (sort) {
     case 'selections':
       return printed(parseSelections(text));
@@ -44,4 +44,6 @@ module.exports = function printedText(sort, text, parseSelections) {
     default:
       return printedDefinitions(parse(text).definitions).join('\n\n');
   }
-};
+}
+
+module.exports = { printed, printedText };

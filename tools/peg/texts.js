@@ -5,7 +5,7 @@
 'use strict';
 const fs = require('node:fs');
 const { parse, parseConstValue, Parser, parseType } = require('./graphql');
-const printedText = require('./prints');
+const { printedText } = require('./prints');
 
 // The byte of each place in a text, of which graphql-js counts UTF-16 units.
 function bytesOf(text) {
