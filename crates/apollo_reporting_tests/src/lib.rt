@@ -2,12 +2,22 @@
 #![tactic(auto)]
 
 #[cfg(test)]
+mod details;
+#[cfg(test)]
 mod documents;
+#[cfg(test)]
+mod failures;
 #[cfg(test)]
 mod leaves;
 #[cfg(test)]
 mod made;
 #[cfg(test)]
+mod own_fault;
+#[cfg(test)]
+mod places;
+#[cfg(test)]
 mod rows;
 #[cfg(test)]
 mod schemas;
+#[cfg(test)]
+mod texts;

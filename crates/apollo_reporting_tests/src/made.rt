@@ -6,8 +6,6 @@ use apollo_compiler::{
     CompileOptions, Document, ExecutableDocument, ExecutableOptions, FileId, HashKeys, SourceFile,
     SourceMap, SourceSpan, build_executable_document, build_schema,
 };
-use apollo_meaning::build_error::BuildError;
-use apollo_reporting::detail::Detail;
 use apollo_reporting::fault_json::to_json;
 use apollo_reporting::report::report;
 use apollo_reporting::reported::Reported;
@@ -21,7 +19,7 @@ use std::slice;
 static STORE: &str =
     "type Query { book: Book }\ntype Book { title: String sort: Sort }\nenum Sort { A }";
 
-/// The options that every test has.
+/// The options that every build has.
 const PLAIN: CompileOptions = CompileOptions {
     adopt_orphan_extensions: false,
     ignore_builtin_redefinitions: false,
@@ -31,43 +29,46 @@ const TYPING: ExecutableOptions = ExecutableOptions {
     type_system_definitions_are_errors: true,
 };
 
-/// How a fault is told.
+/// The limits that texts to be refused have.
+const LIMITS: ParseOptions = ParseOptions {
+    max_depth: 3,
+    max_tokens: 12,
+};
+
+/// How a fault is reported.
 #[derive(Clone, Copy)]
-pub enum Form {
+pub(crate) enum Form {
     Text,
     Json,
 }
 
-/// Adds what is told of a fault.
-fn push_fault<E: Reported>(
+/// What is reported of a fault.
+/// No clause: it serves tests.
+pub(crate) fn reported<E: Reported>(
     alloc: Global,
-    told: &mut String,
     form: Form,
     sources: &SourceMap,
     location: Option<SourceSpan>,
     fault: &E,
-) -> Result<(), AllocError> {
+) -> Result<String, AllocError> {
     match form {
-        Form::Text => { told.push_str(report(sources, location, fault).to_string(alloc)?.as_str()) }
-        Form::Json => {
-            told.push_str(to_json(alloc, sources, location, fault)?.as_str())?;
-            told.push_str("\n")
-        }
+        Form::Text => report(sources, location, fault).to_string(alloc),
+        Form::Json => to_json(alloc, sources, location, fault),
     }
 }
 
-/// What is told of faults, one behind the other.
-fn told<E: Reported>(
+/// What is reported of faults, one behind the other.
+fn all_reported<E: Reported>(
     alloc: Global,
     form: Form,
     sources: &SourceMap,
     faults: &[(Option<SourceSpan>, E)],
 ) -> Result<String, AllocError> {
-    let mut told = String::new(alloc);
+    let mut text = String::new(alloc);
     for fault in faults {
-        push_fault(alloc, &mut told, form, sources, fault.0, &fault.1)?;
+        text.push_str(reported(alloc, form, sources, fault.0, &fault.1)?.as_str())?;
     }
-    Ok(told)
+    Ok(text)
 }
 
 /// A file of this text.
@@ -76,38 +77,47 @@ fn file(alloc: Global, path: &str, text: &str) -> Result<Shared<SourceFile>, All
     Ok(Shared::new(alloc, file)?)
 }
 
+/// Sources whose one file, that of the number 7, has this text.
+/// No clause: it serves tests.
+pub(crate) fn sources_of(alloc: Global, path: &str, text: &str) -> Result<SourceMap, AllocError> {
+    let mut sources = Table::new(alloc);
+    sources.insert(FileId(7), file(alloc, path, text)?)?;
+    Ok(sources)
+}
+
 /// The document of a text, that of the file of this number.
-fn read(alloc: Global, number: FileId, path: &str, text: &str) -> Option<Document> {
+/// No clause: it serves tests.
+pub(crate) fn read(alloc: Global, number: FileId, path: &str, text: &str) -> Option<Document> {
     let source = file(alloc, path, text).ok()?;
     parse_document(alloc, number, &source, ParseOptions::new()).ok()
 }
 
-/// What is told of the refusal of a text.
-pub fn told_of_text(alloc: Global, form: Form, text: &str) -> Option<String> {
+/// What is reported of the refusal of a text.
+/// No clause: it serves tests.
+pub(crate) fn reported_of_text(alloc: Global, form: Form, text: &str) -> Option<String> {
     let source = file(alloc, "refused.graphql", text).ok()?;
-    let mut sources = Table::new(alloc);
-    sources.insert(FileId(7), source.clone().ok()?).ok()?;
-    let Err(error) = parse_document(alloc, FileId(7), &source, ParseOptions::new()) else {
+    let Err(error) = parse_document(alloc, FileId(7), &source, LIMITS) else {
         return None;
     };
-    let faults = vec![in alloc; (Some(error.location), error)].ok()?;
-    told(alloc, form, &sources, faults.as_slice()).ok()
+    let sources = sources_of(alloc, "refused.graphql", text).ok()?;
+    reported(alloc, form, &sources, Some(error.location), &error).ok()
 }
 
-/// What is told of the faults of a schema.
-pub fn told_of_schema(alloc: Global, form: Form, text: &str) -> Option<String> {
+/// What is reported of the faults of a schema.
+/// No clause: it serves tests.
+pub(crate) fn reported_of_schema(alloc: Global, form: Form, text: &str) -> Option<String> {
     let document = read(alloc, FileId(1), "store.graphql", text)?;
     let documents = slice::from_ref(&document);
     let (schema, faults) = build_schema(alloc, HashKeys::FIXED, PLAIN, documents).ok()?;
-    told(alloc, form, &schema.sources, faults.as_slice()).ok()
+    all_reported(alloc, form, &schema.sources, faults.as_slice()).ok()
 }
 
-/// What is told of the faults of a document over a schema.
-fn told_over(alloc: Global, form: Form, schema: &Schema, text: &str) -> Option<String> {
+/// What is reported of the faults of a document over a schema.
+fn reported_over(alloc: Global, form: Form, schema: &Schema, text: &str) -> Option<String> {
     let document = read(alloc, FileId(2), "page.graphql", text)?;
     let documents = slice::from_ref(&document);
     let (typed, faults) = build_executable_document(alloc, schema, TYPING, documents).ok()?;
-    told(alloc, form, &typed.sources, faults.as_slice()).ok()
+    all_reported(alloc, form, &typed.sources, faults.as_slice()).ok()
 }
 
 /// The schema of [`STORE`].
@@ -116,6 +126,12 @@ fn store(alloc: Global) -> Option<Schema> {
     let documents = slice::from_ref(&document);
     let (schema, _faults) = build_schema(alloc, HashKeys::FIXED, PLAIN, documents).ok()?;
     Some(schema)
+}
+
+/// What is reported of the faults of a document over the schema of [`STORE`].
+/// No clause: it serves tests.
+pub(crate) fn reported_of_document(alloc: Global, form: Form, text: &str) -> Option<String> {
+    reported_over(alloc, form, &store(alloc)?, text)
 }
 
 /// The leaf faults of a document over the schema of [`STORE`], with the document.
@@ -128,37 +144,10 @@ fn leaves(alloc: Global, text: &str) -> Option<(ExecutableDocument, Vec<LeafFaul
     Some((typed, faults))
 }
 
-/// What is told of the leaf faults of a document over the schema of [`STORE`].
-pub fn told_of_leaves(alloc: Global, form: Form, text: &str) -> Option<String> {
+/// What is reported of the first leaf fault of a document over the schema of [`STORE`].
+/// No clause: it serves tests.
+pub(crate) fn reported_of_leaf(alloc: Global, form: Form, text: &str) -> Option<String> {
     let (typed, faults) = leaves(alloc, text)?;
-    let mut told = String::new(alloc);
-    for fault in &faults {
-        push_fault(
-            alloc,
-            &mut told,
-            form,
-            &typed.sources,
-            fault.location,
-            fault,
-        )
-        .ok()?;
-    }
-    Some(told)
-}
-
-/// How many details the first leaf fault of a document has, and how many an error of a build and a detail of no text.
-pub fn counts(alloc: Global, text: &str) -> Option<[usize; 2]> {
-    let (_typed, faults) = leaves(alloc, text)?;
-    let first: &LeafFault = faults.first()?;
-    let error = BuildError::BuiltInScalarTypeRedefinition;
-    let none = vec![in alloc; Detail::optional_text(alloc, "name", None).ok()?].ok()?;
-    Some([
-        first.details(alloc).ok()?.len(),
-        error.details(alloc).ok()?.len() + none.len(),
-    ])
-}
-
-/// What is told of the faults of a document over the schema of [`STORE`].
-pub fn told_of_document(alloc: Global, form: Form, text: &str) -> Option<String> {
-    told_over(alloc, form, &store(alloc)?, text)
+    let fault = faults.first()?;
+    reported(alloc, form, &typed.sources, fault.location, fault).ok()
 }

@@ -1,11 +1,11 @@
-//! Rows of texts, and what is told of them.
+//! Rows of texts, and how their faults are reported.
 
-use crate::made::{Form, told_of_document, told_of_schema, told_of_text};
-use std::alloc::Global;
+use crate::made::{Form, reported_of_document, reported_of_schema, reported_of_text};
+use std::alloc::{AllocError, Global};
 
-/// What the rows are.
+/// What the texts of rows are.
 #[derive(Clone, Copy)]
-pub(crate) enum Rows {
+pub(crate) enum Sort {
     /// Texts that are refused.
     Texts,
     /// Texts of schemas.
@@ -14,29 +14,47 @@ pub(crate) enum Rows {
     Documents,
 }
 
-/// What is told of a text.
-fn told(alloc: Global, rows: Rows, form: Form, text: &str) -> Option<String> {
-    match rows {
-        Rows::Texts => told_of_text(alloc, form, text),
-        Rows::Schemas => told_of_schema(alloc, form, text),
-        Rows::Documents => told_of_document(alloc, form, text),
+/// A text with a fault, the report of that, and its JSON, which is broken into lines here.
+pub(crate) struct Row {
+    pub text: &'static str,
+    pub report: &'static str,
+    pub json: &'static str,
+}
+
+/// What is reported of the faults of a text.
+fn reported(alloc: Global, sort: Sort, form: Form, text: &str) -> Option<String> {
+    match sort {
+        Sort::Texts => reported_of_text(alloc, form, text),
+        Sort::Schemas => reported_of_schema(alloc, form, text),
+        Sort::Documents => reported_of_document(alloc, form, text),
     }
 }
 
-/// Whether this is told of a text.
-fn is_told(alloc: Global, rows: Rows, form: Form, text: &str, wanted: &str) -> bool {
-    match told(alloc, rows, form, text) {
-        Some(told) => told.as_str() == wanted,
-        None => false,
+/// A text without its line ends.
+/// No clause: it serves tests.
+pub(crate) fn joined(alloc: Global, lines: &str) -> Result<String, AllocError> {
+    let mut text = String::new(alloc);
+    for line in lines.lines() {
+        text.push_str(line)?;
     }
+    Ok(text)
 }
 
-/// Whether of the text in each row the other one is told.
-pub(crate) fn are_told(alloc: Global, rows: Rows, form: Form, texts: &[(&str, &str)]) -> bool {
-    for row in texts {
-        if !is_told(alloc, rows, form, row.0, row.1) {
-            return false;
+/// Whether the fault of a row is reported so, or none where memory runs out.
+fn is_reported(alloc: Global, sort: Sort, row: &Row) -> Option<bool> {
+    let report = reported(alloc, sort, Form::Text, row.text)?;
+    let json = reported(alloc, sort, Form::Json, row.text)?;
+    let wanted = joined(alloc, row.json).ok()?;
+    Some(report.as_str() == row.report && json.as_str() == wanted.as_str())
+}
+
+/// The text of the first row whose fault is reported in another way.
+/// No clause: it serves tests.
+pub(crate) fn first_wrong(alloc: Global, sort: Sort, rows: &[Row]) -> Option<&'static str> {
+    for row in rows {
+        if is_reported(alloc, sort, row) != Some(true) {
+            return Some(row.text);
         }
     }
-    true
+    None
 }

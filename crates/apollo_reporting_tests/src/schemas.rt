@@ -1,13 +1,12 @@
 //! Reports of the faults of schemas.
 
-use crate::made::Form;
-use crate::rows::{Rows, are_told};
+use crate::rows::{Row, Sort, first_wrong};
 
-/// Each fault of schemas once, and one in a tenth line.
-static REPORTS: [(&str, &str); 17] = [
-    (
-        "schema { query: A }\nschema { query: B }",
-        "error: must not have multiple `schema` definitions
+/// Each fault of schemas once, and one in a tenth line. A tab stands before one.
+static ROWS: [Row; 17] = [
+    Row {
+        text: "schema { query: A }\nschema { query: B }",
+        report: "error: must not have multiple `schema` definitions
   --> store.graphql:2:1
    |
  2 | schema { query: B }
@@ -18,10 +17,13 @@ note: first defined here
  1 | schema { query: A }
    | ^^^^^^^^^^^^^^^^^^^
 ",
-    ),
-    (
-        "directive @d on FIELD\ndirective @d on QUERY",
-        "error: the directive `@d` is defined multiple times in the schema
+        json: r#"{"kind":"SchemaDefinitionCollision","message":"must not have multiple `schema` definitions",
+"file":"store.graphql","line":2,"column":1,"end_line":2,"end_column":20,"path":null,
+"previous_location":{"file":"store.graphql","line":1,"column":1,"end_line":1,"end_column":20}}"#,
+    },
+    Row {
+        text: "directive @d on FIELD\ndirective @d on QUERY",
+        report: "error: the directive `@d` is defined multiple times in the schema
   --> store.graphql:2:12
    |
  2 | directive @d on QUERY
@@ -32,10 +34,14 @@ note: first defined here
  1 | directive @d on FIELD
    |            ^
 ",
-    ),
-    (
-        "type A\n  interface A",
-        "error: the type `A` is defined multiple times in the schema
+        json: r#"{"kind":"DirectiveDefinitionCollision",
+"message":"the directive `@d` is defined multiple times in the schema",
+"file":"store.graphql","line":2,"column":12,"end_line":2,"end_column":13,"path":null,
+"previous_location":{"file":"store.graphql","line":1,"column":12,"end_line":1,"end_column":13},"name":"d"}"#,
+    },
+    Row {
+        text: "type A\n  interface A",
+        report: "error: the type `A` is defined multiple times in the schema
   --> store.graphql:2:13
    |
  2 |   interface A
@@ -46,37 +52,46 @@ note: first defined here
  1 | type A
    |      ^
 ",
-    ),
-    (
-        "scalar Int",
-        "error: built-in scalar definitions must be omitted
+        json: r#"{"kind":"TypeDefinitionCollision","message":"the type `A` is defined multiple times in the schema",
+"file":"store.graphql","line":2,"column":13,"end_line":2,"end_column":14,"path":null,
+"previous_location":{"file":"store.graphql","line":1,"column":6,"end_line":1,"end_column":7},"name":"A"}"#,
+    },
+    Row {
+        text: "scalar Int",
+        report: "error: built-in scalar definitions must be omitted
   --> store.graphql:1:1
    |
  1 | scalar Int
    | ^^^^^^^^^^
 ",
-    ),
-    (
-        "extend schema @d",
-        "error: schema extension without a schema definition
+        json: r#"{"kind":"BuiltInScalarTypeRedefinition","message":"built-in scalar definitions must be omitted",
+"file":"store.graphql","line":1,"column":1,"end_line":1,"end_column":11,"path":null}"#,
+    },
+    Row {
+        text: "extend schema @d",
+        report: "error: schema extension without a schema definition
   --> store.graphql:1:1
    |
  1 | extend schema @d
    | ^^^^^^^^^^^^^^^^
 ",
-    ),
-    (
-        "extend type A @d",
-        "error: type extension for undefined type `A`
+        json: r#"{"kind":"OrphanSchemaExtension","message":"schema extension without a schema definition",
+"file":"store.graphql","line":1,"column":1,"end_line":1,"end_column":17,"path":null}"#,
+    },
+    Row {
+        text: "extend type A @d",
+        report: "error: type extension for undefined type `A`
   --> store.graphql:1:13
    |
  1 | extend type A @d
    |             ^
 ",
-    ),
-    (
-        "type A\nextend enum A { B }",
-        "error: adding an enum type extension, but `A` is an object type
+        json: r#"{"kind":"OrphanTypeExtension","message":"type extension for undefined type `A`",
+"file":"store.graphql","line":1,"column":13,"end_line":1,"end_column":14,"path":null,"name":"A"}"#,
+    },
+    Row {
+        text: "type A\nextend enum A { B }",
+        report: "error: adding an enum type extension, but `A` is an object type
   --> store.graphql:2:13
    |
  2 | extend enum A { B }
@@ -87,10 +102,14 @@ note: defined here
  1 | type A
    |      ^
 ",
-    ),
-    (
-        "schema { query: A query: B }",
-        "error: duplicate definitions for the `query` root operation type
+        json: r#"{"kind":"TypeExtensionKindMismatch","message":"adding an enum type extension, but `A` is an object type",
+"file":"store.graphql","line":2,"column":13,"end_line":2,"end_column":14,"path":null,
+"name":"A","describe_ext":"an enum type extension","def_location":{"file":"store.graphql","line":1,
+"column":6,"end_line":1,"end_column":7},"describe_def":"an object type"}"#,
+    },
+    Row {
+        text: "schema { query: A query: B }",
+        report: "error: duplicate definitions for the `query` root operation type
   --> store.graphql:1:19
    |
  1 | schema { query: A query: B }
@@ -101,10 +120,14 @@ note: first defined here
  1 | schema { query: A query: B }
    |                 ^
 ",
-    ),
-    (
-        "type A implements I & I",
-        "error: object type `A` implements interface `I` more than once
+        json: r#"{"kind":"DuplicateRootOperation","message":"duplicate definitions for the `query` root operation type",
+"file":"store.graphql","line":1,"column":19,"end_line":1,"end_column":27,"path":null,
+"previous_location":{"file":"store.graphql","line":1,"column":17,"end_line":1,"end_column":18},
+"operation_type":"query"}"#,
+    },
+    Row {
+        text: "type A implements I & I",
+        report: "error: object type `A` implements interface `I` more than once
   --> store.graphql:1:23
    |
  1 | type A implements I & I
@@ -115,10 +138,14 @@ note: first listed here
  1 | type A implements I & I
    |                   ^
 ",
-    ),
-    (
-        "interface A implements I & I",
-        "error: interface type `A` implements interface `I` more than once
+        json: r#"{"kind":"DuplicateImplementsInterfaceInObject",
+"message":"object type `A` implements interface `I` more than once",
+"file":"store.graphql","line":1,"column":23,"end_line":1,"end_column":24,"path":null,
+"name_at_previous_location":"I","type_name":"A"}"#,
+    },
+    Row {
+        text: "interface A implements I & I",
+        report: "error: interface type `A` implements interface `I` more than once
   --> store.graphql:1:28
    |
  1 | interface A implements I & I
@@ -129,10 +156,14 @@ note: first listed here
  1 | interface A implements I & I
    |                        ^
 ",
-    ),
-    (
-        "type A {\n\tb: Int\n\tb: Int\n}",
-        "error: duplicate definitions for the `b` field of object type `A`
+        json: r#"{"kind":"DuplicateImplementsInterfaceInInterface",
+"message":"interface type `A` implements interface `I` more than once",
+"file":"store.graphql","line":1,"column":28,"end_line":1,"end_column":29,"path":null,
+"name_at_previous_location":"I","type_name":"A"}"#,
+    },
+    Row {
+        text: "type A {\n\tb: Int\n\tb: Int\n}",
+        report: "error: duplicate definitions for the `b` field of object type `A`
   --> store.graphql:3:2
    |
  3 | \tb: Int
@@ -143,10 +174,13 @@ note: first defined here
  2 | \tb: Int
    | \t^
 ",
-    ),
-    (
-        "interface A { b: Int b: Int }",
-        "error: duplicate definitions for the `b` field of interface type `A`
+        json: r#"{"kind":"ObjectFieldNameCollision","message":"duplicate definitions for the `b` field of object type `A`",
+"file":"store.graphql","line":3,"column":2,"end_line":3,"end_column":8,"path":null,
+"name_at_previous_location":"b","type_name":"A"}"#,
+    },
+    Row {
+        text: "interface A { b: Int b: Int }",
+        report: "error: duplicate definitions for the `b` field of interface type `A`
   --> store.graphql:1:22
    |
  1 | interface A { b: Int b: Int }
@@ -157,10 +191,14 @@ note: first defined here
  1 | interface A { b: Int b: Int }
    |               ^
 ",
-    ),
-    (
-        "enum A { B B }",
-        "error: duplicate definitions for the `B` value of enum type `A`
+        json: r#"{"kind":"InterfaceFieldNameCollision",
+"message":"duplicate definitions for the `b` field of interface type `A`",
+"file":"store.graphql","line":1,"column":22,"end_line":1,"end_column":28,"path":null,
+"name_at_previous_location":"b","type_name":"A"}"#,
+    },
+    Row {
+        text: "enum A { B B }",
+        report: "error: duplicate definitions for the `B` value of enum type `A`
   --> store.graphql:1:12
    |
  1 | enum A { B B }
@@ -171,10 +209,13 @@ note: first defined here
  1 | enum A { B B }
    |          ^
 ",
-    ),
-    (
-        "union A = B | B",
-        "error: duplicate definitions for the `B` member of union type `A`
+        json: r#"{"kind":"EnumValueNameCollision","message":"duplicate definitions for the `B` value of enum type `A`",
+"file":"store.graphql","line":1,"column":12,"end_line":1,"end_column":13,"path":null,
+"name_at_previous_location":"B","type_name":"A"}"#,
+    },
+    Row {
+        text: "union A = B | B",
+        report: "error: duplicate definitions for the `B` member of union type `A`
   --> store.graphql:1:15
    |
  1 | union A = B | B
@@ -185,10 +226,13 @@ note: first listed here
  1 | union A = B | B
    |           ^
 ",
-    ),
-    (
-        "input A { b: Int b: Int }",
-        "error: duplicate definitions for the `b` field of input object type `A`
+        json: r#"{"kind":"UnionMemberNameCollision","message":"duplicate definitions for the `B` member of union type `A`",
+"file":"store.graphql","line":1,"column":15,"end_line":1,"end_column":16,"path":null,
+"name_at_previous_location":"B","type_name":"A"}"#,
+    },
+    Row {
+        text: "input A { b: Int b: Int }",
+        report: "error: duplicate definitions for the `b` field of input object type `A`
   --> store.graphql:1:18
    |
  1 | input A { b: Int b: Int }
@@ -199,19 +243,26 @@ note: first defined here
  1 | input A { b: Int b: Int }
    |           ^
 ",
-    ),
-    (
-        "{ a }",
-        "error: a schema document must not contain an operation definition
+        json: r#"{"kind":"InputFieldNameCollision",
+"message":"duplicate definitions for the `b` field of input object type `A`",
+"file":"store.graphql","line":1,"column":18,"end_line":1,"end_column":24,"path":null,
+"name_at_previous_location":"b","type_name":"A"}"#,
+    },
+    Row {
+        text: "{ a }",
+        report: "error: a schema document must not contain an operation definition
   --> store.graphql:1:1
    |
  1 | { a }
    | ^^^^^
 ",
-    ),
-    (
-        "type A\n\n\n\n\n\n\n\n\ntype A",
-        "error: the type `A` is defined multiple times in the schema
+        json: r#"{"kind":"ExecutableDefinition","message":"a schema document must not contain an operation definition",
+"file":"store.graphql","line":1,"column":1,"end_line":1,"end_column":6,"path":null,
+"describe":"an operation definition"}"#,
+    },
+    Row {
+        text: "type A\n\n\n\n\n\n\n\n\ntype A",
+        report: "error: the type `A` is defined multiple times in the schema
    --> store.graphql:10:6
     |
  10 | type A
@@ -222,22 +273,13 @@ note: first defined here
  1 | type A
    |      ^
 ",
-    ),
+        json: r#"{"kind":"TypeDefinitionCollision","message":"the type `A` is defined multiple times in the schema",
+"file":"store.graphql","line":10,"column":6,"end_line":10,"end_column":7,"path":null,
+"previous_location":{"file":"store.graphql","line":1,"column":6,"end_line":1,"end_column":7},"name":"A"}"#,
+    },
 ];
 
 #[test]
-fn faults_are_reported(rt: HostRuntime) {
-    assert!(rt; are_told(rt.alloc(), Rows::Schemas, Form::Text, &REPORTS));
-}
-
-/// A fault whose details are texts and a place.
-static OBJECTS: [(&str, &str); 1] = [(
-    "type A\nextend enum A { B }",
-    "{\"kind\":\"TypeExtensionKindMismatch\",\"message\":\"adding an enum type extension, but `A` is an object type\",\"file\":\"store.graphql\",\"line\":2,\"column\":13,\"end_line\":2,\"end_column\":14,\"path\":null,\"name\":\"A\",\"describe_ext\":\"an enum type extension\",\"def_location\":{\"file\":\"store.graphql\",\"line\":1,\"column\":6,\"end_line\":1,\"end_column\":7},\"describe_def\":\"an object type\"}
-",
-)];
-
-#[test]
-fn faults_are_told_as_json(rt: HostRuntime) {
-    assert!(rt; are_told(rt.alloc(), Rows::Schemas, Form::Json, &OBJECTS));
+fn faults_of_schemas_are_reported(rt: HostRuntime) {
+    assert!(rt; first_wrong(rt.alloc(), Sort::Schemas, &ROWS) == None);
 }

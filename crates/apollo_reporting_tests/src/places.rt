@@ -1,0 +1,105 @@
+//! Reports of faults whose places are not known, or not in full.
+
+use crate::made::{Form, reported, sources_of};
+use crate::rows::joined;
+use apollo_compiler::{FileId, SourceSpan};
+use apollo_meaning::build_error::BuildError;
+use std::alloc::{AllocError, Global};
+
+/// The text of the file of number 7, the only one.
+static TEXT: &str = "{a}\n";
+
+/// A place in a file that the sources lack.
+const OF_NO_FILE: SourceSpan = SourceSpan {
+    file: FileId(9),
+    start: 3,
+    end: 4,
+};
+
+/// A place behind the end of the text.
+const BEHIND_THE_END: SourceSpan = SourceSpan {
+    file: FileId(7),
+    start: 9,
+    end: 12,
+};
+
+/// A place that begins in the text, and ends behind its end.
+const PAST_THE_END: SourceSpan = SourceSpan {
+    file: FileId(7),
+    start: 1,
+    end: 9,
+};
+
+/// A fault at a location, with an earlier place, the report of it, and its JSON, which is broken into lines here.
+struct Row {
+    location: Option<SourceSpan>,
+    previous_location: Option<SourceSpan>,
+    report: &'static str,
+    json: &'static str,
+}
+
+static ROWS: [Row; 4] = [
+    Row {
+        location: None,
+        previous_location: None,
+        report: "error: must not have multiple `schema` definitions\n",
+        json: r#"{"kind":"SchemaDefinitionCollision","message":"must not have multiple `schema` definitions",
+"file":null,"line":null,"column":null,"end_line":null,"end_column":null,"path":null,
+"previous_location":null}"#,
+    },
+    Row {
+        location: Some(OF_NO_FILE),
+        previous_location: Some(BEHIND_THE_END),
+        report: "error: must not have multiple `schema` definitions
+  --> file 9, byte 3
+note: first defined here
+  --> places.graphql, byte 9
+",
+        json: r#"{"kind":"SchemaDefinitionCollision","message":"must not have multiple `schema` definitions",
+"file":null,"line":null,"column":null,"end_line":null,"end_column":null,"path":null,
+"previous_location":{"file":"places.graphql","line":null,"column":null,"end_line":null,"end_column":null}}"#,
+    },
+    Row {
+        location: Some(BEHIND_THE_END),
+        previous_location: Some(OF_NO_FILE),
+        report: "error: must not have multiple `schema` definitions
+  --> places.graphql, byte 9
+note: first defined here
+  --> file 9, byte 3
+",
+        json: r#"{"kind":"SchemaDefinitionCollision","message":"must not have multiple `schema` definitions",
+"file":"places.graphql","line":null,"column":null,"end_line":null,"end_column":null,"path":null,
+"previous_location":{"file":null,"line":null,"column":null,"end_line":null,"end_column":null}}"#,
+    },
+    Row {
+        location: Some(PAST_THE_END),
+        previous_location: None,
+        report: "error: must not have multiple `schema` definitions
+  --> places.graphql:1:2
+   |
+ 1 | {a}
+   |  ^^
+",
+        json: r#"{"kind":"SchemaDefinitionCollision","message":"must not have multiple `schema` definitions",
+"file":"places.graphql","line":1,"column":2,"end_line":null,"end_column":null,"path":null,
+"previous_location":null}"#,
+    },
+];
+
+/// Whether the fault of a row is reported so. The error is out of memory.
+fn is_reported(alloc: Global, row: &Row) -> Result<bool, AllocError> {
+    let sources = sources_of(alloc, "places.graphql", TEXT)?;
+    let fault = BuildError::SchemaDefinitionCollision {
+        previous_location: row.previous_location,
+    };
+    let report = reported(alloc, Form::Text, &sources, row.location, &fault)?;
+    let json = reported(alloc, Form::Json, &sources, row.location, &fault)?;
+    Ok(report.as_str() == row.report && json.as_str() == joined(alloc, row.json)?.as_str())
+}
+
+#[test]
+fn unknown_places_are_reported(rt: HostRuntime) {
+    for row in &ROWS {
+        assert!(rt; is_reported(rt.alloc(), row) == Ok(true));
+    }
+}
