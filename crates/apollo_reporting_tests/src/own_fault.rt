@@ -7,6 +7,7 @@ ghost use Rattle.apollo_reporting.specs.FaultData.{fault_data};
 ghost use Rattle.apollo_reporting.specs.Reports as spec;
 
 use crate::made::sources_of;
+use crate::rows::joined;
 use apollo_compiler::{FileId, SourceMap, SourceSpan};
 use apollo_reporting::about::About;
 use apollo_reporting::detail::Detail;
@@ -53,7 +54,8 @@ fn report_of(
     location: Option<SourceSpan>,
     fault: &TooWide,
 ) -> Result<String, AllocError>
-    ensures { IfOk result (λ text. string_bytes text ≡ spec.report_text sources.now location (of_kind (codes "TooWide")) (decimal fault.now.fields ++ codes " fields are too many")) }
+    ensures { IfOk result (λ text. string_bytes text ≡ spec.report_text sources.now location
+        (of_kind (codes "TooWide")) (decimal fault.now.fields ++ codes " fields are too many")) }
 {
     report_text(alloc, sources, location, fault)
 }
@@ -65,7 +67,9 @@ fn json_of(
     location: Option<SourceSpan>,
     fault: &TooWide,
 ) -> Result<String, AllocError>
-    ensures { IfOk result (λ text. string_bytes text ≡ compact_text (fault_data sources.now location (of_kind (codes "TooWide")) (decimal fault.now.fields ++ codes " fields are too many") (one_text (codes "fields") (decimal fault.now.fields)))) }
+    ensures { IfOk result (λ text. string_bytes text ≡ compact_text (fault_data sources.now location
+        (of_kind (codes "TooWide")) (decimal fault.now.fields ++ codes " fields are too many")
+        (one_text (codes "fields") (decimal fault.now.fields)))) }
 {
     to_json(alloc, sources, location, fault)
 }
