@@ -3,7 +3,7 @@
 
 use anyhow::{Context, Result};
 use apollo_compiler::collections::Shared;
-use apollo_compiler::report::report;
+use apollo_compiler::report::report_text;
 use apollo_compiler::text::{ParseOptions, parse_document, ty};
 use apollo_compiler::usage::field_usage;
 use apollo_compiler::{
@@ -19,11 +19,13 @@ fn read(rt: &HostRuntime, sources: &mut SourceMap, number: FileId, path: &str) -
     let text = fs::read_to_string(rt, path).context("reading a file")?;
     let file = Shared::new(alloc, SourceFile::new(alloc, path, text.as_str())?)?;
     sources.insert(number, file.clone()?)?;
-    let document = parse_document(alloc, number, &file, ParseOptions::new());
-    if let Err(error) = &document {
-        print!(rt; "{}", report(sources, Some(error.location), error))?;
+    match parse_document(alloc, number, &file, ParseOptions::new()) {
+        Ok(document) => Ok(document),
+        Err(error) => {
+            rt.print(report_text(alloc, sources, Some(error.location), &error)?)?;
+            Err(error.into())
+        }
     }
-    Ok(document?)
 }
 
 fn main(rt: HostRuntime) -> Result<()> {
@@ -35,17 +37,17 @@ fn main(rt: HostRuntime) -> Result<()> {
     let keys = HashKeys::drawn(&rt)?;
     let (schema, faults) = build_schema(alloc, keys, CompileOptions::none(), &documents)?;
     for (location, fault) in faults.iter() {
-        print!(rt; "{}", report(&sources, *location, fault))?;
+        rt.print(report_text(alloc, &sources, *location, fault)?)?;
     }
     let path = paths.next().context("no query")?;
     let documents = [read(&rt, &mut sources, FileId(2), path.as_str())?];
     let options = ExecutableOptions::none();
     let (query, faults) = build_executable_document(alloc, &schema, options, &documents)?;
     for (location, fault) in faults.iter() {
-        print!(rt; "{}", report(&sources, *location, fault))?;
+        rt.print(report_text(alloc, &sources, *location, fault)?)?;
     }
     for fault in leaf_faults(alloc, &schema, &query)?.iter() {
-        print!(rt; "{}", report(&sources, fault.location, fault))?;
+        rt.print(report_text(alloc, &sources, fault.location, fault)?)?;
     }
     for operation in query.operations.iter() {
         for usage in field_usage(alloc, &query, operation)?.iter() {

@@ -4,7 +4,7 @@
 
 use anyhow::{Context, Result, ensure};
 use apollo_compiler::collections::Shared;
-use apollo_compiler::report::report;
+use apollo_compiler::report::report_text;
 use apollo_compiler::text::{ParseOptions, definitions_text, parse_document};
 use apollo_compiler::{
     CompileOptions, Document, FileId, HashKeys, Schema, SourceFile, build_schema,
@@ -54,7 +54,7 @@ fn main(rt: HostRuntime) -> Result<()> {
     let keys = HashKeys::drawn(&rt)?;
     let (schema, faults) = build_schema(alloc, keys, ADOPTING, documents.as_slice())?;
     for (location, fault) in faults.iter() {
-        eprint!(rt; "{}", report(&schema.sources, *location, fault))?;
+        rt.eprint(report_text(alloc, &schema.sources, *location, fault)?)?;
     }
     ensure!(faults.is_empty(), "the schema has faults");
     let text = schema_text(alloc, &schema)?;
