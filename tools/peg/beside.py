@@ -21,6 +21,7 @@ SCRIPT = pathlib.Path(__file__).with_name("beside.js")
 EXPLAINED = {
     "unbuilt": "schemas that graphql-js can't build",
     "faulty": "schemas that both refuse",
+    "orphan": "extensions of a schema that isn't there",
 }
 explained = collections.Counter()
 SORTS = ["document", "schema"]
@@ -88,10 +89,16 @@ def wrong_of_schema(ended, peer):
     """What is wrong with a run of `schema`, of which graphql-js says so much."""
     if ended.status == 0 and not peer.get("unbuilt"):
         return peer["differences"]
-    if ended.status == 0 or not peer["accepted"]:
-        explained["faulty" if ended.status else "unbuilt"] += 1
-        return []
-    return [f"accepted by graphql-js: {ended}"]
+    faults = {*re.findall(rb"^error: (.*)", ended.errors, re.MULTILINE)}
+    if ended.status == 0:
+        explained["unbuilt"] += 1
+    elif not peer["accepted"]:
+        explained["faulty"] += 1
+    elif faults == {b"schema extension without a schema definition"}:
+        explained["orphan"] += 1
+    else:
+        return [f"accepted by graphql-js: {ended}"]
+    return []
 
 
 def of_schemas(named):

@@ -1,6 +1,7 @@
 """Large and strange inputs, each at two sizes: what comes of them, and that the time grows as what is read, said and walked.
 
-Texts of coordinates longer than a command line may have are run as rows, by `gqlrows`, and GraphQL texts are read by `gqltext`.
+Texts of coordinates longer than a command line may have are run as rows, by `gqlrows`, and GraphQL texts are read by `gqltext`
+and `peglinden`.
 """
 import re
 from typing import Callable, NamedTuple
@@ -120,6 +121,16 @@ def letters(size):
     return b"def object " + b"T" * size + b"\n"
 
 
+def scalars(size, between=b"\n"):
+    return between.join(b"scalar T%d" % at for at in range(size)) + b"\n"
+
+
+def braces(size, run):
+    """A report of the second one, which shows the line that they are."""
+    shown = b"  --> -:1:2\n   |\n 1 | %b\n   |  ^\n" % (b"{" * size)
+    return run.answer == (2, b"", b"error: expected a selection, found `{`\n%b\n1 fault\n" % shown)
+
+
 IS_UNKNOWN = ends(2, errors=b"line 1: unknown line\n")
 # How many signs may be open at once in a GraphQL text.
 AT_ONCE = 200
@@ -186,6 +197,21 @@ CASES = {
         lambda size, run: run.answer == (0, b"tree 0..1 int 0 \n" * size, b""),
         program="gqltext",
     ),
+    "scalars of a file": Hostile(
+        [b"schema", b"-"],
+        scalars,
+        lambda size, run: run.answer == (0, scalars(size, b"\n\n"), b""),
+        (50_000, 200_000),
+        "peglinden",
+    ),
+    "letters of a name in a file": Hostile(
+        [b"format", b"-"],
+        lambda size: b"scalar " + b"T" * size + b"\n",
+        lambda size, run: run.answer == (0, b"scalar " + b"T" * size + b"\n", b""),
+        LONG,
+        "peglinden",
+    ),
+    "opening braces of a file": Hostile([b"format", b"-"], lines(b"{"), braces, program="peglinden"),
 }
 
 

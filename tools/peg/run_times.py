@@ -43,4 +43,4 @@ def compare(paths):
     for _ in range(RUNS):
         for name, command in commands.items():
             runs[name].append(programs.run(*command, b""))
-    return write([f"{size} bytes in {len(paths)} files", *(line(name, its, size) for name, its in runs.items())])
+    return write([f"{size} bytes, files: {len(paths)}", *(line(name, its, size) for name, its in runs.items())])
