@@ -1,6 +1,6 @@
 -- What is reported of files that are no documents: GraphQL specification of October 2021, section 2.2.
-use Rattle.std.specs.Prelude.{◌≡◌, ◌≢◌, ◌⊎◌, ◌++◌, ℕ, suc, List, [], ◌∷◌, Option, None, Some, codes, count_by, is_some, length}
-use Rattle.std.specs.List.{flat_map}
+use Rattle.std.specs.Prelude.{◌≡◌, ◌≢◌, ◌⊎◌, ◌++◌, ℕ, suc, List, [], ◌∷◌, Option, None, Some, codes, is_some, length, string_bytes}
+use Rattle.std.specs.List.{count_by, flat_map}
 use Rattle.program_io.specs.Files.{CannotBeRead, HoldsSome}
 use Rattle.graphql_ast.specs.declared.document.Document.{Document}
 use Rattle.graphql_grammar.specs.WordsOfText.{words_of}

@@ -44,6 +44,7 @@ pub(crate) fn parse_report(
 }
 
 /// Adds the report of a fault, and an empty line. The error is out of memory.
+#[tactic(auto, using(crate::proofs::ReportLemmas::report_added))]
 pub(crate) fn push_report<E: Reported>(
     alloc: Global,
     reports: &mut String,
@@ -89,6 +90,7 @@ pub(crate) fn push_count(
 }
 
 /// Adds the JSON of a fault, as a line. The error is out of memory.
+#[tactic(auto, using(crate::proofs::ReportLemmas::json_added))]
 pub(crate) fn push_json<E: Reported>(
     alloc: Global,
     lines: &mut String,
