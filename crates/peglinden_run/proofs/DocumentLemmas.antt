@@ -1,5 +1,5 @@
 -- Documents of files, one file after another.
-use Rattle.std.proofs.Common.{◌≡◌, ◌≢◌, ◌⊎◌, ℕ, ◌+◌, suc, List, [], ◌∷◌, ◌++◌, Option, None, Some, Result, Ok, Err, MatchResult, ◌<◌, Bool, true, false, count_by, is_some, get_or, take, length, length-take-le, le_of_lt, inl, inr, refl, sym, ap, subst, string_bytes, ◌∙◌, add-zero, append_assoc, arith}
+use Rattle.std.proofs.Common.{◌≡◌, ◌≢◌, ◌⊎◌, ℕ, ◌+◌, suc, List, [], ◌∷◌, ◌++◌, Option, None, Some, Result, Ok, Err, IfOk, MatchResult, ◌<◌, Bool, true, false, count_by, is_some, get_or, take, length, length-take-le, le_of_lt, inl, inr, refl, sym, ap, subst, string_bytes, ◌∙◌, add-zero, append_assoc, arith}
 use Rattle.std.specs.Borrow.{Bor}
 use Rattle.std.specs.List.{flat_map}
 use Rattle.std.proofs.lemmas.Grind.{flat_map-append}
@@ -27,7 +27,8 @@ pub documents-length : (held : List ℕ → List ℕ → Type 0) (number : ℕ) 
 documents-length held number [] documents are = ap length are
 documents-length held number (path ∷ paths) documents are = ap length are.1.1.0 ∙ ap suc (documents-length held (suc number) paths are.1.0 are.1.1.1.1)
 
-usual : ParseOptions
+-- the options that reading a document has unless others are given
+abbrev pub usual : ParseOptions
 usual = record { max_depth = most_open; max_tokens = most_tokens }
 
 pub same-file : (path other text read : List ℕ) → path ≡ other → text ≡ read → ◌≡◌ {A = SourceFile} (record { path = path; text = text }) (record { path = other; text = read })
@@ -125,9 +126,8 @@ numbered paths i below = omega (arith, length-map (take i paths) (λ (path : Bor
 
 -- how many are reported
 counted-more : (reports : List (Option (List ℕ))) (report : Option (List ℕ)) → count_by is_some (reports ++ report ∷ []) ≡ count_by is_some reports + count_by is_some (report ∷ [])
-counted-more [] report = refl
-counted-more (None ∷ reports) report = counted-more reports report
-counted-more (Some first ∷ reports) report = ap suc (counted-more reports report)
+counted-more [] report = omega arith
+counted-more (first ∷ reports) report = let more = counted-more reports report in omega (arith, more)
 
 -- what is reported of so many of the files: this text, of so many that are refused
 pub record Reported (held : List ℕ → List ℕ → Type 0) (may_fail : List ℕ → Type 0) (paths : List (Bor (List ℕ))) (upto : ℕ) (text : List ℕ) (count : ℕ) : Type 0 where

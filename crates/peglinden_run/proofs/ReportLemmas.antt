@@ -47,12 +47,21 @@ says-more Says (first ∷ xs) x text said are is =
     (are.0, (are.1.0 ++ said, (ap (λ l. l ++ said) are.1.1.0 ∙ append_assoc are.0 are.1.0 said, (are.1.1.1.0, says-more Says xs x are.1.0 said are.1.1.1.1 is))))
 
 -- behind the texts of some things that of the next one is added
-pub says-next : {A : Type 0} (Says : A → List ℕ → Type 0) (xs : List A) (i : ℕ) (d : A) (before held after : List ℕ) → i < length xs → Adds (SaysEach Says (take i xs)) before held → Adds (Says (get_or xs i d)) held after
+pub says-next : {A : Type 0} (Says : A → List ℕ → Type 0) (xs : List A) (i : ℕ) (x : A) (before held after : List ℕ) → i < length xs → x ≡ get_or xs i x → Adds (SaysEach Says (take i xs)) before held → Adds (Says x) held after
     → Adds (SaysEach Says (take (i + 1) xs)) before after
-says-next Says xs i d before held after below was now = (
+says-next Says xs i x before held after below is was now = (
   was.0 ++ now.0,
   (
     now.1.0 ∙ ap (λ l. l ++ now.0) was.1.0 ∙ append_assoc before was.0 now.0,
-    subst (λ ys. SaysEach Says ys (was.0 ++ now.0)) (sym (take_more xs i d below)) (says-more Says (take i xs) (get_or xs i d) was.0 now.0 was.1.1 now.1.1),
+    subst (λ ys. SaysEach Says ys (was.0 ++ now.0)) (sym (take_more xs i x below)) (says-more Says (take i xs) (get_or xs i x) was.0 now.0 was.1.1 (subst (λ y. Says y now.0) is now.1.1)),
   ),
 )
+
+-- three texts, one behind the other
+pub three-added : (a b c none one two three : List ℕ) → none ≡ [] → one ≡ none ++ a → two ≡ one ++ b → three ≡ two ++ c → three ≡ a ++ (b ++ c)
+three-added a b c none one two three is_none is_one is_two is_three = is_three ∙ ap (λ l. l ++ c) (is_two ∙ ap (λ l. l ++ b) (is_one ∙ ap (λ l. l ++ a) is_none)) ∙ append_assoc a b c
+
+-- and four
+pub four-added : (a b c d none one two three four : List ℕ) → none ≡ [] → one ≡ none ++ a → two ≡ one ++ b → three ≡ two ++ c → four ≡ three ++ d → four ≡ a ++ (b ++ (c ++ d))
+four-added a b c d none one two three four is_none is_one is_two is_three is_four =
+    is_four ∙ ap (λ l. l ++ d) (three-added a b c none one two three is_none is_one is_two is_three) ∙ append_assoc a (b ++ c) d ∙ ap (λ l. a ++ l) (append_assoc b c d)

@@ -1,0 +1,40 @@
+use Rattle.std.proofs.Common.{◌≡◌, ◌++◌, ◌∷◌, [], ◌∙◌, List, ℕ, ◌+◌, None, Some, MatchResult, string_bytes, take, sym, ap, subst, arith}
+use Rattle.std.proofs.lemmas.List.{append-nil}
+use Rattle.peglinden_run.specs.Documents.{AreDocumentsAt, texts_of}
+use Rattle.peglinden_run.proofs.DocumentLemmas.{next-document, next-reported}
+use Rattle.peglinden_run.proofs.documents.read_documents.Goals as goal
+use Rattle.peglinden_run.proofs.documents.read_documents.Goals.{in-Ok+in_ok-push_document-in-Ok, in-Err+in_ok-push_str-in-Err}
+
+pub loop-index-preserved : goal.loop-index-preserved
+loop-index-preserved g c =
+    let held = g.F.Files.holds c.args.files.now in
+    let may_fail = g.F.Files.may_fail c.args.files.now in
+    let paths = c.args.paths.now in
+    let i = c.loop-index.index in
+    let below = c.loop-index-test.true in
+    let before = c.loop-index.invariant in
+    let text = string_bytes c.loop-index.reports in
+    let after = string_bytes c.match-branch-2.reports in
+    let count = c.loop-index.refused in
+    let more = c.match-branch-2.refused in
+    elim c.match-branch-2.branch [
+      | in-Ok+in_ok-push_document-in-Ok w ↦
+          let known = λ n. subst (λ r. MatchResult r _ _) w.in-Ok.is (c.in_ok-document.ensures n) in
+          let same : more ≡ count = w.refused-is in
+          record {
+            documents = λ none.
+                let are = next-document held may_fail paths i _ below c.loop-index.documents.items w.in-Ok.document known (before.documents (sym w.refused-is ∙ none)) in
+                let now : c.match-branch-2.documents.items ≡ c.loop-index.documents.items ++ w.in-Ok.document ∷ [] = ap (λ d. d.items) w.documents-is ∙ w.in_ok-push_document-in-Ok.ensures in
+                subst (AreDocumentsAt held 1 (texts_of (take (i + 1) paths))) (sym now) are;
+            reported = next-reported held may_fail paths i _ below None text after count more (λ n. (w.in-Ok.document, known n)) before.reported (ap string_bytes w.reports-is ∙ sym (append-nil text)) (omega (arith, same));
+            few = let few = before.few in omega (arith, same, few);
+          }
+      | in-Err+in_ok-push_str-in-Err w ↦
+          let known = λ n. subst (λ r. MatchResult r _ _) w.in-Err.is (c.in_ok-document.ensures n) in
+          let one : more ≡ count + 1 = w.refused-is in
+          record {
+            documents = λ none. absurd (let no : more ≡ 0 = none in omega (arith, one, no));
+            reported = next-reported held may_fail paths i _ below (Some (string_bytes w.in-Err.report)) text after count more known before.reported (ap string_bytes w.reports-is ∙ w.in_ok-push_str-in-Err.ensures.bytes ∙ ap (λ l. text ++ l) w.as_str.ensures.value) (omega (arith, one));
+            few = let few = before.few in omega (arith, one, few);
+          }
+    ]
