@@ -1,8 +1,9 @@
 -- Documents of files, one file after another.
-use Rattle.std.proofs.Common.{◌≡◌, ◌≢◌, ◌⊎◌, ℕ, ◌+◌, suc, List, [], ◌∷◌, ◌++◌, Option, None, Some, Result, Ok, Err, IfOk, MatchResult, ◌<◌, Bool, true, false, count_by, is_some, get_or, take, length, length-take-le, le_of_lt, inl, inr, refl, sym, ap, subst, string_bytes, ◌∙◌, add-zero, append_assoc, arith}
+use Rattle.std.proofs.Common.{◌≡◌, ◌≢◌, ◌⊎◌, ℕ, ◌+◌, suc, List, [], ◌∷◌, ◌++◌, Option, None, Some, Result, Ok, Err, IfOk, MatchResult, ◌<◌, Bool, cond, count_by, is_some, get_or, take, length, length-take-le, le_of_lt, inl, inr, refl, sym, ap, subst, string_bytes, ◌∙◌, add-zero, append_assoc, arith}
 use Rattle.std.specs.Borrow.{Bor}
 use Rattle.std.specs.List.{flat_map}
 use Rattle.std.proofs.lemmas.Grind.{flat_map-append}
+use Rattle.std.proofs.lemmas.List.Sums.{sum_by-append}
 use Rattle.std.proofs.lemmas.List.{append-nil, length-map, map-append, take_more}
 use Rattle.graphql_nodes.specs.declared.source.FileId.{FileId}
 use Rattle.graphql_nodes.specs.declared.source.SourceFile.{SourceFile}
@@ -126,8 +127,14 @@ numbered paths i below = omega (arith, length-map (take i paths) (λ (path : Bor
 
 -- how many are reported
 counted-more : (reports : List (Option (List ℕ))) (report : Option (List ℕ)) → count_by is_some (reports ++ report ∷ []) ≡ count_by is_some reports + count_by is_some (report ∷ [])
-counted-more [] report = omega arith
-counted-more (first ∷ reports) report = let more = counted-more reports report in omega (arith, more)
+counted-more reports report = sum_by-append (λ (r : Option (List ℕ)). cond (is_some r) 1 0) reports (report ∷ [])
+
+-- what is a fact of each value is one of the value that it is, and so of each error
+pub matched-ok : {A B : Type 0} (r : Result A B) (x : A) (P : A → Type 0) (Q : B → Type 0) → r ≡ Ok x → MatchResult r P Q → P x
+matched-ok r x P Q is fact = subst (λ (o : Result _ _). MatchResult o P Q) is fact
+
+pub matched-err : {A B : Type 0} (r : Result A B) (y : B) (P : A → Type 0) (Q : B → Type 0) → r ≡ Err y → MatchResult r P Q → Q y
+matched-err r y P Q is fact = subst (λ (o : Result _ _). MatchResult o P Q) is fact
 
 -- what is reported of so many of the files: this text, of so many that are refused
 pub record Reported (held : List ℕ → List ℕ → Type 0) (may_fail : List ℕ → Type 0) (paths : List (Bor (List ℕ))) (upto : ℕ) (text : List ℕ) (count : ℕ) : Type 0 where

@@ -1,5 +1,5 @@
 -- Texts of faults, one after another.
-use Rattle.std.proofs.Common.{◌≡◌, ℕ, ◌+◌, ◌<◌, List, [], ◌∷◌, ◌++◌, Option, None, Some, codes, get_or, length, take, refl, sym, ap, subst, ◌∙◌, append_assoc}
+use Rattle.std.proofs.Common.{◌≡◌, ℕ, ◌+◌, ◌<◌, List, [], ◌∷◌, ◌++◌, Option, None, Some, Result, Ok, Err, OnOk, is_ok, if◌then◌else◌, codes, get_or, length, take, refl, sym, ap, subst, ◌∙◌, append_assoc}
 use Rattle.std.proofs.lemmas.List.{append-nil, take_more}
 use Rattle.graphql_nodes.specs.Sources.{Files}
 use Rattle.graphql_nodes.specs.declared.source.SourceSpan.{SourceSpan}
@@ -56,6 +56,11 @@ says-next Says xs i x before held after below is was now = (
     subst (λ ys. SaysEach Says ys (was.0 ++ now.0)) (sym (take_more xs i x below)) (says-more Says (take i xs) (get_or xs i x) was.0 now.0 was.1.1 (subst (λ y. Says y now.0) is now.1.1)),
   ),
 )
+
+-- where a text is added if that went well, it is added where it did
+pub on_ok_if : {T E : Type 0} (r : Result T E) (x a b : List ℕ) → x ≡ (if is_ok r then a else b) → OnOk r (x ≡ a)
+on_ok_if (Ok value) x a b is = is
+on_ok_if (Err error) x a b is = tt
 
 -- three texts, one behind the other
 pub three-added : (a b c none one two three : List ℕ) → none ≡ [] → one ≡ none ++ a → two ≡ one ++ b → three ≡ two ++ c → three ≡ a ++ (b ++ c)
