@@ -1,5 +1,5 @@
 -- Why there is no answer to words and an input, and how a run ends with an answer and without one.
-use Rattle.std.proofs.Common.{◌≡◌, ◌⊎◌, ℕ, Bool, false, List, Option, Result, Ok, Err, OnOk, IfOk, inl, inr, refl, sym, ap, subst, ◌∙◌}
+use Rattle.std.proofs.Common.{◌≡◌, ◌⊎◌, ℕ, Bool, true, false, List, Option, Result, Ok, Err, OnOk, IfOk, inl, inr, refl, sym, ap, subst, ◌∙◌}
 use Rattle.std.proofs.KnownBytes.{Appends-trans}
 use Rattle.std.specs.Io.KnownBytes.{Appends}
 use Rattle.gqltool_run.specs.declared.failure.Failure.{Failure}
@@ -25,9 +25,9 @@ input_cause task held may_fail errors.NotText cause = inr cause
 input_cause task held may_fail errors.Memory cause = tt
 
 -- what holds of each answer holds beside what holds where there is one
-pub both_ok : {A E P : Type 0} {Q : A → Type 0} (r : Result A E) → OnOk r P → IfOk r Q → IfOk r (λ x. P × Q x)
-both_ok (Ok x) p q = (p, q)
-both_ok (Err e) p q = tt
+pub both_ok : {A E : Type 0} (P : Type 0) (Q : A → Type 0) (r : Result A E) → OnOk r P → IfOk r Q → IfOk r (λ x. P × Q x)
+both_ok P Q (Ok x) p q = (p, q)
+both_ok P Q (Err e) p q = tt
 
 -- what was read is no cause for which it can't be
 no_input_cause : (task : Task) (text : List ℕ) → IsCauseOf task text failures.CannotRead → ⊥

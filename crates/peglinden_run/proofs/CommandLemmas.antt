@@ -1,5 +1,5 @@
 -- The schema that files mean.
-use Rattle.std.proofs.Common.{◌≡◌, ℕ, List, Option, ap, subst, ◌∙◌}
+use Rattle.std.proofs.Common.{◌≡◌, ℕ, List, ap, subst, ◌∙◌}
 use Rattle.graphql_ast.specs.declared.document.Document.{Document}
 use Rattle.apollo_schema.specs.declared.schema.Schema.{Schema}
 use Rattle.apollo_schema.specs.MeantSchema.{MeansSchema}
@@ -11,7 +11,7 @@ use Rattle.peglinden_run.specs.Documents.{AreDocumentsAt}
 use Rattle.peglinden_run.specs.SchemaCommand.{IsSchemaOf}
 
 -- a schema that was built of the documents of files, with these options
-pub schema-of : (held : List ℕ → Option (List ℕ)) (options given : CompileOptions) (paths : List (List ℕ)) (documents handed : List Document) (schema : Schema) (faults : List Fault) → given ≡ options → handed ≡ documents
+pub schema-of : (held : List ℕ → List ℕ → Type 0) (options given : CompileOptions) (paths : List (List ℕ)) (documents handed : List Document) (schema : Schema) (faults : List Fault) → given ≡ options → handed ≡ documents
     → AreDocumentsAt held 1 paths documents → MeansSchema 0 given.adopt_orphan_extensions (schema_list given handed) schema → schema.sources ≡ all_sources handed → faults ≡ faults_of given.adopt_orphan_extensions (schema_list given handed)
     → IsSchemaOf held options paths schema faults
 schema-of held options given paths documents handed schema faults same these read means sources are = record {

@@ -1,67 +1,106 @@
 -- Documents of files, one file after another.
-use Rattle.std.proofs.Common.{◌≡◌, ◌≢◌, ℕ, ◌+◌, suc, List, [], ◌∷◌, ◌++◌, Option, None, Some, IfSome, MatchOption, ◌<◌, get_or, take, length, length-take-le, le_of_lt, inl, inr, refl, sym, ap, subst, ◌∙◌, add-zero, arith}
+use Rattle.std.proofs.Common.{◌≡◌, ◌≢◌, ◌⊎◌, ℕ, ◌+◌, suc, List, [], ◌∷◌, ◌++◌, Option, None, Some, Result, Ok, Err, IfOk, MatchResult, ◌<◌, Bool, cond, count_by, is_some, get_or, take, length, length-take-le, le_of_lt, inl, inr, refl, sym, ap, subst, string_bytes, ◌∙◌, add-zero, append_assoc, arith}
 use Rattle.std.specs.Borrow.{Bor}
-use Rattle.std.proofs.lemmas.List.{length-map, map-append, take_more}
-use Rattle.std.proofs.lemmas.Option.{IfSome_then}
+use Rattle.std.specs.List.{flat_map}
+use Rattle.std.proofs.lemmas.Grind.{flat_map-append}
+use Rattle.std.proofs.lemmas.List.Sums.{sum_by-append}
+use Rattle.std.proofs.lemmas.List.{append-nil, length-map, map-append, take_more}
 use Rattle.graphql_nodes.specs.declared.source.FileId.{FileId}
 use Rattle.graphql_nodes.specs.declared.source.SourceFile.{SourceFile}
 use Rattle.graphql_ast.specs.declared.definition.Definition.{Definition}
 use Rattle.graphql_ast.specs.declared.document.Document.{Document}
 use Rattle.graphql_grammar.specs.WordsOfText.{words_of}
-use Rattle.graphql_productions.specs.Documents.{spells_document}
+use Rattle.graphql_productions.specs.Documents.{document, spells_document}
+use Rattle.graphql_text.specs.Parses.{IsRefused, RefusedAt}
 use Rattle.graphql_text.specs.declared.parse_error.ParseError.{ParseError}
 use Rattle.graphql_text.specs.declared.parse_error.ParseErrorKind.TheVariants as kinds
 use Rattle.graphql_text.specs.declared.parsing.ParseOptions.{ParseOptions}
-use Rattle.peglinden_files.specs.Files.{IsFileCause, IsNoText}
-use Rattle.peglinden_files.specs.declared.files.FileError.{FileError}
-use Rattle.peglinden_files.specs.declared.files.FileError.TheVariants as errors
-use Rattle.peglinden_run.specs.Documents.{AreDocumentsAt, AreNoDocument, HasRefusedFile, IsDocumentAt, IsDocumentOf, IsNoDocument, IsRefusedFile, texts_of}
+use Rattle.apollo_reporting.specs.TextErrors.{parse_error_about}
+use Rattle.program_io.specs.Files.{CannotBeRead, IsFileCause}
+use Rattle.program_io.specs.declared.file_error.FileError.{FileError}
+use Rattle.program_io.specs.declared.file_error.FileError.TheVariants as errors
+use Rattle.peglinden_run.specs.Documents.{AreDocumentsAt, IsDocumentAt, IsDocumentOf, IsNoDocument, alone, file, most_open, most_tokens, texts_of}
+use Rattle.peglinden_run.specs.RefusedFiles.{AreReported, IsErrorOf, IsRefusedFile, IsRefusedText, IsReported, if_reported}
+use Rattle.peglinden_run.specs.Reports.{IsReport}
 
 -- there is one document for each file
-pub documents-length : (held : List ℕ → Option (List ℕ)) (number : ℕ) (paths : List (List ℕ)) (documents : List Document) → AreDocumentsAt held number paths documents → length documents ≡ length paths
+pub documents-length : (held : List ℕ → List ℕ → Type 0) (number : ℕ) (paths : List (List ℕ)) (documents : List Document) → AreDocumentsAt held number paths documents → length documents ≡ length paths
 documents-length held number [] documents are = ap length are
 documents-length held number (path ∷ paths) documents are = ap length are.1.1.0 ∙ ap suc (documents-length held (suc number) paths are.1.0 are.1.1.1.1)
+
+-- the options that reading a document has unless others are given
+abbrev pub usual : ParseOptions
+usual = record { max_depth = most_open; max_tokens = most_tokens }
 
 pub same-file : (path other text read : List ℕ) → path ≡ other → text ≡ read → ◌≡◌ {A = SourceFile} (record { path = path; text = text }) (record { path = other; text = read })
 same-file path other text read paths texts = λ i. record { path = paths i; text = texts i }
 
 -- a text that is read is that of the source, and so is the path
-pub document-of : (number : FileId) (path text : List ℕ) (options : ParseOptions) (source : SourceFile) (document : Document) → source ≡ record { path = path; text = text } → options ≡ record { max_depth = 200; max_tokens = 18446744073709551615 }
-    → document.sources ≡ (number, source) ∷ [] → spells_document number options.max_depth document.definitions (words_of options.max_tokens source.text)
+pub document-of : (number : FileId) (path text : List ℕ) (options : ParseOptions) (source : SourceFile) (document : Document) → source ≡ record { path = path; text = text } → options ≡ usual → document.sources ≡ (number, source) ∷ []
+    → spells_document number options.max_depth document.definitions (words_of options.max_tokens source.text)
     → IsDocumentOf number.0 path text document
 document-of number path text options source document is most sources spelled =
-    let usual : spells_document number 200 document.definitions (words_of 18446744073709551615 source.text) = subst (λ (o : ParseOptions). spells_document number o.max_depth document.definitions (words_of o.max_tokens source.text)) most spelled in
+    let usually : spells_document number most_open document.definitions (words_of most_tokens source.text) = subst (λ (o : ParseOptions). spells_document number o.max_depth document.definitions (words_of o.max_tokens source.text)) most spelled in
     record {
       sources = sources ∙ ap (λ (s : SourceFile). (number, s) ∷ []) is;
-      spelled = subst (λ (s : SourceFile). spells_document number 200 document.definitions (words_of 18446744073709551615 s.text)) is usual;
+      spelled = subst (λ (s : SourceFile). spells_document number most_open document.definitions (words_of most_tokens s.text)) is usually;
     }
 
 -- a text whose definitions would be answered has none where the answer is another error
-pub no-document-of : (number : FileId) (text : List ℕ) (path : List ℕ) (options : ParseOptions) (source : SourceFile) (error : ParseError) → source ≡ record { path = path; text = text } → options ≡ record { max_depth = 200; max_tokens = 18446744073709551615 }
+no-document-of : (number : FileId) (text : List ℕ) (path : List ℕ) (options : ParseOptions) (source : SourceFile) (error : ParseError) → source ≡ record { path = path; text = text } → options ≡ usual
     → ((definitions : List Definition) → spells_document number options.max_depth definitions (words_of options.max_tokens source.text) → error.kind ≡ kinds.Memory)
     → error.kind ≢ kinds.Memory
     → IsNoDocument number.0 text
 no-document-of number text path options source error is most only other = λ definitions spelled.
-    let of_source : spells_document number 200 definitions (words_of 18446744073709551615 source.text) = subst (λ (s : SourceFile). spells_document number 200 definitions (words_of 18446744073709551615 s.text)) (sym is) spelled in
+    let of_source : spells_document number most_open definitions (words_of most_tokens source.text) = subst (λ (s : SourceFile). spells_document number most_open definitions (words_of most_tokens s.text)) (sym is) spelled in
     let given : spells_document number options.max_depth definitions (words_of options.max_tokens source.text) = subst (λ (o : ParseOptions). spells_document number o.max_depth definitions (words_of o.max_tokens source.text)) (sym most) of_source in
     other (only definitions given)
 
--- a text that is no document makes its file one that is refused
-pub refused-text : (held : List ℕ → Option (List ℕ)) (may_fail : List ℕ → Type 0) (number : ℕ) (path text : List ℕ) → IfSome (held path) (λ bytes. text ≡ bytes) → IsNoDocument number text → IsRefusedFile held may_fail number path
-refused-text held may_fail number path text is none =
-    inr (IfSome_then (held path) {P = λ bytes. text ≡ bytes} {Q = AreNoDocument number} is (λ bytes same. inr (subst (IsNoDocument number) same none)))
+the_last : {A B C : Type 0} → A ⊎ (B ⊎ C) → ¬ A → ¬ B → C
+the_last (inl a) no_a no_b = absurd (no_a a)
+the_last (inr (inl b)) no_a no_b = absurd (no_b b)
+the_last (inr (inr c)) no_a no_b = c
 
--- and so does what keeps it from being read
-pub refused-unread : (held : List ℕ → Option (List ℕ)) (may_fail : List ℕ → Type 0) (number : ℕ) (path : List ℕ) (error : FileError) → IsFileCause (held path) (may_fail path) error → error ≢ errors.Memory → IsRefusedFile held may_fail number path
-refused-unread held may_fail number path (errors.CannotRead why) cause other = inl cause
-refused-unread held may_fail number path errors.NotText cause other = inr (IfSome_then (held path) {P = IsNoText} {Q = AreNoDocument number} cause (λ bytes no. inl no))
-refused-unread held may_fail number path errors.Memory cause other = absurd (other refl)
+-- the place where a text is refused, in a file that has a number
+error-of : (number : FileId) (text : List ℕ) (path : List ℕ) (options : ParseOptions) (source : SourceFile) (error : ParseError) → source ≡ record { path = path; text = text } → options ≡ usual → number.0 ≢ 0 → error.kind ≢ kinds.Memory
+    → IsRefused (document number options.max_depth) (spells_document number options.max_depth) (document number (suc options.max_depth)).spells number (length source.text) (words_of options.max_tokens source.text) error
+    → IsErrorOf number.0 text error
+error-of number text path options source error is most some other refused =
+    let there = the_last refused other (λ (none : (number.0 ≡ 0) × (error.kind ≡ kinds.BuiltInFile)). some none.0) in
+    let usually = subst (λ (o : ParseOptions). RefusedAt (document number o.max_depth) (spells_document number o.max_depth) (document number (suc o.max_depth)).spells number (length source.text) (words_of o.max_tokens source.text) error) most there in
+    subst (λ (s : SourceFile). RefusedAt (document number most_open) (spells_document number most_open) (document number (suc most_open)).spells number (length s.text) (words_of most_tokens s.text) error) is usually
+
+-- the report of why a text is refused
+pub refused-text : (number : FileId) (path text : List ℕ) (options : ParseOptions) (source : SourceFile) (error : ParseError) (report : List ℕ) → source ≡ record { path = path; text = text } → options ≡ usual → number.0 ≢ 0
+    → ((definitions : List Definition) → spells_document number options.max_depth definitions (words_of options.max_tokens source.text) → error.kind ≡ kinds.Memory)
+    → IsRefused (document number options.max_depth) (spells_document number options.max_depth) (document number (suc options.max_depth)).spells number (length source.text) (words_of options.max_tokens source.text) error
+    → error.kind ≢ kinds.Memory
+    → IsReport ((number, source) ∷ []) (Some error.location) (parse_error_about error) report
+    → IsRefusedText number.0 path text report
+refused-text number path text options source error report is most some only refused other reports = (
+  no-document-of number text path options source error is most only other,
+  (error, (error-of number text path options source error is most some other refused, subst (λ (s : SourceFile). IsReport ((number, s) ∷ []) (Some error.location) (parse_error_about error) report) is reports)),
+)
+
+-- what is read of a text that a file may hold
+pub read-text : {B E : Type 0} (bytes_of : B → List ℕ) (held : List ℕ → List ℕ → Type 0) (may_fail : List ℕ → Type 0) (number : ℕ) (path text : List ℕ) (r : Result (Result Document B) E) → held path text
+    → IfOk r (λ read. MatchResult read (IsDocumentOf number path text) (λ report. IsRefusedText number path text (bytes_of report)))
+    → IfOk r (λ read. MatchResult read (IsDocumentAt held number path) (λ report. IsRefusedFile held may_fail number path (bytes_of report)))
+read-text bytes_of held may_fail number path text (Ok (Ok document)) holds is = (text, (holds, is))
+read-text bytes_of held may_fail number path text (Ok (Err report)) holds is = inr (text, (holds, is))
+read-text bytes_of held may_fail number path text (Err error) holds is = tt
+
+-- what keeps a file from being read, unless memory ran out
+pub unread : (held : List ℕ → Type 0) (may_fail : Type 0) (error : FileError) → IsFileCause held may_fail error → error ≢ errors.Memory → CannotBeRead held may_fail
+unread held may_fail (errors.CannotRead why) cause other = inl cause
+unread held may_fail errors.NotText cause other = inr cause
+unread held may_fail errors.Memory cause other = absurd (other refl)
 
 next : (number count : ℕ) → number + suc count ≡ suc number + count
 next number count = omega arith
 
 -- the document of one file more
-pub documents-more : (held : List ℕ → Option (List ℕ)) (number : ℕ) (paths : List (List ℕ)) (documents : List Document) (path : List ℕ) (document : Document) → AreDocumentsAt held number paths documents → IsDocumentAt held (number + length paths) path document
+pub documents-more : (held : List ℕ → List ℕ → Type 0) (number : ℕ) (paths : List (List ℕ)) (documents : List Document) (path : List ℕ) (document : Document) → AreDocumentsAt held number paths documents → IsDocumentAt held (number + length paths) path document
     → AreDocumentsAt held number (paths ++ path ∷ []) (documents ++ document ∷ [])
 documents-more held number [] documents path document are is =
     (document, ([], (ap (λ l. l ++ document ∷ []) are, (subst (λ n. IsDocumentAt held n path document) (add-zero number) is, refl))))
@@ -69,17 +108,15 @@ documents-more held number (first ∷ paths) documents path document are is =
     let rest = documents-more held (suc number) paths are.1.0 path document are.1.1.1.1 (subst (λ n. IsDocumentAt held n path document) (next number (length paths)) is) in
     (are.0, (are.1.0 ++ document ∷ [], (ap (λ l. l ++ document ∷ []) are.1.1.0, (are.1.1.1.0, rest))))
 
-module _ (held : List ℕ → Option (List ℕ)) (may_fail : List ℕ → Type 0) where
-  -- a file that is refused, behind others
-  pub refused-last : (number : ℕ) (paths : List (List ℕ)) (path : List ℕ) → IsRefusedFile held may_fail (number + length paths) path → HasRefusedFile held may_fail number (paths ++ path ∷ [])
-  refused-last number [] path is = inl (subst (λ n. IsRefusedFile held may_fail n path) (add-zero number) is)
-  refused-last number (first ∷ paths) path is = inr (refused-last (suc number) paths path (subst (λ n. IsRefusedFile held may_fail n path) (next number (length paths)) is))
-
-  -- and one before others
-  pub refused-before : (number : ℕ) (paths : List (List ℕ)) (path : List ℕ) → HasRefusedFile held may_fail number paths → HasRefusedFile held may_fail number (paths ++ path ∷ [])
-  refused-before number [] path none = absurd none
-  refused-before number (first ∷ paths) path (inl is) = inl is
-  refused-before number (first ∷ paths) path (inr is) = inr (refused-before (suc number) paths path is)
+-- and what is reported of it
+pub reported-more : (held : List ℕ → List ℕ → Type 0) (may_fail : List ℕ → Type 0) (number : ℕ) (paths : List (List ℕ)) (reports : List (Option (List ℕ))) (path : List ℕ) (report : Option (List ℕ)) → AreReported held may_fail number paths reports
+    → IsReported held may_fail (number + length paths) path report
+    → AreReported held may_fail number (paths ++ path ∷ []) (reports ++ report ∷ [])
+reported-more held may_fail number [] reports path report are is =
+    (report, ([], (ap (λ l. l ++ report ∷ []) are, (subst (λ n. IsReported held may_fail n path report) (add-zero number) is, refl))))
+reported-more held may_fail number (first ∷ paths) reports path report are is =
+    let rest = reported-more held may_fail (suc number) paths are.1.0 path report are.1.1.1.1 (subst (λ n. IsReported held may_fail n path report) (next number (length paths)) is) in
+    (are.0, (are.1.0 ++ report ∷ [], (ap (λ l. l ++ report ∷ []) are.1.1.0, (are.1.1.1.0, rest))))
 
 -- one path more
 texts-more : (paths : List (Bor (List ℕ))) (i : ℕ) (d : Bor (List ℕ)) → i < length paths → texts_of (take (i + 1) paths) ≡ texts_of (take i paths) ++ (get_or paths i d).now ∷ []
@@ -88,25 +125,44 @@ texts-more paths i d below = ap texts_of (take_more paths i d below) ∙ map-app
 numbered : (paths : List (Bor (List ℕ))) (i : ℕ) → i < length paths → i + 1 ≡ 1 + length (texts_of (take i paths))
 numbered paths i below = omega (arith, length-map (take i paths) (λ (path : Bor (List ℕ)). path.now), length-take-le i paths (le_of_lt below))
 
-module _ (held : List ℕ → Option (List ℕ)) (may_fail : List ℕ → Type 0) (paths : List (Bor (List ℕ))) (i : ℕ) (d : Bor (List ℕ)) (below : i < length paths) where
-  -- what is known of the next file once it is read
-  abbrev pub Known : Option Document → Type 0
-  Known read = i + 1 ≢ 0 → MatchOption read (IsRefusedFile held may_fail (i + 1) (get_or paths i d).now) (IsDocumentAt held (i + 1) (get_or paths i d).now)
+-- how many are reported
+counted-more : (reports : List (Option (List ℕ))) (report : Option (List ℕ)) → count_by is_some (reports ++ report ∷ []) ≡ count_by is_some reports + count_by is_some (report ∷ [])
+counted-more reports report = sum_by-append (λ (r : Option (List ℕ)). cond (is_some r) 1 0) reports (report ∷ [])
 
+-- what is a fact of each value is one of the value that it is, and so of each error
+pub matched-ok : {A B : Type 0} (r : Result A B) (x : A) (P : A → Type 0) (Q : B → Type 0) → r ≡ Ok x → MatchResult r P Q → P x
+matched-ok r x P Q is fact = subst (λ (o : Result _ _). MatchResult o P Q) is fact
+
+pub matched-err : {A B : Type 0} (r : Result A B) (y : B) (P : A → Type 0) (Q : B → Type 0) → r ≡ Err y → MatchResult r P Q → Q y
+matched-err r y P Q is fact = subst (λ (o : Result _ _). MatchResult o P Q) is fact
+
+-- what is reported of so many of the files: this text, of so many that are refused
+pub record Reported (held : List ℕ → List ℕ → Type 0) (may_fail : List ℕ → Type 0) (paths : List (Bor (List ℕ))) (upto : ℕ) (text : List ℕ) (count : ℕ) : Type 0 where
+  pub reports : List (Option (List ℕ))
+  pub are : AreReported held may_fail 1 (texts_of (take upto paths)) reports
+  pub says : text ≡ flat_map if_reported reports
+  pub counts : count ≡ count_by is_some reports
+
+module _ (held : List ℕ → List ℕ → Type 0) (may_fail : List ℕ → Type 0) (paths : List (Bor (List ℕ))) (i : ℕ) (d : Bor (List ℕ)) (below : i < length paths) where
   some_number : i + 1 ≢ 0
   some_number = omega arith
 
-  pub next-document : (documents : List Document) (read : Option Document) (document : Document) → read ≡ Some document → Known read → AreDocumentsAt held 1 (texts_of (take i paths)) documents → AreDocumentsAt held 1 (texts_of (take (i + 1) paths)) (documents ++ document ∷ [])
-  next-document documents read document is known are =
-      let here : IsDocumentAt held (i + 1) (get_or paths i d).now document = subst (λ r. MatchOption r (IsRefusedFile held may_fail (i + 1) (get_or paths i d).now) (IsDocumentAt held (i + 1) (get_or paths i d).now)) is (known some_number) in
-      let placed = subst (λ n. IsDocumentAt held n (get_or paths i d).now document) (numbered paths i below) here in
+  -- the document of the next file
+  pub next-document : (documents : List Document) (document : Document) → (i + 1 ≢ 0 → IsDocumentAt held (i + 1) (get_or paths i d).now document) → AreDocumentsAt held 1 (texts_of (take i paths)) documents
+      → AreDocumentsAt held 1 (texts_of (take (i + 1) paths)) (documents ++ document ∷ [])
+  next-document documents document is are =
+      let placed = subst (λ n. IsDocumentAt held n (get_or paths i d).now document) (numbered paths i below) (is some_number) in
       subst (λ texts. AreDocumentsAt held 1 texts (documents ++ document ∷ [])) (sym (texts-more paths i d below)) (documents-more held 1 (texts_of (take i paths)) documents (get_or paths i d).now document are placed)
 
-  pub next-refused : (read : Option Document) → read ≡ None → Known read → HasRefusedFile held may_fail 1 (texts_of (take (i + 1) paths))
-  next-refused read is known =
-      let here : IsRefusedFile held may_fail (i + 1) (get_or paths i d).now = subst (λ r. MatchOption r (IsRefusedFile held may_fail (i + 1) (get_or paths i d).now) (IsDocumentAt held (i + 1) (get_or paths i d).now)) is (known some_number) in
-      let placed = subst (λ n. IsRefusedFile held may_fail n (get_or paths i d).now) (numbered paths i below) here in
-      subst (HasRefusedFile held may_fail 1) (sym (texts-more paths i d below)) (refused-last held may_fail 1 (texts_of (take i paths)) (get_or paths i d).now placed)
-
-  pub still-refused : HasRefusedFile held may_fail 1 (texts_of (take i paths)) → HasRefusedFile held may_fail 1 (texts_of (take (i + 1) paths))
-  still-refused has = subst (HasRefusedFile held may_fail 1) (sym (texts-more paths i d below)) (refused-before held may_fail 1 (texts_of (take i paths)) (get_or paths i d).now has)
+  -- what is reported of the next file
+  pub next-reported : (report : Option (List ℕ)) (text after : List ℕ) (count more : ℕ) → (i + 1 ≢ 0 → IsReported held may_fail (i + 1) (get_or paths i d).now report) → Reported held may_fail paths i text count → after ≡ text ++ if_reported report
+      → more ≡ count + count_by is_some (report ∷ [])
+      → Reported held may_fail paths (i + 1) after more
+  next-reported report text after count more is was adds counts =
+      let placed = subst (λ n. IsReported held may_fail n (get_or paths i d).now report) (numbered paths i below) (is some_number) in
+      record {
+        reports = was.reports ++ report ∷ [];
+        are = subst (λ texts. AreReported held may_fail 1 texts (was.reports ++ report ∷ [])) (sym (texts-more paths i d below)) (reported-more held may_fail 1 (texts_of (take i paths)) was.reports (get_or paths i d).now report was.are placed);
+        says = adds ∙ ap (λ l. l ++ if_reported report) was.says ∙ ap (λ l. flat_map if_reported was.reports ++ l) (sym (append-nil (if_reported report))) ∙ sym (flat_map-append if_reported was.reports (report ∷ []));
+        counts = counts ∙ ap (λ n. n + count_by is_some (report ∷ [])) was.counts ∙ sym (counted-more was.reports report);
+      }

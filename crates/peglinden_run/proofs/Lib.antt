@@ -1,4 +1,5 @@
 pub mod CommandLemmas
 pub mod DocumentLemmas
 pub mod ReportLemmas
+pub mod RunLemmas
 pub mod TypedLemmas

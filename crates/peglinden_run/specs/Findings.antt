@@ -69,7 +69,7 @@ pub record AreReports (found : Found) (text : List ℕ) : Type 0 where
   -- the reports of the leaf faults
   pub of_leaves : List ℕ
   pub leaves : SaysEach (IsLeafReport found.sources) found.leaves of_leaves
-  pub are : text ≡ of_schema ++ of_document ++ of_leaves ++ count_line (fault_count found)
+  pub are : text ≡ of_schema ++ (of_document ++ (of_leaves ++ count_line (fault_count found)))
 
 -- a line of JSON for each thing that is at fault, in order
 pub record AreJsonLines (found : Found) (text : List ℕ) : Type 0 where
@@ -82,7 +82,7 @@ pub record AreJsonLines (found : Found) (text : List ℕ) : Type 0 where
   -- the lines of the leaf faults
   pub of_leaves : List ℕ
   pub leaves : SaysEach (IsLeafLine found.sources) found.leaves of_leaves
-  pub are : text ≡ of_schema ++ of_document ++ of_leaves
+  pub are : text ≡ of_schema ++ (of_document ++ of_leaves)
 
 -- what is written: the output of a command, and on standard error the reports; or with the flag the lines of JSON alone
 abbrev pub IsShown : Bool → Found → List ℕ → Answer → Type 0

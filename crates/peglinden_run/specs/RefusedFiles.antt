@@ -1,6 +1,6 @@
 -- What is reported of files that are no documents: GraphQL specification of October 2021, section 2.2.
-use Rattle.std.specs.Prelude.{◌≡◌, ◌≢◌, ◌⊎◌, ◌++◌, ℕ, suc, List, [], ◌∷◌, Option, None, Some, codes, count_by, is_some, length}
-use Rattle.std.specs.List.{flat_map}
+use Rattle.std.specs.Prelude.{◌≡◌, ◌≢◌, ◌⊎◌, ◌++◌, ℕ, suc, List, [], ◌∷◌, Option, None, Some, codes, is_some, length, string_bytes}
+use Rattle.std.specs.List.{count_by, flat_map}
 use Rattle.program_io.specs.Files.{CannotBeRead, HoldsSome}
 use Rattle.graphql_ast.specs.declared.document.Document.{Document}
 use Rattle.graphql_grammar.specs.WordsOfText.{words_of}
@@ -19,9 +19,13 @@ use Rattle.peglinden_run.specs.Reports.{IsReport, count_line}
 abbrev pub IsErrorOf : ℕ → List ℕ → ParseError → Type 0
 IsErrorOf number text error = RefusedAt (document (file number) most_open) (spells_document (file number) most_open) (document (file number) (suc most_open)).spells (file number) (length text) (words_of most_tokens text) error
 
--- the text reports that the file of this path can't be read, with some words for why
+-- the report that the file of this path can't be read, with these words for why
+abbrev pub unread_text : List ℕ → List ℕ → List ℕ
+unread_text path why = codes "error: cannot read `" ++ (path ++ (codes "`: " ++ (why ++ codes "\n\n")))
+
+-- the text is that report, with some words for why
 abbrev pub IsUnreadReport : List ℕ → List ℕ → Type 0
-IsUnreadReport path report = (why : List ℕ) × (report ≡ codes "error: cannot read `" ++ path ++ codes "`: " ++ why ++ codes "\n\n")
+IsUnreadReport path report = (why : List ℕ) × (report ≡ unread_text path why)
 
 -- the text reports why this text is no document, under this path and number
 abbrev pub IsRefusedText : ℕ → List ℕ → List ℕ → List ℕ → Type 0

@@ -1,5 +1,5 @@
 -- What is written of faults.
-use Rattle.std.specs.Prelude.{◌≡◌, ◌++◌, ℕ, suc, List, [], ◌∷◌, Option, codes}
+use Rattle.std.specs.Prelude.{◌≡◌, ◌++◌, ℕ, zero, suc, List, [], ◌∷◌, Option, codes}
 use Rattle.graphql_nodes.specs.Sources.{Files}
 use Rattle.graphql_nodes.specs.declared.source.SourceSpan.{SourceSpan}
 use Rattle.serde_json.specs.Written.{compact_text}
@@ -29,5 +29,5 @@ SaysEach Says (x ∷ xs) text = (first : List ℕ) × ((rest : List ℕ) × ((te
 
 -- how many faults there are, on a line, or nothing where there is none
 abbrev pub count_line : ℕ → List ℕ
-count_line 0 = []
+count_line zero = []
 count_line (suc n) = count_text (suc n) ++ codes "\n"

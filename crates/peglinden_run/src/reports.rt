@@ -1,7 +1,7 @@
 //! Reports of what is at fault, for people and as JSON.
 ghost use Rattle.std.specs.Prelude.{◌≡◌, ◌++◌, ◌∷◌, [], IfOk, OnOk, Some, string_bytes};
 ghost use Rattle.apollo_reporting.specs.TextErrors.{parse_error_about};
-ghost use Rattle.peglinden_run.specs.RefusedFiles.{IsUnreadReport};
+ghost use Rattle.peglinden_run.specs.RefusedFiles.{IsUnreadReport, unread_text};
 ghost use Rattle.peglinden_run.specs.Reports.{Adds, IsJsonLine, IsReport, SaysEach, count_line};
 
 use apollo_reporting::counts::faults_line;
@@ -24,6 +24,13 @@ pub(crate) fn unread_report(
     ensures { IfOk result (λ report. IsUnreadReport path.now (string_bytes report)) }
 {
     let why = error.to_string(alloc)?;
+    unread_text(alloc, path, why.as_str())
+}
+
+/// The report that the file of this path isn't read, with these words, and an empty line. The error is out of memory.
+fn unread_text(alloc: Global, path: &str, why: &str) -> Result<String, AllocError>
+    ensures { IfOk result (λ report. string_bytes report ≡ unread_text path.now why.now) }
+{
     format!(in alloc; "error: cannot read `{path}`: {why}\n\n")
 }
 
@@ -44,6 +51,7 @@ pub(crate) fn parse_report(
 }
 
 /// Adds the report of a fault, and an empty line. The error is out of memory.
+#[tactic(auto, using(crate::proofs::ReportLemmas::report_added))]
 pub(crate) fn push_report<E: Reported>(
     alloc: Global,
     reports: &mut String,
@@ -89,6 +97,7 @@ pub(crate) fn push_count(
 }
 
 /// Adds the JSON of a fault, as a line. The error is out of memory.
+#[tactic(auto, using(crate::proofs::ReportLemmas::json_added))]
 pub(crate) fn push_json<E: Reported>(
     alloc: Global,
     lines: &mut String,

@@ -1,5 +1,5 @@
-use Rattle.std.proofs.Common.{ℕ, List, string_bytes, subst}
-use Rattle.peglinden_run.specs.Findings.{IsShown}
+use Rattle.std.proofs.Common.{ℕ, List, subst}
+use Rattle.peglinden_run.specs.Findings.{IsAnswerOf, found_in}
 use Rattle.peglinden_run.proofs.document_commands.document_answer.Goals as goal
 
 pub returns-clause-means : goal.returns-clause-means
@@ -7,7 +7,6 @@ returns-clause-means g c =
     let typed = c.in_ok-typed.typed in
     record {
       typed = typed;
-      is = c.in_ok-typed.ensures.typed;
-      shows = subst (λ (t : List ℕ). IsShown c.args.json typed.findings.schema_faults.items typed.findings.document_faults.items typed.findings.leaf_faults.items t (string_bytes c.in_ok-answer.field-0.output)) c.in_ok-output.ensures c.in_ok-answer.ensures.shown;
-      any = c.in_ok-answer.ensures.any;
+      is_typed = c.in_ok-typed.ensures.typed;
+      is = subst (λ (t : List ℕ). IsAnswerOf c.args.json (found_in typed.findings) t c.in_ok-answer.field-0) c.in_ok-output.ensures c.in_ok-answer.ensures;
     }

@@ -1,15 +1,9 @@
-use Rattle.std.proofs.Common.{◌≡◌, ◌++◌, ◌∷◌, [], ◌∙◌, List, ℕ, ◌+◌, min, take, sym, ap, subst, arith}
-use Rattle.std.specs.Borrow.{Bor}
+use Rattle.std.proofs.Common.{◌≡◌, ◌++◌, ◌∷◌, [], ◌∙◌, List, ℕ, ◌+◌, None, Some, string_bytes, take, sym, ap, subst, arith}
+use Rattle.std.proofs.lemmas.List.{append-nil}
 use Rattle.peglinden_run.specs.Documents.{AreDocumentsAt, texts_of}
-use Rattle.peglinden_run.proofs.DocumentLemmas.{next-document, next-refused, still-refused}
+use Rattle.peglinden_run.proofs.DocumentLemmas.{matched-err, matched-ok, next-document, next-reported}
 use Rattle.peglinden_run.proofs.documents.read_documents.Goals as goal
-use Rattle.peglinden_run.proofs.documents.read_documents.Goals.{in-Some+in_ok-push_document-in-Some, in-None}
-
-none_there : Bor (List ℕ)
-none_there = record { ref_ptr = (0, 0); now = [] }
-
-not_more : (n : ℕ) → min (n + 1) 18446744073709551615 ≡ 0 → ⊥
-not_more n e = omega arith
+use Rattle.peglinden_run.proofs.documents.read_documents.Goals.{in-Ok+in_ok-push_document-in-Ok, in-Err+in_ok-push_str-in-Err}
 
 pub loop-index-preserved : goal.loop-index-preserved
 loop-index-preserved g c =
@@ -19,18 +13,26 @@ loop-index-preserved g c =
     let i = c.loop-index.index in
     let below = c.loop-index-test.true in
     let before = c.loop-index.invariant in
+    let text = string_bytes c.loop-index.reports in
+    let after = string_bytes c.match-branch-2.reports in
+    let count = c.loop-index.refused in
+    let more = c.match-branch-2.refused in
     elim c.match-branch-2.branch [
-      | in-Some+in_ok-push_document-in-Some w ↦
+      | in-Ok+in_ok-push_document-in-Ok w ↦
+          let same : more ≡ count = w.refused-is in
           record {
             documents = λ none.
-                let are = next-document held may_fail paths i _ below c.loop-index.documents.items c.in_ok-document.field-0 w.in-Some.document w.in-Some.is c.in_ok-document.ensures (before.documents (sym w.refused-is ∙ none)) in
-                let now : c.match-branch-2.documents.items ≡ c.loop-index.documents.items ++ w.in-Some.document ∷ [] = ap (λ d. d.items) w.documents-is ∙ w.in_ok-push_document-in-Some.ensures in
+                let are = next-document held may_fail paths i _ below c.loop-index.documents.items w.in-Ok.document (λ n. matched-ok c.in_ok-document.field-0 w.in-Ok.document _ _ w.in-Ok.is (c.in_ok-document.ensures n)) (before.documents (sym w.refused-is ∙ none)) in
+                let now : c.match-branch-2.documents.items ≡ c.loop-index.documents.items ++ w.in-Ok.document ∷ [] = ap (λ d. d.items) w.documents-is ∙ w.in_ok-push_document-in-Ok.ensures in
                 subst (AreDocumentsAt held 1 (texts_of (take (i + 1) paths))) (sym now) are;
-            refused = λ some. still-refused held may_fail paths i none_there below (before.refused (λ none. some (w.refused-is ∙ none)));
+            reported = next-reported held may_fail paths i _ below None text after count more (λ n. (w.in-Ok.document, matched-ok c.in_ok-document.field-0 w.in-Ok.document _ _ w.in-Ok.is (c.in_ok-document.ensures n))) before.reported (ap string_bytes w.reports-is ∙ sym (append-nil text)) (omega (arith, same));
+            few = let few = before.few in omega (arith, same, few);
           }
-      | in-None w ↦
+      | in-Err+in_ok-push_str-in-Err w ↦
+          let one : more ≡ count + 1 = w.refused-is in
           record {
-            documents = λ none. absurd (not_more c.loop-index.refused (sym w.saturating_add-refused.ensures ∙ sym w.refused-is ∙ none));
-            refused = λ some. next-refused held may_fail paths i _ below c.in_ok-document.field-0 w.in-None.is c.in_ok-document.ensures;
+            documents = λ none. absurd (let no : more ≡ 0 = none in omega (arith, one, no));
+            reported = next-reported held may_fail paths i _ below (Some (string_bytes w.in-Err.report)) text after count more (λ n. matched-err c.in_ok-document.field-0 w.in-Err.report _ _ w.in-Err.is (c.in_ok-document.ensures n)) before.reported (ap string_bytes w.reports-is ∙ w.in_ok-push_str-in-Err.ensures.bytes ∙ ap (λ l. text ++ l) w.as_str.ensures.value) (omega (arith, one));
+            few = let few = before.few in omega (arith, one, few);
           }
     ]

@@ -1,6 +1,7 @@
-use Rattle.std.proofs.Common.{◌≡◌, ◌++◌, ℕ, List, string_bytes, take}
-use Rattle.peglinden_run.specs.Reports.{AreJsonLines}
+use Rattle.std.proofs.Common.{string_bytes, take}
+use Rattle.peglinden_run.specs.Findings.{IsLeafLine}
+use Rattle.peglinden_run.specs.Reports.{Adds, SaysEach}
 use Rattle.peglinden_run.proofs.findings.push_leaf_lines.Given as goal
 
 abbrev pub invariant-loop-fault : goal.invariant-loop-fault
-invariant-loop-fault l = (added : List ℕ) × ((string_bytes l.lines ≡ string_bytes l.fn.lines ++ added) × AreJsonLines (take l.fault-index l.faults) added)
+invariant-loop-fault l = Adds (SaysEach (IsLeafLine l.sources) (take l.fault-index l.faults)) (string_bytes l.fn.lines) (string_bytes l.lines)
