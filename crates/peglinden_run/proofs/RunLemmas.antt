@@ -1,5 +1,5 @@
 -- How a run ends with an answer and without one, and over standard input.
-use Rattle.std.proofs.Common.{◌≡◌, ◌⊎◌, ℕ, Bool, true, false, not, List, Option, Result, Ok, Err, IfOk, IfErr, MatchResult, inl, inr, refl, sym, subst}
+use Rattle.std.proofs.Common.{◌≡◌, ℕ, List, Option, Result, Ok, Err, IfOk, IfErr, MatchResult, inl, inr, refl, subst}
 use Rattle.program_io.specs.Files.{IsReadCause, IsRefusal, may_fail_with_input, with_input}
 use Rattle.program_io.specs.Writing.{IsBegun}
 use Rattle.program_io.specs.declared.file_error.FileError.{FileError}
@@ -57,7 +57,3 @@ is_not_done failures.ExtensionIds done = cc
 -- reading bytes doesn't refuse them as no text
 pub no_text_refusal : {B : Type 0} (input_may_fail : Type 0) (input : Result B FileError) → IfErr input (IsReadCause input_may_fail) → ◌≡◌ {A = Result B FileError} input (Err errors.NotText) → ⊥
 no_text_refusal input_may_fail input causes is = subst (λ (r : Result _ FileError). IfErr r (IsReadCause input_may_fail)) is causes
-
-pub not_false : (b : Bool) → not b ≡ false → b ≡ true
-not_false true is = refl
-not_false false is = cc
