@@ -18,8 +18,8 @@ some_said None Fact is = is
 
 -- a fact of what is said, where it has another fact for each
 said_then : {A : Type 0} (said : Option A) (P Q : A → Type 0) → ((x : A) → P x → Q x) → OfSaid said P → OfSaid said Q
-said_then (Some x) P Q then is = then x is
-said_then None P Q then is = (is.0, then is.0 is.1)
+said_then (Some x) P Q more is = more x is
+said_then None P Q more is = (is.0, more is.0 is.1)
 
 -- behind a text a line end, in two steps
 behind : (old text middle new : List ℕ) → middle ≡ old ++ text → new ≡ middle ++ codes "\n" → new ≡ old ++ (text ++ codes "\n")

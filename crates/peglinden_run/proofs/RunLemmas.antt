@@ -1,5 +1,5 @@
 -- How a run ends with an answer and without one, and over standard input.
-use Rattle.std.proofs.Common.{◌≡◌, ◌⊎◌, ℕ, Bool, true, false, List, Option, Result, Ok, Err, IfOk, IfErr, MatchResult, inl, inr, refl, sym, subst}
+use Rattle.std.proofs.Common.{◌≡◌, ℕ, List, Option, Result, Ok, Err, IfOk, IfErr, MatchResult, inl, inr, refl, subst}
 use Rattle.program_io.specs.Files.{IsReadCause, IsRefusal, may_fail_with_input, with_input}
 use Rattle.program_io.specs.Writing.{IsBegun}
 use Rattle.program_io.specs.declared.file_error.FileError.{FileError}
@@ -11,7 +11,7 @@ use Rattle.peglinden_run.specs.declared.answer.Answer.{Answer}
 use Rattle.peglinden_run.specs.declared.failure.Failure.{Failure}
 use Rattle.peglinden_run.specs.declared.failure.Failure.TheVariants as failures
 use Rattle.peglinden_run.specs.Requests.{IsAnswerTo, IsCauseTo}
-use Rattle.peglinden_run.specs.Runs.{EndsAs, IsUnanswered, IsWritten, MayEnd, MayEndWithInput}
+use Rattle.peglinden_run.specs.Runs.{IsUnanswered, IsWritten, MayEnd, MayEndWithInput}
 use Rattle.peglinden_run.specs.Status.{message_of, status_of}
 
 module _ (request : Request) (held : List ℕ → List ℕ → Type 0) (may_fail : List ℕ → Type 0) (old new old_errors new_errors : Option (List ℕ)) where
@@ -31,13 +31,13 @@ module _ (request : Request) (held : List ℕ → List ℕ → Type 0) (may_fail
   without_answer failures.ExtensionIds cause reported = (failures.ExtensionIds, (refl, cause, reported))
 
   -- over what reading standard input gave, it ends as over standard input
-  pub with_read : {B : Type 0} (bytes_of : B → List ℕ) (input_held : List ℕ → Type 0) (input_may_fail : Type 0) (input : Result B FileError) (status : Status) → IfOk input (λ read. input_held (bytes_of read)) → IfErr input (IsReadCause input_may_fail)
+  pub with_read : {B : Type 0} (input : Result B FileError) (bytes_of : B → List ℕ) (input_held : List ℕ → Type 0) (input_may_fail : Type 0) (status : Status) → IfOk input (λ read. input_held (bytes_of read)) → IfErr input (IsReadCause input_may_fail)
       → MayEnd request (with_input (λ bytes. MatchResult input (λ read. bytes ≡ bytes_of read) (λ _. ⊥)) held) (may_fail_with_input (MatchResult input (λ _. ⊥) IsRefusal) may_fail) old new old_errors new_errors status
       → MayEndWithInput request input_held input_may_fail held may_fail old new old_errors new_errors status
-  with_read bytes_of input_held input_may_fail (Ok read) status is causes ends = inl (bytes_of read, (is, ends))
-  with_read bytes_of input_held input_may_fail (Err (errors.CannotRead error)) status is causes ends = inr (inl (causes, ends))
-  with_read bytes_of input_held input_may_fail (Err errors.NotText) status is causes ends = absurd causes
-  with_read bytes_of input_held input_may_fail (Err errors.Memory) status is causes ends = inr (inr ends)
+  with_read (Ok read) bytes_of input_held input_may_fail status is causes ends = inl (bytes_of read, (is, ends))
+  with_read (Err (errors.CannotRead error)) bytes_of input_held input_may_fail status is causes ends = inr (inl (causes, ends))
+  with_read (Err errors.NotText) bytes_of input_held input_may_fail status is causes ends = absurd causes
+  with_read (Err errors.Memory) bytes_of input_held input_may_fail status is causes ends = inr (inr ends)
 
 -- a run that writes an answer has one
 pub is_answered : (answer : Answer) (old new old_errors new_errors : Option (List ℕ)) (status : Status) → IsWritten answer old new old_errors new_errors status → IsUnanswered status → ⊥

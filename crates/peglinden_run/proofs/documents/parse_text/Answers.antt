@@ -1,6 +1,5 @@
-use Rattle.std.proofs.Common.{◌≡◌, ◌∙◌, ap, string_bytes, sym}
+use Rattle.std.proofs.Common.{◌∙◌, string_bytes, sym}
 use Rattle.std.proofs.lemmas.Bool.{true≢false}
-use Rattle.graphql_text.specs.declared.parse_error.ParseError.{ParseError}
 use Rattle.peglinden_run.proofs.DocumentLemmas.{document-of, refused-text, same-file}
 use Rattle.peglinden_run.proofs.documents.parse_text.Goals as goal
 
@@ -12,9 +11,6 @@ returns-in-Ok c = λ some_number.
 pub returns : goal.returns
 returns c = λ some_number.
     let is = c.in_ok-source.ensures ∙ same-file _ _ _ _ c.in_ok-from_str.ensures c.from_string.ensures in
-    let error = c.in-Err-2.error in
-    let first = c.in-Err.is in
-    let second = c.in-Err-2.is in
-    let same : c.in-Err.error ≡ error = cc in
+    let error = c.in-Err.error in
     refused-text c.args.number c.args.path.now (string_bytes c.args.text) c.new-2.result c.in_ok-source.source error (string_bytes c.in_ok-parse_report-in-Err-2.field-0) is c.new-2.ensures some_number
-    (λ definitions spelled. c.in-Err-2.ensures.only definitions some_number spelled) c.in-Err-2.ensures.refused (λ memory. true≢false (sym (c.is_memory.ensures.1 (ap (λ (e : ParseError). e.kind) same ∙ memory)) ∙ c.if-is_memory.false)) c.in_ok-parse_report-in-Err-2.ensures
+    (λ definitions spelled. c.in-Err.ensures.only definitions some_number spelled) c.in-Err.ensures.refused (λ memory. true≢false (sym (c.is_memory.ensures.1 memory) ∙ c.if-is_memory.false)) c.in_ok-parse_report-in-Err-2.ensures
