@@ -11,8 +11,8 @@ use Rattle.graphql_ast.specs.declared.selection.Selection.{Selection, fold-roll-
 use Rattle.graphql_ast.specs.declared.selection.Selection.TheFolds.{fold_out-Field, fold_out-InlineFragment}
 use Rattle.graphql_ast.specs.declared.selection.Selection.TheOpen.{Selection-F}
 use Rattle.graphql_ast.specs.declared.selection.Selection.TheViews.{out-roll-Selection}
-use Rattle.apollo_elaboration.specs.Typable.{is_bare}
-use Rattle.apollo_elaboration.proofs.Equations.{is_bare-map}
+use Rattle.apollo_document.specs.Typable.{is_bare}
+use Rattle.apollo_document.proofs.Equations.{is_bare-map}
 
 -- ---- kinds
 

@@ -14,12 +14,12 @@ use Rattle.apollo_types.specs.declared.extended_type.ExtendedType.{ExtendedType}
 use Rattle.apollo_types.specs.declared.extended_type.ExtendedType.TheVariants.{Enum, InputObject, Interface, Object, Scalar, Union}
 use Rattle.apollo_schema.specs.Lookups.{field_at, field_of_type, type_at}
 use Rattle.apollo_schema.specs.declared.schema.Schema.{Schema}
-use Rattle.apollo_elaboration.specs.BareErrors.{bare_build_error, bare_path}
-use Rattle.apollo_elaboration.specs.SelectionFaults.{below_or_wrong}
-use Rattle.apollo_elaboration.specs.Typable.{Fault, Wrong, child_of, defined_as, has_type, if_there, if_typable, leaf_fault, typable_field, typable_fragment, undefined, unknown_field, unless_leaf, with_subselections}
-use Rattle.apollo_elaboration.specs.declared.build_error.BuildError.{BuildError}
-use Rattle.apollo_elaboration.specs.declared.build_error.BuildError.TheVariants as e
-use Rattle.apollo_elaboration.specs.declared.selection_path.SelectionPath.{SelectionPath}
+use Rattle.apollo_document.specs.BareErrors.{bare_build_error, bare_path}
+use Rattle.apollo_document.specs.SelectionFaults.{below_or_wrong}
+use Rattle.apollo_document.specs.Typable.{Fault, Wrong, child_of, defined_as, has_type, if_there, if_typable, leaf_fault, typable_field, typable_fragment, undefined, unknown_field, unless_leaf, with_subselections}
+use Rattle.apollo_document.specs.declared.build_error.BuildError.{BuildError}
+use Rattle.apollo_document.specs.declared.build_error.BuildError.TheVariants as e
+use Rattle.apollo_document.specs.declared.selection_path.SelectionPath.{SelectionPath}
 
 -- what a fault says, without locations
 abbrev pub said : Fault → BuildError

@@ -20,7 +20,7 @@ use Rattle.apollo_executable.specs.Erasure.{erased_definitions}
 use Rattle.apollo_executable.specs.declared.document.ExecutableDocument.{ExecutableDocument}
 use Rattle.apollo_executable.specs.declared.operation.Operation.{Operation}
 use Rattle.apollo_executable.specs.declared.operation_map.OperationMap.{OperationMap}
-use Rattle.apollo_elaboration.specs.Typable.{Fault}
+use Rattle.apollo_document.specs.Typable.{Fault}
 use Rattle.apollo_document.specs.AddedDefinitions.{DocumentItem, document_list, fragment_in, fragments, operation_in, operations}
 use Rattle.apollo_document.specs.DocumentFaults.{ambiguous_if, document_faults}
 use Rattle.apollo_document.specs.Documents.{IsDocumentOf}

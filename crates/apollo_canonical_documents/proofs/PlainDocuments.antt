@@ -13,7 +13,7 @@ use Rattle.apollo_executable.specs.Listed.{listed}
 use Rattle.apollo_executable.specs.declared.document.ExecutableDocument.{ExecutableDocument}
 use Rattle.apollo_executable.specs.declared.operation.Fragment.{Fragment}
 use Rattle.apollo_executable.specs.declared.operation.Operation.{Operation}
-use Rattle.apollo_elaboration.specs.Elaborated.{elaborated}
+use Rattle.apollo_document.specs.Elaborated.{elaborated}
 use Rattle.apollo_document.specs.AddedDefinitions.{DocumentItem}
 use Rattle.apollo_document.specs.Documents.{IsDocumentOf, IsUnderName}
 use Rattle.apollo_document.specs.KeptDefinitions.{kept_anonymous, kept_fragments, kept_named}

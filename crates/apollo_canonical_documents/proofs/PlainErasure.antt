@@ -19,8 +19,8 @@ use Rattle.apollo_executable.specs.declared.selection.Selection.{Selection, roll
 use Rattle.apollo_executable.specs.declared.selection.Selection.TheFolds as typed_folds
 use Rattle.apollo_executable.specs.declared.selection.Selection.TheOpen as typed_layer
 use Rattle.apollo_executable.specs.declared.selection.SelectionSet.{SelectionSet, roll-SelectionSet}
-use Rattle.apollo_elaboration.specs.Stripped.{in_place_of}
-use Rattle.apollo_elaboration.proofs.ErasureLemmas.{erased-typed-field, erased-typed-fragment, erased-typed-spread}
+use Rattle.apollo_document.specs.Stripped.{in_place_of}
+use Rattle.apollo_document.proofs.ErasureLemmas.{erased-typed-field, erased-typed-fragment, erased-typed-spread}
 
 -- typed and untyped selections, opened
 abbrev Typed : Type 0

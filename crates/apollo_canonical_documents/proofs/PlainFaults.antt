@@ -17,13 +17,13 @@ use Rattle.graphql_ast.specs.declared.selection.Selection.TheViews.{roll-out-Sel
 use Rattle.graphql_ast.specs.declared.type_system.FieldDefinition.{FieldDefinition}
 use Rattle.apollo_schema.specs.declared.schema.Schema.{Schema}
 use Rattle.apollo_executable.specs.SelectionParts.{response_key_of}
-use Rattle.apollo_elaboration.specs.BareErrors.{bare_path}
-use Rattle.apollo_elaboration.specs.SelectionFaults.{FN, FS, below_or_wrong, faults_of_field, faults_of_fragment, faults_of_selection, faults_of_selections, faults_step, field_faults_step, fragment_faults_step, inside}
-use Rattle.apollo_elaboration.specs.Stripped.{in_place_of}
-use Rattle.apollo_elaboration.specs.Typable.{Fault, child_of, is_bare, typable_field, typable_fragment}
-use Rattle.apollo_elaboration.specs.declared.build_error.BuildError.{BuildError}
-use Rattle.apollo_elaboration.specs.declared.selection_path.SelectionPath.{SelectionPath}
-use Rattle.apollo_elaboration.proofs.Equations.{faults-field, faults-fragment}
+use Rattle.apollo_document.specs.BareErrors.{bare_path}
+use Rattle.apollo_document.specs.SelectionFaults.{FN, FS, below_or_wrong, faults_of_field, faults_of_fragment, faults_of_selection, faults_of_selections, faults_step, field_faults_step, fragment_faults_step, inside}
+use Rattle.apollo_document.specs.Stripped.{in_place_of}
+use Rattle.apollo_document.specs.Typable.{Fault, child_of, is_bare, typable_field, typable_fragment}
+use Rattle.apollo_document.specs.declared.build_error.BuildError.{BuildError}
+use Rattle.apollo_document.specs.declared.selection_path.SelectionPath.{SelectionPath}
+use Rattle.apollo_document.proofs.Equations.{faults-field, faults-fragment}
 use Rattle.apollo_canonical_documents.proofs.AlikeSyntax.{AreAlike, Layer, OneBelow, bare-alike, field_parts, inline_parts, layers-alike}
 use Rattle.apollo_canonical_documents.proofs.AlikeTypable.{AreOneDefinition, AreOneName, AreOnePath, faults-alike, field-judged, fragment-judged, said}
 

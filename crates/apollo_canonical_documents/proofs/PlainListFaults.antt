@@ -16,13 +16,13 @@ use Rattle.graphql_ast.specs.declared.definition.Definition.TheVariants as d
 use Rattle.apollo_component.specs.EachAfter.{each_after}
 use Rattle.apollo_component.proofs.Lists.Cases.{is_some-map}
 use Rattle.apollo_schema.specs.declared.schema.Schema.{Schema}
-use Rattle.apollo_elaboration.specs.BareErrors.{bare_build_error, bare_root}
-use Rattle.apollo_elaboration.specs.Typable.{Fault, has_type}
-use Rattle.apollo_elaboration.specs.declared.build_error.BuildError.{BuildError}
-use Rattle.apollo_elaboration.specs.declared.build_error.BuildError.TheVariants as error
-use Rattle.apollo_elaboration.specs.declared.selection_path.ExecutableDefinitionName.{ExecutableDefinitionName}
-use Rattle.apollo_elaboration.specs.declared.selection_path.ExecutableDefinitionName.TheVariants.{AnonymousOperation, Fragment, NamedOperation}
-use Rattle.apollo_elaboration.specs.declared.selection_path.SelectionPath.{SelectionPath}
+use Rattle.apollo_document.specs.BareErrors.{bare_build_error, bare_root}
+use Rattle.apollo_document.specs.Typable.{Fault, has_type}
+use Rattle.apollo_document.specs.declared.build_error.BuildError.{BuildError}
+use Rattle.apollo_document.specs.declared.build_error.BuildError.TheVariants as error
+use Rattle.apollo_document.specs.declared.selection_path.ExecutableDefinitionName.{ExecutableDefinitionName}
+use Rattle.apollo_document.specs.declared.selection_path.ExecutableDefinitionName.TheVariants.{AnonymousOperation, Fragment, NamedOperation}
+use Rattle.apollo_document.specs.declared.selection_path.SelectionPath.{SelectionPath}
 use Rattle.apollo_document.specs.AddedDefinitions.{DocumentItem, as_fragment, as_operation}
 use Rattle.apollo_document.specs.DocumentFaults.{after_anonymous, ambiguous_if, anonymous_faults, anonymous_location, definition_faults, document_faults, faults_at, faults_in_fragment, faults_in_operation, faults_of_named, fragment_faults, on_type_faults, operation_faults, rooted_faults, type_system_faults, unless_named, unless_taken}
 use Rattle.apollo_document.specs.KeptDefinitions.{is_repeated, kept_anonymous, kept_fragments, kept_named, root_type_of}

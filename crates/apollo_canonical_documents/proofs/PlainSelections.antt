@@ -27,11 +27,11 @@ use Rattle.apollo_executable.specs.declared.selection.Selection.{Selection, fold
 use Rattle.apollo_executable.specs.declared.selection.Selection.TheFolds.{fold-roll-Field, fold-roll-InlineFragment, fold-roll-SelectionSet}
 use Rattle.apollo_executable.specs.declared.selection.Selection.TheOpen.{Selection-F}
 use Rattle.apollo_executable.specs.declared.selection.SelectionSet.{SelectionSet}
-use Rattle.apollo_elaboration.specs.Elaborated.{elaborated, elaborated_field, elaborated_fragment, elaborated_selection, set_of, typed_field, typed_inline_fragment, typed_spread}
-use Rattle.apollo_elaboration.specs.Stripped.{in_place_of}
-use Rattle.apollo_elaboration.specs.Typable.{child_of, if_typable, is_bare, typable_field, typable_fragment}
-use Rattle.apollo_elaboration.proofs.Equations.{elaborated-field, elaborated-fragment, typed_in}
-use Rattle.apollo_elaboration.proofs.ErasureLemmas.{elaborated-roll}
+use Rattle.apollo_document.specs.Elaborated.{elaborated, elaborated_field, elaborated_fragment, elaborated_selection, set_of, typed_field, typed_inline_fragment, typed_spread}
+use Rattle.apollo_document.specs.Stripped.{in_place_of}
+use Rattle.apollo_document.specs.Typable.{child_of, if_typable, is_bare, typable_field, typable_fragment}
+use Rattle.apollo_document.proofs.Equations.{elaborated-field, elaborated-fragment, typed_in}
+use Rattle.apollo_document.proofs.ErasureLemmas.{elaborated-roll}
 use Rattle.apollo_canonical_documents.proofs.AlikeSyntax.{AreAlike, HaveOneInlineParts, HaveOneParts, Layer, OneBelow, bare-alike, field_parts, inline_parts, layers-alike}
 use Rattle.apollo_canonical_documents.proofs.AlikeTypable.{AreOneDefinition, AreOneName, field-judged, fragment-judged, typed-alike}
 

@@ -18,9 +18,9 @@ use Rattle.apollo_schema.specs.declared.schema.Schema.{Schema}
 use Rattle.apollo_executable.specs.Erasure.{erased_definitions, erased_set}
 use Rattle.apollo_executable.specs.declared.document.ExecutableDocument.{ExecutableDocument}
 use Rattle.apollo_executable.specs.declared.selection.SelectionSet.{SelectionSet}
-use Rattle.apollo_elaboration.specs.Elaborated.{elaborated}
-use Rattle.apollo_elaboration.specs.Stripped.{stripped}
-use Rattle.apollo_elaboration.specs.TypedSelections.{IsTypedSet}
+use Rattle.apollo_document.specs.Elaborated.{elaborated}
+use Rattle.apollo_document.specs.Stripped.{stripped}
+use Rattle.apollo_document.specs.TypedSelections.{IsTypedSet}
 use Rattle.apollo_document.specs.AddedDefinitions.{DocumentItem, document_list}
 use Rattle.apollo_document.specs.Documents.{IsDocumentOf}
 use Rattle.apollo_document.specs.WrittenAgain.{IsBuiltAgain, ambiguous_again, faults_again}

@@ -7,9 +7,9 @@ use Rattle.graphql_nodes.specs.NodeView.{NodeView}
 use Rattle.graphql_ast.specs.BareDocuments.{bare_definition}
 use Rattle.apollo_executable.specs.BareDocuments.{bare_document, bare_fragment, bare_operation}
 use Rattle.apollo_executable.specs.declared.document.ExecutableDocument.{ExecutableDocument}
-use Rattle.apollo_elaboration.specs.BareErrors.{bare_build_error}
-use Rattle.apollo_elaboration.specs.Typable.{Fault}
-use Rattle.apollo_elaboration.specs.declared.build_error.BuildError.{BuildError}
+use Rattle.apollo_document.specs.BareErrors.{bare_build_error}
+use Rattle.apollo_document.specs.Typable.{Fault}
+use Rattle.apollo_document.specs.declared.build_error.BuildError.{BuildError}
 use Rattle.apollo_document.specs.AddedDefinitions.{DocumentItem}
 
 -- a definition without locations, and whether one of the type system was at fault when it was added

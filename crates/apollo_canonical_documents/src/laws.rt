@@ -17,7 +17,7 @@ ghost use Rattle.apollo_canonical_documents.specs.FromTexts.{BuildDocumentAgain,
 fn lists_below()
     ensures { ListLaws }
 {
-    apollo_elaboration::laws::elaborated_sets();
+    apollo_document::selection_laws::elaborated_sets();
     graphql_round_trip::laws::equal_trees_have_one_text();
 }
 

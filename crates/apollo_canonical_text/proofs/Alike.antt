@@ -7,11 +7,11 @@ use Rattle.graphql_ast.specs.Definitions.{definition_location}
 use Rattle.graphql_ast.specs.declared.definition.Definition.TheVariants as ast
 use Rattle.apollo_built_in.specs.BuiltInTable.{built_in_definitions}
 use Rattle.apollo_meaning.specs.Faults.ListFaults.{faults_in, faults_of}
-use Rattle.apollo_rearrangement.specs.Equal.{AreEqualLists, compared}
+use Rattle.apollo_schema_laws.specs.Equal.{AreEqualLists, compared}
 use Rattle.apollo_schema.specs.MeantSchema.{AreOf, MeansSchema}
 use Rattle.apollo_schema.specs.SchemaWriteOut.{write_schema}
 use Rattle.apollo_schema.specs.declared.schema.Schema.{Schema}
-use Rattle.apollo_canonical.specs.WrittenAgain.{with_built_ins}
+use Rattle.apollo_schema_laws.specs.WrittenAgain.{with_built_ins}
 use Rattle.apollo_canonical_text.proofs.Plain.{mark, marked, plain_item, plain_list}
 use Rattle.apollo_canonical_text.proofs.PlainCompletion.{completed-plain}
 use Rattle.apollo_canonical_text.proofs.PlainComponents.{count}

@@ -9,7 +9,7 @@ use Rattle.graphql_round_trip.specs.ReadAgain.{SpellEqual}
 use Rattle.apollo_meaning.specs.Items.ListItems.{added}
 use Rattle.apollo_schema.specs.SchemaWriteOut.{write_schema}
 use Rattle.apollo_schema.specs.declared.schema.Schema.{Schema}
-use Rattle.apollo_canonical.specs.WrittenAgain.{IsMeantByList, with_built_ins, written_again}
+use Rattle.apollo_schema_laws.specs.WrittenAgain.{IsMeantByList, with_built_ins, written_again}
 use Rattle.apollo_canonical_text.specs.FromTexts.{BuildAgain, IsBuiltOfTexts, IsReadingOf, Reading, Reads, added_texts}
 use Rattle.apollo_canonical_text.specs.TextLaws.{TextLaws}
 use Rattle.apollo_canonical_text.proofs.Alike.{IsUnmarked, equal, faultless, written}

@@ -7,7 +7,7 @@ use Rattle.graphql_nodes.specs.Comparing.{bare_node}
 use Rattle.graphql_nodes.specs.declared.type_kind.TypeKind.TheVariants as kinds
 use Rattle.graphql_ast.specs.BareTypeSystem.{bare_root_operation}
 use Rattle.apollo_meaning.specs.Completion.Adoption.{empty_body}
-use Rattle.apollo_rearrangement.proofs.Permutations.{map-flat_map}
+use Rattle.apollo_schema_laws.proofs.Permutations.{map-flat_map}
 use Rattle.apollo_canonical_text.proofs.Plain.{plain_body, plain_item, plain_list, plain_part, plain_schema_part, extended-plain, extensions-plain, first-plain, first_schema-plain, schema_extensions-plain, kind-plain}
 
 -- an empty body is empty, plain

@@ -12,7 +12,7 @@ use Rattle.apollo_meaning.specs.Types.Components.{body_fields, body_input_fields
 use Rattle.apollo_meaning.specs.declared.build_error.BuildError.TheVariants as errors
 use Rattle.apollo_meaning.specs.declared.collision.Collection.{Collection}
 use Rattle.apollo_meaning.specs.declared.collision.Collection.TheVariants as c
-use Rattle.apollo_rearrangement.proofs.Permutations.{map-flat_map}
+use Rattle.apollo_schema_laws.proofs.Permutations.{map-flat_map}
 use Rattle.apollo_canonical_text.proofs.Plain.{plain_body, plain_part, plain_schema_part}
 use Rattle.apollo_canonical_text.proofs.PlainCompletion.{roots-plain}
 use Rattle.apollo_canonical_text.proofs.PlainFolding.{each_after-carried}

@@ -9,7 +9,7 @@ use Rattle.apollo_meaning.specs.Faults.TypeFaults.{built_in_redefinition, joinin
 use Rattle.apollo_meaning.specs.Steps.Joining.{type_begun_faults}
 use Rattle.apollo_meaning.specs.declared.build_error.BuildError.TheVariants as errors
 use Rattle.apollo_meaning.proofs.Completion.CompletionLemmas.{faults-completed}
-use Rattle.apollo_rearrangement.proofs.Permutations.{map-flat_map}
+use Rattle.apollo_schema_laws.proofs.Permutations.{map-flat_map}
 use Rattle.apollo_canonical_text.proofs.Plain.{directives-plain, extensions-plain, first-plain, first_schema-plain, kind-plain, mark-kept, of_kind-plain, plain_directive, plain_item, plain_list, plain_other, plain_part, plain_schema_part, schema_extensions-plain}
 use Rattle.apollo_canonical_text.proofs.PlainCompletion.{completed-plain, extended_names-plain, implied_schema-plain, orphans-plain, with_adopted-plain}
 use Rattle.apollo_canonical_text.proofs.PlainComponents.{blank, count, count-append, part-count, schema-count}

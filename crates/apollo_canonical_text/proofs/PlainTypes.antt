@@ -11,7 +11,7 @@ use Rattle.apollo_component.specs.declared.extension.ExtensionId.{ExtensionId}
 use Rattle.apollo_component.proofs.FirstOfEachLemmas.{first_of_each-map}
 use Rattle.apollo_meaning.specs.Types.Components.{body_fields, body_input_fields, body_interfaces, body_members, body_values, field_entry, input_field_entry, value_entry}
 use Rattle.apollo_meaning.specs.Types.Meaning.{of_type, type_of}
-use Rattle.apollo_rearrangement.proofs.Permutations.{map-flat_map}
+use Rattle.apollo_schema_laws.proofs.Permutations.{map-flat_map}
 use Rattle.apollo_canonical_text.proofs.Plain.{mark, plain_body, plain_list, plain_part, first-plain}
 use Rattle.apollo_canonical_text.proofs.PlainFolding.{folding_order-plain, plain_folding}
 

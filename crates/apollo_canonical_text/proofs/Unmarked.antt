@@ -29,7 +29,7 @@ use Rattle.apollo_meaning.proofs.Types.NameLemmas.{type_names-first}
 use Rattle.apollo_schema.specs.MeantSchema.{MeansSchema}
 use Rattle.apollo_schema.specs.SchemaWriteOut.{write_directives, write_held_schema_definition, write_held_type, write_schema}
 use Rattle.apollo_schema.specs.declared.schema.Schema.{Schema}
-use Rattle.apollo_canonical.specs.WrittenAgain.{with_built_ins}
+use Rattle.apollo_schema_laws.specs.WrittenAgain.{with_built_ins}
 use Rattle.apollo_canonical_text.proofs.Alike.{IsUnmarked}
 use Rattle.apollo_canonical_text.proofs.Lists.{each-chosen, each-flat_map, each-map}
 

@@ -13,7 +13,7 @@ use Rattle.apollo_schema.specs.EqualSchemas.{AreEqualSchemas}
 use Rattle.apollo_schema.specs.MeantSchema.{MeansSchema}
 use Rattle.apollo_schema.specs.SchemaWriteOut.{write_schema}
 use Rattle.apollo_schema.specs.declared.schema.Schema.{Schema}
-use Rattle.apollo_canonical.specs.WrittenAgain.{with_built_ins}
+use Rattle.apollo_schema_laws.specs.WrittenAgain.{with_built_ins}
 
 -- a reading of a text: its file, how many signs may be open at once, and how many tokens are allowed
 pub record Reading : Type 0 where

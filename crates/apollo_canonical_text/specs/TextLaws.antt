@@ -20,13 +20,13 @@ use Rattle.apollo_meaning.specs.Items.Parts.{SchemaPart, TypePart, kind_of}
 use Rattle.apollo_meaning.specs.Order.Places.{folding_order}
 use Rattle.apollo_meaning.specs.Schema.Definition.{schema_sourced}
 use Rattle.apollo_meaning.specs.Types.Meaning.{extensions_with_origin}
-use Rattle.apollo_rearrangement.specs.Equal.{AreEqualLists}
-use Rattle.apollo_rearranged_builds.specs.BuiltAlike.{MeanEqualSchemas}
+use Rattle.apollo_schema_laws.specs.Equal.{AreEqualLists}
+use Rattle.apollo_schema_laws.specs.BuiltAlike.{MeanEqualSchemas}
 use Rattle.apollo_schema.specs.EqualSchemas.{AreEqualSchemas}
 use Rattle.apollo_schema.specs.MeantSchema.{MeansSchema}
 use Rattle.apollo_schema.specs.SchemaWriteOut.{write_schema}
 use Rattle.apollo_schema.specs.declared.schema.Schema.{Schema}
-use Rattle.apollo_canonical.specs.WrittenAgain.{IsMeantByList, with_built_ins, written_again}
+use Rattle.apollo_schema_laws.specs.WrittenAgain.{IsMeantByList, with_built_ins, written_again}
 use Rattle.apollo_well_formed.specs.WellFormedLists.{AreWellFormed, IsWellFormedDefinition}
 
 -- the laws below: of reading, of printing, and of what schemas are written out as

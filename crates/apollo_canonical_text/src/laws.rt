@@ -10,8 +10,8 @@ ghost use Rattle.apollo_canonical_text.specs.TextLaws.{TextLaws};
 fn laws_below()
     ensures { TextLaws }
 {
-    apollo_canonical::laws::canonical();
-    apollo_rearranged_builds::laws::equal_lists();
+    apollo_schema_laws::write_out::canonical();
+    apollo_schema_laws::rearranged_builds::equal_lists();
     apollo_meaning::laws::folded_extensions();
     apollo_meaning::laws::folded_schema_extensions();
     apollo_schema::laws::every_list_means_a_schema();

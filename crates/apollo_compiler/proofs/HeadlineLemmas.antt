@@ -17,7 +17,7 @@ use Rattle.apollo_meaning.specs.Schema.Whole.{whole}
 use Rattle.apollo_meaning.specs.Types.Meaning.{parts, extensions_with_origin, type_from, type_names, type_of}
 use Rattle.apollo_schema.specs.MeantSchema.{MeansSchema}
 use Rattle.apollo_schema.specs.declared.schema.Schema.{Schema}
-use Rattle.apollo_canonical.specs.WrittenAgain.{IsMeantByList, IsUnmarkedAndRooted, written_again}
+use Rattle.apollo_schema_laws.specs.WrittenAgain.{IsMeantByList, IsUnmarkedAndRooted, written_again}
 use Rattle.apollo_compiler.specs.Compilation.{IsCompiled, IsRebuiltAsItWas}
 use Rattle.apollo_compiler.specs.Headline.{IsFolded, IsRebuiltEqual, IsSchemaOf, type_named}
 use Rattle.apollo_compiler.specs.Lists.{handed_in, schema_list}

@@ -9,7 +9,7 @@ use Rattle.apollo_built_in.specs.BuiltInTable.{built_in_definitions}
 use Rattle.apollo_meaning.specs.Items.ListItems.{added}
 use Rattle.apollo_schema.specs.SchemaWriteOut.{write_schema}
 use Rattle.apollo_schema.specs.declared.schema.Schema.{Schema}
-use Rattle.apollo_canonical.specs.WrittenAgain.{with_built_ins, written_again}
+use Rattle.apollo_schema_laws.specs.WrittenAgain.{with_built_ins, written_again}
 use Rattle.apollo_document.specs.AddedDefinitions.{document_list}
 use Rattle.apollo_compiler.specs.Lists.{all_definitions, all_sources, executable_list, handed_in, schema_list, with_sources}
 use Rattle.apollo_compiler.specs.declared.compile_options.CompileOptions.{CompileOptions}

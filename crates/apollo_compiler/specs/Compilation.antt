@@ -5,7 +5,7 @@ use Rattle.apollo_meaning.specs.Faults.ListFaults.{faults_of}
 use Rattle.apollo_schema.specs.EqualSchemas.{AreEqualSchemas}
 use Rattle.apollo_schema.specs.MeantSchema.{MeansSchema}
 use Rattle.apollo_schema.specs.SchemaWriteOut.{write_schema}
-use Rattle.apollo_canonical.specs.WrittenAgain.{written_again}
+use Rattle.apollo_schema_laws.specs.WrittenAgain.{written_again}
 use Rattle.apollo_executable.specs.Erasure.{erased_document}
 use Rattle.apollo_document.specs.DocumentFaults.{document_faults as faults_of_document}
 use Rattle.apollo_document.specs.Documents.{IsDocumentOf}

@@ -23,12 +23,12 @@ use Rattle.apollo_meaning.specs.Order.Places.{Placed, first_place, folding_order
 use Rattle.apollo_meaning.specs.Schema.Definition.{no_schema, schema_from, schema_parts, schema_sourced}
 use Rattle.apollo_meaning.specs.Schema.Whole.{whole}
 use Rattle.apollo_meaning.specs.Types.Meaning.{parts, extensions_with_origin, type_from}
-use Rattle.apollo_rearrangement.specs.Dropped.{executable_fault, further_directive, further_directives, further_schemas, further_type, further_types, is_passed_over, of_another_kind, orphans_by_name, undefined_places}
-use Rattle.apollo_rearrangement.specs.Reported.{Executable, FurtherDirective, FurtherSchema, FurtherType, OrphanOfSchema, OrphanOfType, OtherKind, RepeatedComponent, RepeatedRoot, reported, reported_sorts}
+use Rattle.apollo_schema_laws.specs.Dropped.{executable_fault, further_directive, further_directives, further_schemas, further_type, further_types, is_passed_over, of_another_kind, orphans_by_name, undefined_places}
+use Rattle.apollo_schema_laws.specs.Reported.{Executable, FurtherDirective, FurtherSchema, FurtherType, OrphanOfSchema, OrphanOfType, OtherKind, RepeatedComponent, RepeatedRoot, reported, reported_sorts}
 use Rattle.apollo_schema.specs.EqualSchemas.{AreEqualSchemas}
 use Rattle.apollo_schema.specs.SchemaWriteOut.{write_schema}
 use Rattle.apollo_schema.specs.declared.schema.Schema.{Schema}
-use Rattle.apollo_canonical.specs.WrittenAgain.{written_again}
+use Rattle.apollo_schema_laws.specs.WrittenAgain.{written_again}
 use Rattle.apollo_executable.specs.Erasure.{at_place}
 use Rattle.apollo_executable.specs.Listed.{listed}
 use Rattle.apollo_executable.specs.Walks.WalkView.{AreWalked, IsWithinTurns, TakesAllTurns}

@@ -5,7 +5,7 @@ use Rattle.graphql_nodes.specs.Sources.{Files, merged}
 use Rattle.graphql_ast.specs.declared.definition.Definition.{Definition}
 use Rattle.graphql_ast.specs.declared.document.Document.{Document}
 use Rattle.apollo_meaning.specs.Items.ListItems.{Added, added}
-use Rattle.apollo_canonical.specs.WrittenAgain.{with_built_ins}
+use Rattle.apollo_schema_laws.specs.WrittenAgain.{with_built_ins}
 use Rattle.apollo_document.specs.AddedDefinitions.{DocumentItem, document_list}
 use Rattle.apollo_compiler.specs.declared.compile_options.CompileOptions.{CompileOptions}
 use Rattle.apollo_compiler.specs.declared.executable_options.ExecutableOptions.{ExecutableOptions}

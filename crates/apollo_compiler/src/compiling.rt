@@ -1,6 +1,6 @@
 //! Documents of the type system and executable documents, compiled in one call.
 ghost use Rattle.std.specs.Prelude.{◌≡◌, Err, IfOk};
-ghost use Rattle.apollo_canonical.specs.WrittenAgain.{IsUnmarkedAndRooted};
+ghost use Rattle.apollo_schema_laws.specs.WrittenAgain.{IsUnmarkedAndRooted};
 ghost use Rattle.apollo_meaning.specs.Order.SpentIds.{SpendsIds};
 ghost use Rattle.apollo_compiler.specs.Compilation.{IsCompiled, IsRebuiltAsItWas};
 ghost use Rattle.apollo_compiler.specs.Lists.{handed_in, schema_list};
@@ -14,7 +14,7 @@ use crate::laws::headline;
 use crate::prepared::Prepared;
 use crate::rebuilding::rebuild;
 use crate::typing::type_documents;
-use apollo_canonical::laws::a_write_out_folds_no_more;
+use apollo_schema_laws::write_out::a_write_out_folds_no_more;
 use graphql_ast::document::Document;
 use graphql_nodes::collections::hash_keys::HashKeys;
 use std::alloc::Global;

@@ -6,7 +6,7 @@
 //! `leafcheck::laws`.)
 ghost use Rattle.std.specs.Prelude.{◌≡◌, ℕ, Bool, true, List, Option};
 ghost use Rattle.std.specs.List.{AllByRecursion};
-ghost use Rattle.apollo_canonical.specs.WrittenAgain.{IsMeantByList, written_again};
+ghost use Rattle.apollo_schema_laws.specs.WrittenAgain.{IsMeantByList, written_again};
 ghost use Rattle.apollo_document.specs.AddedDefinitions.{DocumentItem};
 ghost use Rattle.apollo_document.specs.Documents.{IsDocumentOf};
 ghost use Rattle.apollo_document.specs.KeptDefinitions.{is_rooted};
@@ -47,15 +47,15 @@ pub use apollo_meaning::laws as meaning;
 
 // Lists of equal definitions: what each name means is equal. Lists whose definitions change places: so it is there, and the
 // faults are the same in some order; and which faults are of what is dropped.
-pub use apollo_rearrangement::laws as rearrangement;
+pub use apollo_schema_laws::rearrangement;
 
 // Schemas and builders: a list means one schema; every builder stands for a list or has failed; subtypes are the implementers.
 pub use apollo_schema::laws as schema;
 pub use apollo_schema::laws::implementers;
 
 // The write-out: it builds again without fault to an equal schema with the same write-out, and folds no more extensions.
-pub use apollo_canonical::laws as write_out;
-pub use apollo_canonical::laws::canonical;
+pub use apollo_schema_laws::write_out;
+pub use apollo_schema_laws::write_out::canonical;
 
 // Well-formed goes through the schema: where each definition of a list could have come of a text, so could each of its write-out.
 pub use apollo_well_formed::laws as well_formed;
@@ -74,8 +74,8 @@ pub use apollo_canonical_documents::laws::{
 
 // Builders of equal lists build equal schemas, those of rearranged lists also the same faults, and documents one by one what
 // one document would.
-pub use apollo_rearranged_builds::laws as rearranged_builds;
-pub use apollo_rearranged_builds::laws::{documents_one_by_one, rearranged};
+pub use apollo_schema_laws::rearranged_builds;
+pub use apollo_schema_laws::rearranged_builds::{documents_one_by_one, rearranged};
 
 // Coordinates: what is printed of one is read as it, no text is that of two, and which texts are refused.
 pub use apollo_coordinate::laws as coordinate;
@@ -94,7 +94,7 @@ pub use apollo_field_usage::laws as usage;
 pub use apollo_reporting::laws as report;
 
 // Untyped selections made into typed ones: a typed set is exactly what is typable, and each type in it is right.
-pub use apollo_elaboration::laws as elaboration;
+pub use apollo_document::selection_laws as elaboration;
 
 // Built documents: a write-out builds again to an equal document, and with which faults; every builder stands for a list or has
 // failed.
@@ -109,7 +109,8 @@ use apollo_meaning::laws::{
     folded_extensions, folded_extensions_have_numbers_of_their_own, folded_schema_extensions,
     type_names_are_the_first_of_each_text,
 };
-use apollo_rearrangement::laws::{
+use apollo_schema::laws::every_list_means_a_schema;
+use apollo_schema_laws::rearrangement::{
     each_fault_is_of_one_sort, reported_collisions_are_the_dropped_components,
     reported_collisions_are_the_further_definitions,
     reported_executables_are_the_operations_and_fragments,
@@ -117,7 +118,6 @@ use apollo_rearrangement::laws::{
     reported_orphans_are_the_extensions_without_a_definition,
     reported_repeated_roots_are_the_dropped_roots,
 };
-use apollo_schema::laws::every_list_means_a_schema;
 use apollo_walks::laws::{
     reachable_names_are_one_list, walks_have_one_order, walks_reach_each_field_once,
     walks_take_few_turns,

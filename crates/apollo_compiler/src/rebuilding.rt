@@ -1,6 +1,6 @@
 //! A schema's write-out, built again.
 ghost use Rattle.std.specs.Prelude.{◌≡◌, [], false, true, Err, IfOk};
-ghost use Rattle.apollo_canonical.specs.WrittenAgain.{written_again};
+ghost use Rattle.apollo_schema_laws.specs.WrittenAgain.{written_again};
 ghost use Rattle.apollo_meaning.specs.Faults.ListFaults.{faults_of};
 ghost use Rattle.apollo_meaning.specs.Order.SpentIds.{SpendsIds};
 ghost use Rattle.apollo_schema.specs.MeantSchema.{MeansSchema};

@@ -19,12 +19,12 @@ use Rattle.apollo_executable.specs.declared.operation.Operation.{Operation}
 use Rattle.apollo_executable.specs.declared.operation.Fragment.{Fragment}
 use Rattle.apollo_executable.specs.declared.selection.SelectionSet.{SelectionSet}
 use Rattle.apollo_executable.specs.declared.document.ExecutableDocument.{ExecutableDocument}
-use Rattle.apollo_elaboration.specs.SelectionFaults.{faults_of_selections}
-use Rattle.apollo_elaboration.specs.Stripped.{stripped}
-use Rattle.apollo_elaboration.specs.TypedSelections.{IsTypedSet}
-use Rattle.apollo_elaboration.specs.declared.selection_path.ExecutableDefinitionName.{ExecutableDefinitionName}
-use Rattle.apollo_elaboration.specs.declared.selection_path.ExecutableDefinitionName.TheVariants as name
-use Rattle.apollo_elaboration.specs.declared.selection_path.SelectionPath.{SelectionPath}
+use Rattle.apollo_document.specs.SelectionFaults.{faults_of_selections}
+use Rattle.apollo_document.specs.Stripped.{stripped}
+use Rattle.apollo_document.specs.TypedSelections.{IsTypedSet}
+use Rattle.apollo_document.specs.declared.selection_path.ExecutableDefinitionName.{ExecutableDefinitionName}
+use Rattle.apollo_document.specs.declared.selection_path.ExecutableDefinitionName.TheVariants as name
+use Rattle.apollo_document.specs.declared.selection_path.SelectionPath.{SelectionPath}
 use Rattle.apollo_document.specs.AddedDefinitions.{DocumentItem, document_list, operations, fragments}
 use Rattle.apollo_document.specs.KeptDefinitions.{root_type_of, is_rooted, first_if_anonymous, operation_under_name, kept_anonymous, kept_named, is_on_type, fragment_under_name, kept_fragments}
 use Rattle.apollo_document.specs.DocumentFaults.{ambiguous_if, rooted_faults, faults_in_operation, on_type_faults, document_faults}

@@ -14,16 +14,16 @@ use Rattle.apollo_executable.specs.Erasure.{at_place, erased_set, erased_operati
 use Rattle.apollo_executable.specs.declared.selection.SelectionSet.{SelectionSet}
 use Rattle.apollo_executable.specs.declared.operation.Operation.{Operation}
 use Rattle.apollo_executable.specs.declared.operation.Fragment.{Fragment}
-use Rattle.apollo_elaboration.specs.SelectionFaults.{faults_of_selections}
-use Rattle.apollo_elaboration.specs.Typable.{Fault, has_type}
-use Rattle.apollo_elaboration.specs.declared.selection_path.SelectionPath.{SelectionPath}
-use Rattle.apollo_elaboration.specs.declared.selection_path.ExecutableDefinitionName.{ExecutableDefinitionName}
-use Rattle.apollo_elaboration.specs.declared.selection_path.ExecutableDefinitionName.TheVariants as roots
+use Rattle.apollo_document.specs.SelectionFaults.{faults_of_selections}
+use Rattle.apollo_document.specs.Typable.{Fault, has_type}
+use Rattle.apollo_document.specs.declared.selection_path.SelectionPath.{SelectionPath}
+use Rattle.apollo_document.specs.declared.selection_path.ExecutableDefinitionName.{ExecutableDefinitionName}
+use Rattle.apollo_document.specs.declared.selection_path.ExecutableDefinitionName.TheVariants as roots
 use Rattle.apollo_document.specs.DocumentFaults.{rooted_faults, faults_in_operation, on_type_faults, faults_in_fragment}
 use Rattle.apollo_executable.specs.declared.document.ExecutableDocument.{ExecutableDocument}
-use Rattle.apollo_elaboration.specs.Stripped.{stripped}
-use Rattle.apollo_elaboration.specs.TypedSelections.{IsTypedSet}
-use Rattle.apollo_elaboration.specs.Elaborated.{elaborated}
+use Rattle.apollo_document.specs.Stripped.{stripped}
+use Rattle.apollo_document.specs.TypedSelections.{IsTypedSet}
+use Rattle.apollo_document.specs.Elaborated.{elaborated}
 use Rattle.apollo_document.specs.AddedDefinitions.{DocumentItem, operations}
 use Rattle.apollo_document.specs.KeptDefinitions.{root_type_of, is_rooted, is_anonymous, first_if_anonymous, operation_under_name, kept_anonymous, kept_named, kept_fragments}
 use Rattle.apollo_document.specs.TypedDefinitions.{stripped_operation, stripped_fragment, IsOperationOf, IsFragmentOf}

@@ -17,9 +17,9 @@ use Rattle.apollo_component.proofs.Lists.EachAfter.{each_after-push}
 use Rattle.apollo_schema.specs.declared.schema.Schema.{Schema}
 use Rattle.apollo_executable.specs.Erasure.{at_place}
 use Rattle.apollo_executable.specs.declared.operation.Operation.{Operation}
-use Rattle.apollo_elaboration.specs.Typable.{has_type, is_bare}
-use Rattle.apollo_elaboration.specs.declared.build_error.BuildError.TheVariants as e
-use Rattle.apollo_elaboration.specs.declared.selection_path.ExecutableDefinitionName.TheVariants.{AnonymousOperation, NamedOperation}
+use Rattle.apollo_document.specs.Typable.{has_type, is_bare}
+use Rattle.apollo_document.specs.declared.build_error.BuildError.TheVariants as e
+use Rattle.apollo_document.specs.declared.selection_path.ExecutableDefinitionName.TheVariants.{AnonymousOperation, NamedOperation}
 use Rattle.apollo_document.specs.AddedDefinitions.{DocumentItem, as_operation, as_fragment, operation_in, fragment_in, operations, fragments}
 use Rattle.apollo_document.specs.KeptDefinitions.{root_type_of, is_rooted, kept_anonymous, kept_named, is_on_type, fragment_under_name, kept_fragments, is_repeated}
 use Rattle.apollo_document.specs.DocumentFaults.{ambiguous, ambiguous_if, unless_taken, faults_in_operation, after_anonymous, unless_named, anonymous_faults, anonymous_location, fragment_faults, type_system_faults, operation_faults, definition_faults, faults_at, document_faults}

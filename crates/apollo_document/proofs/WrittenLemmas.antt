@@ -18,8 +18,8 @@ use Rattle.apollo_component.specs.FirstOfEach.{first_of_each, same_key}
 use Rattle.apollo_component.proofs.Lists.EachAfter.{each_after-append}
 use Rattle.apollo_component.proofs.FirstOfEachLemmas.{entry_laws}
 use Rattle.apollo_schema.specs.declared.schema.Schema.{Schema}
-use Rattle.apollo_elaboration.specs.declared.build_error.BuildError.TheVariants as e
-use Rattle.apollo_elaboration.specs.declared.selection_path.ExecutableDefinitionName.TheVariants.{AnonymousOperation, NamedOperation}
+use Rattle.apollo_document.specs.declared.build_error.BuildError.TheVariants as e
+use Rattle.apollo_document.specs.declared.selection_path.ExecutableDefinitionName.TheVariants.{AnonymousOperation, NamedOperation}
 use Rattle.apollo_document.specs.AddedDefinitions.{DocumentItem, operations, fragments}
 use Rattle.apollo_document.specs.KeptDefinitions.{is_rooted, first_if_anonymous, kept_anonymous, kept_named, is_on_type, kept_fragments}
 use Rattle.apollo_document.specs.DocumentFaults.{ambiguous_if, unless_taken, faults_in_operation, named_faults, faults_in_fragment, fragment_faults, operation_faults, faults_at, document_faults}

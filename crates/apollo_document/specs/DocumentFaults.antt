@@ -15,12 +15,12 @@ use Rattle.graphql_ast.specs.declared.operation.OperationDefinition.{OperationDe
 use Rattle.graphql_ast.specs.declared.operation.FragmentDefinition.{FragmentDefinition}
 use Rattle.apollo_component.specs.EachAfter.{each_after}
 use Rattle.apollo_schema.specs.declared.schema.Schema.{Schema}
-use Rattle.apollo_elaboration.specs.SelectionFaults.{faults_of_selections}
-use Rattle.apollo_elaboration.specs.Typable.{Fault, has_type}
-use Rattle.apollo_elaboration.specs.declared.build_error.BuildError.{BuildError}
-use Rattle.apollo_elaboration.specs.declared.build_error.BuildError.TheVariants as e
-use Rattle.apollo_elaboration.specs.declared.selection_path.ExecutableDefinitionName.{ExecutableDefinitionName}
-use Rattle.apollo_elaboration.specs.declared.selection_path.ExecutableDefinitionName.TheVariants.{AnonymousOperation, NamedOperation, Fragment}
+use Rattle.apollo_document.specs.SelectionFaults.{faults_of_selections}
+use Rattle.apollo_document.specs.Typable.{Fault, has_type}
+use Rattle.apollo_document.specs.declared.build_error.BuildError.{BuildError}
+use Rattle.apollo_document.specs.declared.build_error.BuildError.TheVariants as e
+use Rattle.apollo_document.specs.declared.selection_path.ExecutableDefinitionName.{ExecutableDefinitionName}
+use Rattle.apollo_document.specs.declared.selection_path.ExecutableDefinitionName.TheVariants.{AnonymousOperation, NamedOperation, Fragment}
 use Rattle.apollo_document.specs.AddedDefinitions.{DocumentItem}
 use Rattle.apollo_document.specs.KeptDefinitions.{root_type_of, kept_anonymous, kept_named, kept_fragments, is_repeated}
 

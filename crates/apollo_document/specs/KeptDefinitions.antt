@@ -12,7 +12,7 @@ use Rattle.graphql_ast.specs.declared.operation.FragmentDefinition.{FragmentDefi
 use Rattle.apollo_component.specs.FirstOfEach.{first_of_each, same_key}
 use Rattle.apollo_types.specs.SchemaRoots.{root_of}
 use Rattle.apollo_schema.specs.declared.schema.Schema.{Schema}
-use Rattle.apollo_elaboration.specs.Typable.{has_type}
+use Rattle.apollo_document.specs.Typable.{has_type}
 use Rattle.apollo_document.specs.AddedDefinitions.{DocumentItem, operations, fragments}
 
 -- the root type of a kind of operation: the one that the schema names, or without a schema the default name

@@ -10,8 +10,8 @@ use Rattle.apollo_executable.specs.Erasure.{at_place}
 use Rattle.apollo_executable.specs.declared.operation.Operation.{Operation}
 use Rattle.apollo_executable.specs.declared.operation.Fragment.{Fragment}
 use Rattle.apollo_executable.specs.declared.selection.SelectionSet.{SelectionSet}
-use Rattle.apollo_elaboration.specs.Elaborated.{elaborated}
-use Rattle.apollo_elaboration.specs.Typable.{has_type}
+use Rattle.apollo_document.specs.Elaborated.{elaborated}
+use Rattle.apollo_document.specs.Typable.{has_type}
 use Rattle.apollo_document.specs.AddedDefinitions.{DocumentItem}
 use Rattle.apollo_document.specs.KeptDefinitions.{root_type_of, kept_anonymous, kept_named, kept_fragments, is_repeated}
 use Rattle.apollo_document.specs.DocumentFaults.{document_faults}

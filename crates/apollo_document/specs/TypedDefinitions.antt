@@ -9,8 +9,8 @@ use Rattle.apollo_schema.specs.declared.schema.Schema.{Schema}
 use Rattle.apollo_executable.specs.Erasure.{at_place, erased_operation, erased_fragment}
 use Rattle.apollo_executable.specs.declared.operation.Operation.{Operation}
 use Rattle.apollo_executable.specs.declared.operation.Fragment.{Fragment}
-use Rattle.apollo_elaboration.specs.Stripped.{stripped}
-use Rattle.apollo_elaboration.specs.TypedSelections.{IsTypedSet}
+use Rattle.apollo_document.specs.Stripped.{stripped}
+use Rattle.apollo_document.specs.TypedSelections.{IsTypedSet}
 use Rattle.apollo_document.specs.KeptDefinitions.{root_type_of}
 
 -- an operation, stripped in this root type

@@ -3,7 +3,7 @@ use Rattle.std.specs.Prelude.{◌≡◌, Bool, List, Option, option_map}
 use Rattle.std.specs.List.{flat_map}
 use Rattle.apollo_executable.specs.declared.operation_map.OperationMap.{OperationMap}
 use Rattle.apollo_schema.specs.declared.schema.Schema.{Schema}
-use Rattle.apollo_elaboration.specs.Typable.{Fault}
+use Rattle.apollo_document.specs.Typable.{Fault}
 use Rattle.apollo_executable.specs.Erasure.{erased_definitions}
 use Rattle.apollo_executable.specs.declared.document.ExecutableDocument.{ExecutableDocument}
 use Rattle.apollo_document.specs.AddedDefinitions.{DocumentItem, document_list}

@@ -8,10 +8,10 @@ ghost use Rattle.apollo_document.specs.DocumentFaults.{document_faults};
 ghost use Rattle.apollo_document.specs.Documents.{IsDocumentOf};
 ghost use Rattle.apollo_document.specs.Stands.{HasStood};
 
+use crate::build_error::Faults;
+use crate::selection_laws::elaborated_sets;
 use crate::state::State;
 use crate::tables::Tables;
-use apollo_elaboration::build_error::Faults;
-use apollo_elaboration::laws::elaborated_sets;
 use apollo_executable::document::ExecutableDocument;
 use apollo_folding::builder_error::BuilderError;
 use apollo_schema::schema::Schema;
@@ -24,7 +24,7 @@ use std::alloc::{AllocError, Global};
 ///
 /// Of operations the first of each name is kept that has a root type in the schema, and an anonymous one if it is the first of
 /// all that have one; of fragments the first of each name whose condition is a type of the schema. Their selections are kept where
-/// they are typable, as [`elaborate_selections`](apollo_elaboration::elaboration::elaborate_selections) says. All else is at
+/// they are typable, as [`elaborate_selections`](crate::elaboration::elaborate_selections) says. All else is at
 /// fault, but for fields of a type that the schema lacks, and for definitions of the type system where these are not. So is a
 /// kept anonymous operation that isn't the only one.
 ///

@@ -6,11 +6,11 @@ ghost use Rattle.graphql_nodes.specs.Tables.{lookup_key};
 ghost use Rattle.apollo_document.specs.DocumentFaults.{faults_in_fragment, fragment_faults};
 ghost use Rattle.apollo_document.specs.Stands.{fragment_if_typed, put_unless_taken};
 
-use apollo_elaboration::build_error::{BuildError, Fault};
-use apollo_elaboration::elaboration::elaborate_selections;
-use apollo_elaboration::laws::elaborated_sets;
-use apollo_elaboration::selection_path::{ExecutableDefinitionName, SelectionPath};
-use apollo_elaboration::typable::has_type;
+use crate::build_error::{BuildError, Fault};
+use crate::elaboration::elaborate_selections;
+use crate::selection_laws::elaborated_sets;
+use crate::selection_path::{ExecutableDefinitionName, SelectionPath};
+use crate::typable::has_type;
 use apollo_executable::document::FragmentMap;
 use apollo_executable::operation::Fragment;
 use apollo_executable::selection::SelectionSet;

@@ -13,7 +13,7 @@ ghost use Rattle.apollo_document.specs.KeptDefinitions.{is_rooted, kept_anonymou
 ghost use Rattle.apollo_document.specs.WrittenAgain.{AreOneButSources, IsBuiltAgain, ambiguous_again, faults_again};
 
 use crate::document_builder::ExecutableDocumentBuilder;
-use apollo_elaboration::laws::{elaborated_sets, typed_sets};
+use crate::selection_laws::{elaborated_sets, typed_sets};
 use apollo_executable::document::ExecutableDocument;
 use apollo_schema::schema::Schema;
 

@@ -2,17 +2,26 @@
 //! sections 2.2 to 2.8.
 #![tactic(auto)]
 
+pub mod build_error;
 pub mod document_builder;
+mod elaborating;
+pub mod elaboration;
+pub mod field_set;
 mod fragments;
 pub mod laws;
 mod operations;
+mod parent;
+pub mod selection_laws;
+pub mod selection_path;
 mod state;
 mod tables;
+mod typable;
 
+pub use crate::build_error::{BuildError, Fault, Faults};
 pub use crate::document_builder::ExecutableDocumentBuilder;
-pub use apollo_elaboration::build_error::{BuildError, Fault, Faults};
-pub use apollo_elaboration::field_set::FieldSet;
-pub use apollo_elaboration::selection_path::{ExecutableDefinitionName, SelectionPath};
+pub use crate::elaboration::elaborate_selections;
+pub use crate::field_set::FieldSet;
+pub use crate::selection_path::{ExecutableDefinitionName, SelectionPath};
 pub use apollo_executable::document::{ExecutableDocument, FragmentMap};
 pub use apollo_executable::operation::{Fragment, Operation};
 pub use apollo_executable::operation_map::OperationMap;

@@ -3,16 +3,16 @@ ghost use Rattle.std.specs.Prelude.{◌≡◌, ◌++◌, ◌∷◌, [], Option, 
 ghost use Rattle.std.specs.Option.{option_copied};
 ghost use Rattle.graphql_nodes.specs.SameText.{same_text};
 ghost use Rattle.graphql_nodes.specs.Tables.{lookup_key};
-ghost use Rattle.apollo_elaboration.specs.declared.build_error.BuildError.TheVariants as errors;
+ghost use Rattle.apollo_document.specs.declared.build_error.BuildError.TheVariants as errors;
 ghost use Rattle.apollo_document.specs.KeptDefinitions.{root_type_of};
 ghost use Rattle.graphql_nodes.specs.OperationTexts.{operation_text};
 ghost use Rattle.apollo_document.specs.DocumentFaults.{ambiguous, ambiguous_if, faults_in_operation, faults_of_named, after_anonymous};
 ghost use Rattle.apollo_document.specs.Stands.{operation_over, rooted_operation, put_unless_taken};
 
-use apollo_elaboration::build_error::{BuildError, Fault};
-use apollo_elaboration::elaboration::elaborate_selections;
-use apollo_elaboration::laws::elaborated_sets;
-use apollo_elaboration::selection_path::{ExecutableDefinitionName, SelectionPath};
+use crate::build_error::{BuildError, Fault};
+use crate::elaboration::elaborate_selections;
+use crate::selection_laws::elaborated_sets;
+use crate::selection_path::{ExecutableDefinitionName, SelectionPath};
 use apollo_executable::operation::Operation;
 use apollo_executable::selection::SelectionSet;
 use apollo_schema::schema::Schema;

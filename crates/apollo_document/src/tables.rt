@@ -9,12 +9,12 @@ ghost use Rattle.apollo_document.specs.Stands.{Stands, StandsWith};
 ghost use Rattle.apollo_document.specs.Takes.{TakesDefinition};
 ghost use Rattle.graphql_ast.specs.declared.definition.Definition.TheVariants as definitions;
 
+use crate::build_error::{BuildError, Fault, Faults};
 use crate::fragments::put_fragment;
 use crate::operations::{
     build_operation, note_ambiguous, note_further_anonymous, note_kept, put_named,
 };
-use apollo_elaboration::build_error::{BuildError, Fault, Faults};
-use apollo_elaboration::selection_path::ExecutableDefinitionName;
+use crate::selection_path::ExecutableDefinitionName;
 use apollo_executable::document::{ExecutableDocument, FragmentMap};
 use apollo_executable::operation_map::OperationMap;
 use apollo_schema::schema::Schema;

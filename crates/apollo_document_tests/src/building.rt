@@ -1,8 +1,7 @@
 //! What documents build, and what the write-out of that builds again.
 
 use crate::inputs::Account;
-use apollo_document::{BuilderError, ExecutableDocumentBuilder, Faults};
-use apollo_elaboration::Fault;
+use apollo_document::{BuilderError, ExecutableDocumentBuilder, Fault, Faults};
 use apollo_executable::ExecutableDocument;
 use apollo_schema::schema::Schema;
 use graphql_ast::document::Document;

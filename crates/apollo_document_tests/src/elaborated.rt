@@ -1,11 +1,11 @@
 //! Selections made typed over a schema and without one, and field sets, with their faults and their write-out.
 
 use crate::inputs::{Account, expect};
-use apollo_elaboration::{
+use apollo_document::{
     ExecutableDefinitionName, Fault, FieldSet, SelectionPath, elaborate_selections,
 };
 use apollo_schema::schema::Schema;
-use bench_selections::printing::push_selections;
+use bench_notation::selection_printing::push_selections;
 use graphql_ast::definition::Definition;
 use graphql_ast::document::Document;
 use graphql_ast::selection::Selection;

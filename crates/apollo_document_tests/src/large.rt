@@ -3,7 +3,7 @@
 use crate::building::{Built, View};
 use crate::elaborated::Elaborated;
 use crate::inputs::expect;
-use apollo_elaboration::Fault;
+use apollo_document::Fault;
 use apollo_executable::{AllFields, ExecutableDocument, SelectionSet};
 use apollo_schema::schema::Schema;
 use std::alloc::{AllocError, Global};

@@ -5,7 +5,7 @@
 use crate::building::{Built, View};
 use crate::by_calls::document_of;
 use crate::inputs::{Account, expect};
-use apollo_elaboration::Fault;
+use apollo_document::Fault;
 use apollo_executable::{ExecutableDocument, NewFieldError, Selection, SelectionSet};
 use apollo_schema::schema::Schema;
 use graphql_ast::document::Document;

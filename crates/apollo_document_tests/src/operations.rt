@@ -2,7 +2,7 @@
 
 use crate::building::{Built, View};
 use crate::inputs::expect;
-use apollo_elaboration::Fault;
+use apollo_document::Fault;
 use apollo_executable::ExecutableDocument;
 use apollo_schema::schema::Schema;
 use graphql_nodes::name::Name;

@@ -4,7 +4,7 @@ use Rattle.std.specs.Borrow.{Bor}
 use Rattle.graphql_nodes.specs.declared.source.SourceSpan.{SourceSpan}
 use Rattle.apollo_reporting.specs.declared.about.About.{About}
 use Rattle.apollo_reporting.specs.declared.about.Earlier.{Earlier}
-use Rattle.apollo_elaboration.specs.declared.selection_path.SelectionPath.{SelectionPath}
+use Rattle.apollo_document.specs.declared.selection_path.SelectionPath.{SelectionPath}
 
 -- what a report says of a fault besides its sentence
 pub record AboutView : Type 0 where

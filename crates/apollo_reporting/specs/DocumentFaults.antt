@@ -1,8 +1,8 @@
 -- What reports and JSON say of the faults of executable documents besides their sentences.
 use Rattle.std.specs.Prelude.{ℕ, List, [], ◌∷◌, Option, codes, option_map}
 use Rattle.graphql_nodes.specs.NameView.{NameView}
-use Rattle.apollo_elaboration.specs.declared.build_error.BuildError.{BuildError}
-use Rattle.apollo_elaboration.specs.declared.build_error.BuildError.TheVariants as e
+use Rattle.apollo_document.specs.declared.build_error.BuildError.{BuildError}
+use Rattle.apollo_document.specs.declared.build_error.BuildError.TheVariants as e
 use Rattle.apollo_reporting.specs.Abouts.{AboutView, of_earlier, of_kind, of_path}
 use Rattle.apollo_reporting.specs.Details.{one_text, optional_text, two_texts}
 use Rattle.apollo_reporting.specs.declared.detail.Detail.{Detail}

@@ -10,11 +10,11 @@ use Rattle.serde_json.specs.Data.{Data, Members, array, member, no_members, null
 use Rattle.serde_json.specs.View.{items_of}
 use Rattle.apollo_reporting.specs.Abouts.{AboutView}
 use Rattle.apollo_reporting.specs.Places.{ends, starts}
-use Rattle.apollo_elaboration.specs.PathTexts.{definition_name_text}
+use Rattle.apollo_document.specs.PathTexts.{definition_name_text}
 use Rattle.apollo_reporting.specs.declared.detail.Detail.{Detail}
 use Rattle.apollo_reporting.specs.declared.detail.DetailValue.{DetailValue}
 use Rattle.apollo_reporting.specs.declared.detail.DetailValue.TheVariants.{Place, Words}
-use Rattle.apollo_elaboration.specs.declared.selection_path.SelectionPath.{SelectionPath}
+use Rattle.apollo_document.specs.declared.selection_path.SelectionPath.{SelectionPath}
 
 -- a name, and what stands under it
 abbrev pub Member : Type 0

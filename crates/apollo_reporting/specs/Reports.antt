@@ -9,9 +9,9 @@ use Rattle.graphql_nodes.specs.declared.line_column.LineColumn.{LineColumn}
 use Rattle.graphql_nodes.specs.declared.source.SourceFile.{SourceFile}
 use Rattle.graphql_nodes.specs.declared.source.SourceSpan.{SourceSpan}
 use Rattle.apollo_reporting.specs.Places.{starts}
-use Rattle.apollo_elaboration.specs.PathTexts.{path_text}
+use Rattle.apollo_document.specs.PathTexts.{path_text}
 use Rattle.apollo_reporting.specs.declared.about.Earlier.{Earlier}
-use Rattle.apollo_elaboration.specs.declared.selection_path.SelectionPath.{SelectionPath}
+use Rattle.apollo_document.specs.declared.selection_path.SelectionPath.{SelectionPath}
 use Rattle.apollo_reporting.specs.Abouts.{AboutView}
 use Rattle.apollo_reporting.specs.Excerpts.{before_on_line, line_around, mark_count, marked, marks, pad}
 

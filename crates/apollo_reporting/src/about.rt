@@ -2,7 +2,7 @@
 ghost use Rattle.std.specs.Prelude.{◌≡◌, Some};
 ghost use Rattle.apollo_reporting.specs.Abouts.{about_view, earlier_at, of_kind};
 
-use apollo_elaboration::selection_path::SelectionPath;
+use apollo_document::selection_path::SelectionPath;
 use graphql_nodes::collections::static_text::StaticText;
 use graphql_nodes::source::SourceSpan;
 

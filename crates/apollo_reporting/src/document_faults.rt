@@ -5,7 +5,7 @@ ghost use Rattle.apollo_reporting.specs.DocumentFaults.{definition_details, docu
 use crate::about::About;
 use crate::detail::{Detail, one_text, two_texts};
 use crate::reported::Reported;
-use apollo_elaboration::build_error::BuildError;
+use apollo_document::build_error::BuildError;
 use graphql_nodes::collections::static_text::StaticText;
 use graphql_nodes::name::Name;
 use std::alloc::{AllocError, Global};

@@ -8,7 +8,7 @@ use crate::about::About;
 use crate::detail::{Detail, DetailValue};
 use crate::json_values::{push_key, push_number, push_string, push_string_member, push_text};
 use crate::places::{end, start};
-use apollo_elaboration::selection_path::SelectionPath;
+use apollo_document::selection_path::SelectionPath;
 use graphql_nodes::line_column::LineColumn;
 use graphql_nodes::name::Name;
 use graphql_nodes::source::{SourceMap, SourceSpan};

@@ -11,7 +11,7 @@ use crate::places::start;
 use crate::reported::Reported;
 use crate::span_writing::{gutter, write_span};
 use crate::writing::write_line_begin;
-use apollo_elaboration::selection_path::SelectionPath;
+use apollo_document::selection_path::SelectionPath;
 use graphql_nodes::line_column::LineColumn;
 use graphql_nodes::source::{SourceMap, SourceSpan};
 use std::alloc::{AllocError, Global};

@@ -9,7 +9,7 @@ ghost use Rattle.apollo_meaning.specs.Items.ListItems.{Added, added};
 ghost use Rattle.apollo_schema.specs.MeantSchema.{MeansSchema};
 ghost use Rattle.apollo_schema.specs.SchemaWriteOut.{write_schema};
 ghost use Rattle.apollo_schema.specs.declared.schema.Schema.{Schema};
-ghost use Rattle.apollo_canonical.specs.WrittenAgain.{with_built_ins};
+ghost use Rattle.apollo_schema_laws.specs.WrittenAgain.{with_built_ins};
 ghost use Rattle.apollo_well_formed.specs.WellFormedLists.{AreWellFormed, IsWellFormedDefinition};
 
 use apollo_meaning::laws::{folded_extensions, folded_schema_extensions};

@@ -21,7 +21,7 @@ use Rattle.apollo_executable.specs.declared.document.ExecutableDocument.{Executa
 use Rattle.apollo_executable.specs.declared.operation.Fragment.{Fragment}
 use Rattle.apollo_executable.specs.declared.operation.Operation.{Operation}
 use Rattle.apollo_executable.specs.declared.selection.SelectionSet.{SelectionSet}
-use Rattle.apollo_elaboration.specs.Stripped.{in_place_of}
+use Rattle.apollo_document.specs.Stripped.{in_place_of}
 use Rattle.apollo_well_formed.specs.WellFormedLists.{IsWellFormedDefinition}
 use Rattle.apollo_well_formed.proofs.Lists.{each-from_map, each-split}
 use Rattle.apollo_well_formed_documents.specs.FilledSets.{IsFilledDocument, all_there, is_filled_set, some_there}

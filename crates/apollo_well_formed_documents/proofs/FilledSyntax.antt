@@ -15,8 +15,8 @@ use Rattle.apollo_executable.specs.declared.selection.Selection.{Selection, roll
 use Rattle.apollo_executable.specs.declared.selection.Selection.TheFolds as typed_folds
 use Rattle.apollo_executable.specs.declared.selection.Selection.TheOpen as typed_layer
 use Rattle.apollo_executable.specs.declared.selection.SelectionSet.{SelectionSet, roll-SelectionSet}
-use Rattle.apollo_elaboration.specs.Stripped.{in_place_of}
-use Rattle.apollo_elaboration.proofs.ErasureLemmas.{erased-typed-field, erased-typed-fragment, erased-typed-spread}
+use Rattle.apollo_document.specs.Stripped.{in_place_of}
+use Rattle.apollo_document.proofs.ErasureLemmas.{erased-typed-field, erased-typed-fragment, erased-typed-spread}
 use Rattle.apollo_well_formed_documents.specs.FilledSets.{Each, all_there, each_filled, field_step, inline_step, is_filled, is_filled_field, is_filled_inline_fragment, selection_step, set_step, some_there}
 
 abbrev untyped_step : layer.Selection-F Bool Bool Bool → Bool

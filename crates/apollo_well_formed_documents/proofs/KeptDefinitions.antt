@@ -25,7 +25,7 @@ use Rattle.apollo_executable.specs.declared.document.ExecutableDocument.{Executa
 use Rattle.apollo_executable.specs.declared.operation.Fragment.{Fragment}
 use Rattle.apollo_executable.specs.declared.operation.Operation.{Operation}
 use Rattle.apollo_executable.specs.declared.selection.SelectionSet.{SelectionSet}
-use Rattle.apollo_elaboration.specs.Stripped.{stripped}
+use Rattle.apollo_document.specs.Stripped.{stripped}
 use Rattle.apollo_document.specs.AddedDefinitions.{DocumentItem, as_fragment, as_operation, document_list, fragment_in, fragments, operation_in, operations}
 use Rattle.apollo_document.specs.Documents.{IsDocumentOf, IsUnderName}
 use Rattle.apollo_document.specs.KeptDefinitions.{first_if_anonymous, fragment_under_name, is_anonymous, is_on_type, is_rooted, kept_anonymous, kept_fragments, kept_named, operation_under_name}

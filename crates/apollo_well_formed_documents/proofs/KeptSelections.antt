@@ -17,9 +17,9 @@ use Rattle.graphql_productions.specs.WellFormed.{IsWellFormed, IsWellFormedPart}
 use Rattle.graphql_productions.proofs.RolledParts.{field_rolled, field_selection_rolled, inline_parts, inline_rolled, inline_selection_rolled, selected_parts}
 use Rattle.apollo_component.proofs.Lists.Each.{each-append}
 use Rattle.apollo_schema.specs.declared.schema.Schema.{Schema}
-use Rattle.apollo_elaboration.specs.Stripped.{SF, SI, SS, in_place_of, kept_field, kept_fragment, strip_field_step, strip_fragment_step, strip_step, stripped, stripped_field, stripped_inline_fragment, stripped_selection}
-use Rattle.apollo_elaboration.specs.Typable.{child_of, if_typable, is_bare, typable_field, typable_fragment}
-use Rattle.apollo_elaboration.proofs.ErasureLemmas.{stripped-field, stripped-fragment}
+use Rattle.apollo_document.specs.Stripped.{SF, SI, SS, in_place_of, kept_field, kept_fragment, strip_field_step, strip_fragment_step, strip_step, stripped, stripped_field, stripped_inline_fragment, stripped_selection}
+use Rattle.apollo_document.specs.Typable.{child_of, if_typable, is_bare, typable_field, typable_fragment}
+use Rattle.apollo_document.proofs.ErasureLemmas.{stripped-field, stripped-fragment}
 use Rattle.apollo_well_formed.proofs.Lists.{each-split}
 use Rattle.apollo_well_formed_documents.specs.FilledSets.{all_there, some_there}
 use Rattle.apollo_well_formed_documents.proofs.FilledSyntax.{field_filled, field_selection_filled, inline_filled, inline_selection_filled, is_filled_field_syntax, is_filled_inline_syntax, is_filled_syntax}

@@ -6,7 +6,7 @@ use Rattle.std.specs.Result.{IsErrAnd}
 use Rattle.graphql_nodes.specs.NameView.{NameView}
 use Rattle.graphql_nodes.specs.declared.operation_type.OperationType.{OperationType}
 use Rattle.graphql_nodes.specs.declared.source.SourceSpan.{SourceSpan}
-use Rattle.bench_selections.specs.declared.selection_line.Selected.{Selected}
+use Rattle.bench_notation.specs.declared.selection_line.Selected.{Selected}
 use Rattle.graphql_ast.specs.declared.type_reference.Type.{«Type» as TypeReference}
 use Rattle.bench_notation.specs.declared.above.Above.{Above}
 use Rattle.bench_notation.specs.declared.above.Position.{Position}

@@ -18,8 +18,8 @@ use Rattle.graphql_ast.specs.declared.type_system.InputValueDefinition.{InputVal
 use Rattle.graphql_ast.specs.declared.definition.Definition.{Definition}
 use Rattle.graphql_ast.specs.declared.definition.Definition.TheVariants as d
 use Rattle.graphql_ast.specs.declared.selection.Selection.{Selection}
-use Rattle.bench_selections.specs.Nesting.{levels_below, selections_at}
-use Rattle.bench_selections.specs.declared.selection_line.SelectionLine.{SelectionLine}
+use Rattle.bench_notation.specs.Nesting.{levels_below, selections_at}
+use Rattle.bench_notation.specs.declared.selection_line.SelectionLine.{SelectionLine}
 use Rattle.bench_notation.specs.declared.executable_header.ExecutableHeader.{ExecutableHeader}
 use Rattle.bench_notation.specs.declared.executable_header.ExecutableHeader.TheVariants as x
 use Rattle.bench_notation.specs.declared.above.Above.{Above}

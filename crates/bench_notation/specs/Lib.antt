@@ -2,6 +2,9 @@ pub mod Components
 pub mod Documents
 pub mod HeaderWords
 pub mod Line
+pub mod Nesting
+pub mod OpenSelections
 pub mod Places
 pub mod Refusals
+pub mod SelectionText
 pub mod Text

@@ -10,8 +10,8 @@ use Rattle.graphql_ast.specs.TypeReferences.{inner_name}
 use Rattle.graphql_nodes.specs.declared.operation_type.OperationType.{OperationType}
 use Rattle.graphql_nodes.specs.declared.source.SourceSpan.{SourceSpan}
 use Rattle.graphql_ast.specs.declared.type_reference.Type.{«Type» as TypeReference}
-use Rattle.bench_selections.specs.declared.selection_line.Selected.{Selected}
-use Rattle.bench_selections.specs.declared.selection_line.Selected.TheVariants as w
+use Rattle.bench_notation.specs.declared.selection_line.Selected.{Selected}
+use Rattle.bench_notation.specs.declared.selection_line.Selected.TheVariants as w
 use Rattle.bench_notation.specs.declared.executable_header.ExecutableHeader.{ExecutableHeader}
 use Rattle.bench_notation.specs.declared.executable_header.ExecutableHeader.TheVariants as x
 use Rattle.bench_notation.specs.declared.line.Line.{Line}

@@ -20,7 +20,7 @@ use Rattle.graphql_ast.specs.declared.operation.OperationDefinition.{OperationDe
 use Rattle.graphql_ast.specs.declared.operation.FragmentDefinition.{FragmentDefinition}
 use Rattle.graphql_ast.specs.declared.definition.Definition.{Definition}
 use Rattle.graphql_ast.specs.declared.definition.Definition.TheVariants as d
-use Rattle.bench_selections.specs.Text.{selections_text}
+use Rattle.bench_notation.specs.SelectionText.{selections_text}
 use Rattle.bench_notation.specs.declared.kind_words.Role.{Role}
 use Rattle.bench_notation.specs.declared.kind_words.Role.TheVariants as r
 use Rattle.bench_notation.specs.HeaderWords.{role_word, schema_word, kind_word, name_word}

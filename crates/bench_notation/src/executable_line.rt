@@ -2,7 +2,7 @@
 //!
 //! Words that are none such are refused, with a reason. `Memory` is want of memory, and says nothing of them.
 ghost use Rattle.std.specs.Prelude.{◌≡◌, ◌≢◌, ◌∷◌, ℕ, Option, true, IfErr, IfOk, MatchOption, decimal, nat_lt};
-ghost use Rattle.bench_selections.specs.declared.selection_line.Selected.{Selected};
+ghost use Rattle.bench_notation.specs.declared.selection_line.Selected.{Selected};
 ghost use Rattle.graphql_nodes.specs.NameView.{NameView};
 ghost use Rattle.graphql_nodes.specs.declared.operation_type.OperationType.{OperationType};
 ghost use Rattle.bench_notation.specs.Line.{AreFragment, AreOperation, AreSelected, AreSelection, IsDepth, texts_of};
@@ -14,8 +14,8 @@ use crate::kind_words::operation_of_word;
 use crate::name_words::{name_and_alias, only_name, optional_name};
 use crate::names::Names;
 use crate::refusal::{LineError, Reason};
+use crate::selection_line::{MOST_DEPTH, Selected};
 use crate::words::after;
-use bench_selections::selection_line::{MOST_DEPTH, Selected};
 use graphql_nodes::name::{Name, NamedType};
 use graphql_nodes::operation_type::OperationType;
 use graphql_nodes::source::SourceSpan;

@@ -4,8 +4,8 @@ ghost use Rattle.bench_notation.specs.declared.kind_words.Role.{Role};
 ghost use Rattle.bench_notation.specs.Text.{word_line, named_line, typed_line, directives_text, names_text, arguments_text, field_line_text, field_definition_text, fields_text, input_fields_text, values_text, type_head_text, schema_head_text, operation_head_text, fragment_head_text, header_text, body_text, directive_body_text, root_text, roots_text, printed_definition, printed_definitions};
 
 use crate::kind_words::{Role, kind_word};
+use crate::selection_printing::push_selections;
 use crate::type_notation::push_type;
-use bench_selections::printing::push_selections;
 use graphql_ast::definition::Definition;
 use graphql_ast::directive::{Directive, DirectiveList};
 use graphql_ast::operation::{FragmentDefinition, OperationDefinition};

@@ -2,8 +2,8 @@
 
 use crate::sets::{OfSet, ask_set};
 use apollo_document::ExecutableDocumentBuilder;
-use apollo_elaboration::build_error::Faults;
-use apollo_elaboration::field_set::FieldSet;
+use apollo_document::build_error::Faults;
+use apollo_document::field_set::FieldSet;
 use apollo_executable::ExecutableDocument;
 use apollo_folding::builder_error::BuilderError;
 use apollo_schema::schema::Schema;

@@ -1,6 +1,6 @@
 -- The lines of `walk`, put together: those of walks, and then those of the faults of a schema and of a document.
 use Rattle.std.proofs.Common.{◌≡◌, ℕ, List, ◌++◌, Option, refl, ap, ◌∙◌, append_assoc}
-use Rattle.apollo_elaboration.specs.Typable.{Fault as DocumentFault}
+use Rattle.apollo_document.specs.Typable.{Fault as DocumentFault}
 use Rattle.apollo_executable.specs.declared.document.ExecutableDocument.{ExecutableDocument}
 use Rattle.apollo_meaning.specs.Faults.Collisions.{Fault}
 use Rattle.gqltool_run.specs.FaultLines.{AreFaultLines}

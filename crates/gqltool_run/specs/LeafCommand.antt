@@ -9,7 +9,7 @@ use Rattle.leafcheck.specs.declared.leaf_fault.LeafKind.TheVariants.{MissingSubs
 use Rattle.apollo_executable.specs.declared.document.ExecutableDocument.{ExecutableDocument}
 use Rattle.apollo_meaning.specs.Faults.Collisions.{Fault}
 use Rattle.apollo_schema.specs.declared.schema.Schema.{Schema}
-use Rattle.apollo_elaboration.specs.Typable.{Fault as DocumentFault}
+use Rattle.apollo_document.specs.Typable.{Fault as DocumentFault}
 use Rattle.gqltool_run.specs.DocumentBuilding.{IsBuiltDocument}
 use Rattle.gqltool_run.specs.FaultLines.{AreFaultLines, location_line}
 

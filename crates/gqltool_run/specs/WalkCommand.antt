@@ -15,7 +15,7 @@ use Rattle.apollo_executable.specs.declared.selection.Field.{Field}
 use Rattle.apollo_executable.specs.declared.selection.SelectionSet.{SelectionSet}
 use Rattle.apollo_meaning.specs.Faults.Collisions.{Fault}
 use Rattle.apollo_schema.specs.declared.schema.Schema.{Schema}
-use Rattle.apollo_elaboration.specs.Typable.{Fault as DocumentFault}
+use Rattle.apollo_document.specs.Typable.{Fault as DocumentFault}
 use Rattle.bench_notation.specs.HeaderWords.{name_word}
 use Rattle.gqltool_run.specs.DocumentBuilding.{IsBuiltDocument}
 use Rattle.gqltool_run.specs.FaultLines.{AreFaultLines}

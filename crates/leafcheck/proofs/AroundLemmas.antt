@@ -2,7 +2,7 @@
 use Rattle.std.proofs.Common.{◌≡◌, ◌≢◌, ◌∙◌, [], ap, sym}
 use Rattle.std.specs.Borrow.{Bor}
 use Rattle.graphql_nodes.specs.NodeView.{NodeView}
-use Rattle.apollo_elaboration.specs.declared.selection_path.SelectionPath.{SelectionPath}
+use Rattle.apollo_document.specs.declared.selection_path.SelectionPath.{SelectionPath}
 use Rattle.apollo_executable.specs.declared.operation.Fragment.{Fragment}
 use Rattle.apollo_executable.specs.declared.operation.Operation.{Operation}
 use Rattle.apollo_executable.specs.declared.selection.SelectionSet.{SelectionSet}

@@ -6,7 +6,7 @@ use Rattle.std.proofs.lemmas.List.Elements.{filter_map-append}
 use Rattle.graphql_nodes.specs.NameView.{NameView}
 use Rattle.graphql_nodes.specs.NodeView.{NodeView}
 use Rattle.graphql_nodes.specs.Tables.{values_of}
-use Rattle.apollo_elaboration.specs.declared.selection_path.SelectionPath.{SelectionPath}
+use Rattle.apollo_document.specs.declared.selection_path.SelectionPath.{SelectionPath}
 use Rattle.apollo_executable.specs.Operations.{all_operations}
 use Rattle.apollo_executable.specs.declared.document.ExecutableDocument.{ExecutableDocument}
 use Rattle.apollo_executable.specs.declared.operation.Fragment.{Fragment}

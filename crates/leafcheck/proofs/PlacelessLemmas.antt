@@ -3,9 +3,9 @@ use Rattle.std.proofs.Common.{◌≡◌, List, [], ◌∷◌, ◌++◌, true, ma
 use Rattle.std.proofs.lemmas.List.{map-append}
 use Rattle.graphql_nodes.specs.NameView.{NameView}
 use Rattle.graphql_nodes.specs.NodeView.{NodeView}
-use Rattle.apollo_elaboration.specs.Stripped.{in_place_of}
-use Rattle.apollo_elaboration.specs.declared.selection_path.SelectionPath.{SelectionPath}
-use Rattle.apollo_elaboration.proofs.LeafLemmas.{FieldsByKind}
+use Rattle.apollo_document.specs.Stripped.{in_place_of}
+use Rattle.apollo_document.specs.declared.selection_path.SelectionPath.{SelectionPath}
+use Rattle.apollo_document.proofs.LeafLemmas.{FieldsByKind}
 use Rattle.apollo_executable.specs.Walks.FieldsIn.{fields_in}
 use Rattle.apollo_executable.specs.declared.selection.Selection.{Selection, roll-Selection}
 use Rattle.apollo_executable.specs.declared.selection.Selection.TheFolds as folds

@@ -1,6 +1,6 @@
 -- The path of what is around a selection set: GraphQL specification of October 2021, sections 2.3 to 2.8.
-use Rattle.apollo_elaboration.specs.SelectionFaults.{inside}
-use Rattle.apollo_elaboration.specs.declared.selection_path.SelectionPath.{SelectionPath}
+use Rattle.apollo_document.specs.SelectionFaults.{inside}
+use Rattle.apollo_document.specs.declared.selection_path.SelectionPath.{SelectionPath}
 use Rattle.leafcheck.specs.Roots.{operation_path, fragment_path}
 use Rattle.leafcheck.specs.declared.around.Around as declared
 use Rattle.leafcheck.specs.declared.around.Around.TheOpen.{Around-F}

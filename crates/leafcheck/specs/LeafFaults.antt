@@ -10,7 +10,7 @@ use Rattle.apollo_types.specs.TypeKinds.{is_composite, is_leaf}
 use Rattle.apollo_types.specs.declared.extended_type.ExtendedType.{ExtendedType}
 use Rattle.apollo_schema.specs.Lookups.{type_at}
 use Rattle.apollo_schema.specs.declared.schema.Schema.{Schema}
-use Rattle.apollo_elaboration.specs.declared.selection_path.SelectionPath.{SelectionPath}
+use Rattle.apollo_document.specs.declared.selection_path.SelectionPath.{SelectionPath}
 use Rattle.apollo_executable.specs.Operations.{all_operations}
 use Rattle.apollo_executable.specs.SelectionParts.{response_key}
 use Rattle.apollo_executable.specs.declared.document.ExecutableDocument.{ExecutableDocument}

@@ -2,11 +2,11 @@
 use Rattle.std.specs.Prelude.{◌≡◌, ◌<◌, List, length, map, take}
 use Rattle.std.specs.List.{Any}
 use Rattle.graphql_nodes.specs.Comparing.{bare_name}
-use Rattle.apollo_elaboration.specs.BareErrors.{bare_root}
-use Rattle.apollo_elaboration.specs.Typable.{Fault}
-use Rattle.apollo_elaboration.specs.declared.build_error.BuildError.{BuildError}
-use Rattle.apollo_elaboration.specs.declared.build_error.BuildError.TheVariants as e
-use Rattle.apollo_elaboration.specs.declared.selection_path.SelectionPath.{SelectionPath}
+use Rattle.apollo_document.specs.BareErrors.{bare_root}
+use Rattle.apollo_document.specs.Typable.{Fault}
+use Rattle.apollo_document.specs.declared.build_error.BuildError.{BuildError}
+use Rattle.apollo_document.specs.declared.build_error.BuildError.TheVariants as e
+use Rattle.apollo_document.specs.declared.selection_path.SelectionPath.{SelectionPath}
 
 -- a path begins with another: it is of the same definition, and its first keys are those of the other, by their texts
 abbrev pub BeginsWith : SelectionPath → SelectionPath → Type 0

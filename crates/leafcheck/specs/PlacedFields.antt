@@ -5,8 +5,8 @@ use Rattle.std.specs.Prelude.{List, [], ◌∷◌}
 use Rattle.std.specs.List.{flat_map}
 use Rattle.graphql_nodes.specs.NameView.{NameView}
 use Rattle.graphql_nodes.specs.NodeView.{NodeView}
-use Rattle.apollo_elaboration.specs.SelectionFaults.{inside}
-use Rattle.apollo_elaboration.specs.declared.selection_path.SelectionPath.{SelectionPath}
+use Rattle.apollo_document.specs.SelectionFaults.{inside}
+use Rattle.apollo_document.specs.declared.selection_path.SelectionPath.{SelectionPath}
 use Rattle.apollo_executable.specs.SelectionParts.{response_key}
 use Rattle.apollo_executable.specs.Walks.Plain.{node_of}
 use Rattle.apollo_executable.specs.declared.selection.Selection.{Selection, para-Selection}

@@ -3,9 +3,9 @@
 use Rattle.std.specs.Prelude.{[], Option, None, Some}
 use Rattle.graphql_nodes.specs.NameView.{NameView}
 use Rattle.graphql_nodes.specs.declared.operation_type.OperationType.{OperationType}
-use Rattle.apollo_elaboration.specs.declared.selection_path.ExecutableDefinitionName as root
-use Rattle.apollo_elaboration.specs.declared.selection_path.ExecutableDefinitionName.TheVariants as variant
-use Rattle.apollo_elaboration.specs.declared.selection_path.SelectionPath.{SelectionPath}
+use Rattle.apollo_document.specs.declared.selection_path.ExecutableDefinitionName as root
+use Rattle.apollo_document.specs.declared.selection_path.ExecutableDefinitionName.TheVariants as variant
+use Rattle.apollo_document.specs.declared.selection_path.SelectionPath.{SelectionPath}
 use Rattle.apollo_executable.specs.declared.operation.Fragment.{Fragment}
 use Rattle.apollo_executable.specs.declared.operation.Operation.{Operation}
 

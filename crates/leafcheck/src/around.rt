@@ -5,7 +5,7 @@ ghost use Rattle.std.specs.Prelude.{◌≡◌, IfOk};
 ghost use Rattle.leafcheck.specs.Around.{path_of};
 ghost use Rattle.leafcheck.specs.Roots.{operation_root};
 
-use apollo_elaboration::selection_path::{ExecutableDefinitionName, SelectionPath};
+use apollo_document::selection_path::{ExecutableDefinitionName, SelectionPath};
 use apollo_executable::operation::{Fragment, Operation};
 use graphql_nodes::collections::items::Items;
 use graphql_nodes::name::Name;

@@ -12,8 +12,8 @@ ghost use Rattle.leafcheck.specs.BareFaults.{bare_fault};
 ghost use Rattle.leafcheck.specs.PlacedFields.{placed, placed_fields};
 
 use crate::leaf_fault::{LeafFault, LeafKind};
-use apollo_elaboration::laws::equality_of_build_errors;
-use apollo_elaboration::selection_path::SelectionPath;
+use apollo_document::selection_laws::equality_of_build_errors;
+use apollo_document::selection_path::SelectionPath;
 use apollo_executable::laws::fields_in::fields_by_kind_of_selection;
 use apollo_executable::selection::{Field, FragmentSpread, InlineFragment, Selection};
 use graphql_nodes::laws::{equality_of_locations_and_kinds, equality_of_names};

@@ -1,6 +1,6 @@
 //! What is wrong with fields as leaves: GraphQL specification of October 2021, section 5.3.3.
 
-use apollo_elaboration::selection_path::SelectionPath;
+use apollo_document::selection_path::SelectionPath;
 use graphql_nodes::name::{Name, NamedType};
 use graphql_nodes::source::SourceSpan;
 use thiserror::Error;

@@ -14,7 +14,7 @@ pub mod reporting;
 
 pub use crate::checking::leaf_faults;
 pub use crate::leaf_fault::{LeafFault, LeafKind};
-pub use apollo_elaboration::selection_path::{ExecutableDefinitionName, SelectionPath};
+pub use apollo_document::selection_path::{ExecutableDefinitionName, SelectionPath};
 pub use apollo_executable::document::ExecutableDocument;
 pub use apollo_schema::schema::Schema;
 pub use graphql_nodes::name::{Name, NamedType};

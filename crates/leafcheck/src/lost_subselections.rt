@@ -3,8 +3,8 @@ ghost use Rattle.std.specs.Prelude.{◌↔◌, IsTrue};
 ghost use Rattle.leafcheck.specs.LostSubselections.{BeginsWith, GoesOn, HasLost, IsOfBelow};
 
 use crate::leaf_fault::LeafFault;
-use apollo_elaboration::build_error::{BuildError, Fault};
-use apollo_elaboration::selection_path::SelectionPath;
+use apollo_document::build_error::{BuildError, Fault};
+use apollo_document::selection_path::SelectionPath;
 
 impl LeafFault {
     /// Whether one of these faults, those of the build of its document, is of a selection below this field: of a

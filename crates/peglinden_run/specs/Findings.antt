@@ -1,7 +1,7 @@
 -- What a command shows of what is at fault.
 use Rattle.std.specs.Prelude.{◌≡◌, ◌++◌, ◌+◌, ◌-◌, ◌^◌, ◌==◌, ◌&&◌, ℕ, min, Bool, true, false, not, List, [], Some, length, string_bytes}
 use Rattle.graphql_nodes.specs.Sources.{Files}
-use Rattle.apollo_elaboration.specs.Typable.{Fault as DocumentFault}
+use Rattle.apollo_document.specs.Typable.{Fault as DocumentFault}
 use Rattle.apollo_meaning.specs.Faults.Collisions.{Fault}
 use Rattle.apollo_reporting.specs.DocumentFaults.{document_fault_about, document_fault_details}
 use Rattle.apollo_reporting.specs.SchemaFaults.{schema_fault_about, schema_fault_details}

@@ -6,7 +6,7 @@ ghost use Rattle.peglinden_run.specs.Reports.{Adds, SaysEach};
 
 use crate::answer::Answer;
 use crate::reports::{push_count, push_json, push_json_lines, push_report, push_reports};
-use apollo_elaboration::build_error as of_documents;
+use apollo_document::build_error as of_documents;
 use apollo_meaning::build_error as of_schemas;
 use graphql_nodes::source::SourceMap;
 use leafcheck::leaf_fault::LeafFault;

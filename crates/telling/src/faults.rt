@@ -2,8 +2,8 @@
 
 use crate::Tell;
 use crate::containers::At;
-use apollo_elaboration::build_error::BuildError as DocumentError;
-use apollo_elaboration::selection_path::SelectionPath;
+use apollo_document::build_error::BuildError as DocumentError;
+use apollo_document::selection_path::SelectionPath;
 use apollo_meaning::build_error::BuildError as SchemaError;
 use graphql_nodes::source::SourceSpan;
 use std::alloc::AllocError;

@@ -2,7 +2,7 @@
 
 use crate::Tell;
 use crate::containers::Enclosed;
-use apollo_elaboration::FieldSet;
+use apollo_document::FieldSet;
 use apollo_executable::{
     ExecutableDocument, Field, Fragment, FragmentSpread, InlineFragment, Operation, OperationMap,
     Selection, SelectionSet,

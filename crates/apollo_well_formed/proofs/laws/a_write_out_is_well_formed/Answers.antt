@@ -1,4 +1,4 @@
-use Rattle.apollo_canonical.specs.WrittenAgain.{with_built_ins}
+use Rattle.apollo_schema_laws.specs.WrittenAgain.{with_built_ins}
 use Rattle.apollo_well_formed.proofs.Documents.{after_built_ins}
 use Rattle.apollo_well_formed.proofs.WriteOut.{written}
 use Rattle.apollo_well_formed.proofs.laws.a_write_out_is_well_formed.Goals as goal

@@ -1,6 +1,6 @@
 use Rattle.std.proofs.Common.{List, ◌++◌, ap, subst, ◌∙◌, append_assoc}
 use Rattle.apollo_meaning.specs.Faults.Collisions.{Fault}
-use Rattle.apollo_elaboration.specs.Typable.{Fault as DocumentFault}
+use Rattle.apollo_document.specs.Typable.{Fault as DocumentFault}
 use Rattle.bench_notation.specs.Text.{printed_definitions}
 use Rattle.gqltool_run.specs.FaultLines.{AreFaultLines}
 use Rattle.gqltool_run.proofs.BuiltLemmas.{built-document}

@@ -3,7 +3,7 @@ use Rattle.std.specs.List.{flat_map}
 use Rattle.leafcheck.specs.LeafFaults.{leaf_faults}
 use Rattle.leafcheck.specs.declared.leaf_fault.LeafFault.{LeafFault}
 use Rattle.apollo_meaning.specs.Faults.Collisions.{Fault}
-use Rattle.apollo_elaboration.specs.Typable.{Fault as DocumentFault}
+use Rattle.apollo_document.specs.Typable.{Fault as DocumentFault}
 use Rattle.gqltool_run.specs.FaultLines.{AreFaultLines}
 use Rattle.gqltool_run.specs.LeafCommand.{leaf_line}
 use Rattle.gqltool_run.proofs.BuiltLemmas.{built-document}

@@ -1,5 +1,5 @@
 use Rattle.std.proofs.Common.{true}
-use Rattle.apollo_elaboration.proofs.LeafLemmas.{FieldsByKind}
+use Rattle.apollo_document.proofs.LeafLemmas.{FieldsByKind}
 use Rattle.leafcheck.proofs.PlacedLemmas.{placed-none, placed-joined, placed-field, placed-spread, placed-inline}
 use Rattle.leafcheck.proofs.PlacelessLemmas.{placeless}
 use Rattle.leafcheck.proofs.laws.fields_with_places.Goals as goal

@@ -2,7 +2,7 @@ use Rattle.std.proofs.Common.{rules, ◌≡◌, ◌∙◌, nat_eq, sym, take, le
 use lib.Pointwise.{pointwise}
 use Rattle.graphql_nodes.specs.NameView.{NameView}
 use Rattle.graphql_nodes.proofs.Comparisons.{names, lists}
-use Rattle.apollo_elaboration.proofs.ErrorEquality.{roots}
+use Rattle.apollo_document.proofs.ErrorEquality.{roots}
 use Rattle.leafcheck.proofs.lost_subselections.begins_with.Goals as goal
 
 pub returns-then-eq : goal.returns-then-eq

@@ -1,5 +1,5 @@
 use Rattle.std.proofs.Common.{◌≡◌, ◌<◌, ℕ, slice_index_or}
-use Rattle.apollo_elaboration.specs.Typable.{Fault}
+use Rattle.apollo_document.specs.Typable.{Fault}
 use Rattle.leafcheck.specs.LostSubselections.{IsOfBelow}
 use Rattle.leafcheck.proofs.leaf_fault.LeafFault.lost_subselections.Given as goal
 

@@ -1,7 +1,0 @@
-mod Words
-mod Lists
-mod Sections
-mod Items
-mod Types
-mod Definitions
-mod Rebuild

@@ -1,8 +1,0 @@
-use Rattle.apollo_canonical.proofs.Types.{type-again, components-again}
-use Rattle.apollo_canonical.proofs.laws.written_types_are_written_again.Goals as goal
-
-pub returns-clause-same : goal.returns-clause-same
-returns-clause-same c = type-again
-
-pub returns-clause-components : goal.returns-clause-components
-returns-clause-components c = components-again

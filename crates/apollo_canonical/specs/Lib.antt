@@ -1,4 +1,0 @@
-pub mod MeaningLaws
-pub mod Sections
-pub mod TypeSections
-pub mod WrittenAgain

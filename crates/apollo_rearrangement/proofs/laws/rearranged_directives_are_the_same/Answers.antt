@@ -1,6 +1,0 @@
-use Rattle.apollo_rearrangement.proofs.Subjects.{directive_of-agree}
-use Rattle.apollo_rearrangement.proofs.laws.rearranged_directives_are_the_same.Goals as goal
-use Rattle.apollo_rearrangement.specs.Rearranged.{DirectiveDefinitionsOf}
-
-pub returns : goal.returns
-returns c = λ xs ys n r. directive_of-agree xs ys n (r.in_order (DirectiveDefinitionsOf n))

@@ -1,0 +1,167 @@
+-- The components of a schema definition, whose roots stand in the order of the operation types, and the definition that written parts make again.
+use Rattle.apollo_schema_laws.proofs.Words.Lists.{◌≡◌, Bool, true, cond, List, [], ◌∷◌, ◌++◌, None, Option, Some, map, filter, flat_map, option_map, refl, sym, ap, ◌∙◌, slice_get, append-nil, filter-append, cons_option, list_any, AllByRecursion, IsDistinct, map-map, unwrap_or, filter-map, arith}
+use Rattle.apollo_schema_laws.proofs.Words.Syntax.{OperationType, Query, Mutation, Subscription, DefinitionParts}
+use Rattle.apollo_schema_laws.proofs.Words.Types.{same_id, same_origin, of_origin, of_extensions, SourcedPart, by_origin, ComponentName, ComponentOrigin, Extension, Definition, ExtensionId, of_root, root_node, schema_components, root_of, SchemaDefinition, PartsByOrigin}
+use Rattle.apollo_schema_laws.proofs.Words.Meaning.{Root, same_operation, component_name}
+use Rattle.apollo_schema_laws.proofs.Words.Written.{Sections, as_parts, in_sections, joined, with_origins, node_with_origin, no_components}
+use Rattle.graphql_ast.specs.declared.definition_parts.DefinitionPart.TheVariants as parts
+use Rattle.apollo_schema_laws.proofs.Lists.{in_order, in_order-map, each-both, shown}
+use Rattle.apollo_schema_laws.proofs.Sections.{ids_in, ids_in-append, ids_in-sections, picked, picked-append, of_origin-sections, parts_in, has_some, has_some-picked, written-in_order, definition-alone, each-alone, extension-alone, marks, of-alone, parts-again, shown-joined}
+
+-- the root of an operation type with its origin, if there is one
+abbrev pub entries : OperationType → Option ComponentName → List (ComponentOrigin × Root)
+entries op None = []
+entries op (Some n) = (n.origin, root_node (op, n)) ∷ []
+
+abbrev pub root_entries : SchemaDefinition → List (ComponentOrigin × Root)
+root_entries d = entries Query d.query ++ (entries Mutation d.mutation ++ (entries Subscription d.subscription ++ []))
+
+abbrev pub schema_sections : SchemaDefinition → Sections
+schema_sections d = record no_components { directives = map node_with_origin d.directives.0; roots = root_entries d }
+
+one-root : (op : OperationType) (o : Option ComponentName) (rest : List (OperationType × ComponentName)) (more : List (ComponentOrigin × Root)) → map of_root rest ≡ as_parts parts.Root more
+    → map of_root (cons_option (option_map (λ n. (op, n)) o) rest) ≡ as_parts parts.Root (entries op o ++ more)
+one-root op o rest more e = grind (arith, e)
+
+-- they are those that are written
+pub schema-components : (d : SchemaDefinition) → schema_components d ≡ in_sections (schema_sections d)
+schema-components d =
+    (λ i. sym (map-map (λ x. (x.0, parts.Directive x.1)) node_with_origin d.directives.0) i
+    ++ one-root Query d.query (cons_option (option_map (λ n. (Mutation, n)) d.mutation) (cons_option (option_map (λ n. (Subscription, n)) d.subscription) [])) (entries Mutation d.mutation ++ (entries Subscription d.subscription ++ []))
+    (one-root Mutation d.mutation (cons_option (option_map (λ n. (Subscription, n)) d.subscription) []) (entries Subscription d.subscription ++ []) (one-root Subscription d.subscription [] [] refl)) i)
+    ∙ ap (λ l. as_parts parts.Directive (map node_with_origin d.directives.0) ++ l) (sym (append-nil (as_parts parts.Root (root_entries d))))
+
+abbrev pub is_op : OperationType → Root → Bool
+is_op op r = same_operation op r.value.0
+
+-- the roots of an operation type among parts
+abbrev pub roots_for : OperationType → DefinitionParts → List Root
+roots_for op d = filter (is_op op) d.roots
+
+module _ (o : ComponentOrigin) where
+  piece : (op other : OperationType) (n : Option ComponentName) → filter (is_op op) (picked o (entries other n)) ≡ cond (same_operation op other) (picked o (entries other n)) []
+  piece op other n = grind arith
+
+  module _ (d : SchemaDefinition) where
+    pub picked-roots : picked o (root_entries d) ≡ picked o (entries Query d.query) ++ (picked o (entries Mutation d.mutation) ++ (picked o (entries Subscription d.subscription) ++ []))
+    picked-roots = simp (picked-append o)
+
+    pieces : (op : OperationType) → filter (is_op op) (picked o (root_entries d))
+        ≡ cond (same_operation op Query) (picked o (entries Query d.query)) [] ++ (cond (same_operation op Mutation) (picked o (entries Mutation d.mutation)) [] ++ (cond (same_operation op Subscription) (picked o (entries Subscription d.subscription)) [] ++ []))
+    pieces op = ap (filter (is_op op)) picked-roots ∙ simp (filter-append (is_op op), piece op Query d.query, piece op Mutation d.mutation, piece op Subscription d.subscription)
+
+    -- of one operation type there is its root
+    pub picked-for : (op : OperationType) → filter (is_op op) (picked o (root_entries d)) ≡ picked o (entries op (root_of d op))
+    picked-for Query = pieces Query ∙ append-nil (picked o (entries Query d.query))
+    picked-for Mutation = pieces Mutation ∙ append-nil (picked o (entries Mutation d.mutation))
+    picked-for Subscription = pieces Subscription ∙ append-nil (picked o (entries Subscription d.subscription))
+
+-- parts of a schema definition: nothing but directives, and roots in the order of the operation types
+pub record IsSchemaRow (d : DefinitionParts) : Type 0 where
+  pub names : [] ≡ d.names
+  pub fields : [] ≡ d.fields
+  pub values : [] ≡ d.values
+  pub input_fields : [] ≡ d.input_fields
+  pub roots : roots_for Query d ++ (roots_for Mutation d ++ (roots_for Subscription d ++ [])) ≡ d.roots
+
+-- whether parts have directives, and a root of each operation type
+abbrev pub schema_sorts : List (DefinitionParts → Bool)
+schema_sorts = (λ p. has_some p.directives.0) ∷ (λ p. has_some (roots_for Query p)) ∷ (λ p. has_some (roots_for Mutation p)) ∷ (λ p. has_some (roots_for Subscription p)) ∷ []
+
+module _ (d : SchemaDefinition) where
+  pub of_schema-origin : (o : ComponentOrigin) → of_origin o (schema_components d) ≡ parts_in o (schema_sections d)
+  of_schema-origin o = ap (of_origin o) (schema-components d) ∙ of_origin-sections o (schema_sections d)
+
+  pub roots-origin : (o : ComponentOrigin) (op : OperationType) → roots_for op (of_origin o (schema_components d)) ≡ picked o (entries op (root_of d op))
+  roots-origin o op = ap (roots_for op) (of_schema-origin o) ∙ picked-for o d op
+
+  pub schema-row : (o : ComponentOrigin) → IsSchemaRow (of_origin o (schema_components d))
+  schema-row o = record {
+    names = sym (ap (λ p. p.names) (of_schema-origin o));
+    fields = sym (ap (λ p. p.fields) (of_schema-origin o));
+    values = sym (ap (λ p. p.values) (of_schema-origin o));
+    input_fields = sym (ap (λ p. p.input_fields) (of_schema-origin o));
+    roots = (λ i. roots-origin o Query i ++ (roots-origin o Mutation i ++ (roots-origin o Subscription i ++ []))) ∙ sym (picked-roots o d) ∙ sym (ap (λ p. p.roots) (of_schema-origin o));
+  }
+
+  abbrev id_lists : List (List ExtensionId)
+  id_lists = ids_in (map node_with_origin d.directives.0) ∷ ids_in (entries Query d.query) ∷ ids_in (entries Mutation d.mutation) ∷ ids_in (entries Subscription d.subscription) ∷ []
+
+  ids-listed : ids_in (schema_components d) ≡ flat_map (λ l. l) id_lists
+  ids-listed = ap ids_in (schema-components d) ∙ ids_in-sections (schema_sections d) ∙ simp (append-nil, ids_in-append)
+
+  -- the parts of extensions are written in the order of these
+  pub schema-in_order : in_order schema_sorts (map (λ e. e.1) (of_extensions (schema_components d))) ≡ true
+  schema-in_order = written-in_order (schema_components d) schema_sorts id_lists ids-listed (λ i. directives i ∷ roots Query i ∷ roots Mutation i ∷ roots Subscription i ∷ [])
+    where
+      directives : ◌≡◌ {A = ExtensionId → Bool} (λ e. has_some (of_origin (Extension e) (schema_components d)).directives.0) (λ e. list_any (same_id e) (ids_in (map node_with_origin d.directives.0)))
+      directives = λ i e. (ap (λ (p : DefinitionParts). has_some p.directives.0) (of_schema-origin (Extension e)) ∙ has_some-picked e (map node_with_origin d.directives.0)) i
+
+      roots : (op : OperationType) → ◌≡◌ {A = ExtensionId → Bool} (λ e. has_some (roots_for op (of_origin (Extension e) (schema_components d)))) (λ e. list_any (same_id e) (ids_in (entries op (root_of d op))))
+      roots op = λ i e. (ap has_some (roots-origin (Extension e) op) ∙ has_some-picked e (entries op (root_of d op))) i
+
+-- the sections that written parts make, with the roots in the order of the operation types
+abbrev pub in_operation_order : PartsByOrigin → Sections
+in_operation_order p = record no_components {
+  directives = joined (λ d. d.directives.0) (with_origins p);
+  roots = joined (roots_for Query) (with_origins p) ++ (joined (roots_for Mutation) (with_origins p) ++ (joined (roots_for Subscription) (with_origins p) ++ []));
+}
+
+-- where one group alone is of the origin
+row-again : (p : PartsByOrigin) (o : ComponentOrigin) (g : ComponentOrigin × DefinitionParts) → filter (λ g. same_origin o g.0) (with_origins p) ≡ g ∷ [] → IsSchemaRow g.1 → of_origin o (in_sections (in_operation_order p)) ≡ g.1
+row-again p o g alone row = of_origin-sections o (in_operation_order p) ∙ (λ i. record {
+  directives = record { 0 = of_sort (λ d. d.directives.0) i };
+  names = row.names i;
+  fields = row.fields i;
+  values = row.values i;
+  input_fields = row.input_fields i;
+  roots = roots i;
+})
+  where
+    of_sort : {A : Type 0} (sort : DefinitionParts → List A) → picked o (joined sort (with_origins p)) ≡ sort g.1
+    of_sort sort = of-alone o sort (with_origins p) g alone
+
+    rs : OperationType → List (ComponentOrigin × Root)
+    rs op = joined (roots_for op) (with_origins p)
+
+    roots : picked o (rs Query ++ (rs Mutation ++ (rs Subscription ++ []))) ≡ g.1.roots
+    roots =
+        picked-append o (rs Query) (rs Mutation ++ (rs Subscription ++ []))
+        ∙ (λ i. of_sort (roots_for Query) i ++ (picked-append o (rs Mutation) (rs Subscription ++ [])
+        ∙ (λ j. of_sort (roots_for Mutation) j ++ (picked-append o (rs Subscription) [] ∙ ap (λ l. l ++ []) (of_sort (roots_for Subscription))) j)) i)
+        ∙ row.roots
+
+module _ (p : PartsByOrigin) (distinct : IsDistinct same_id (map (λ e. e.0) p.extensions)) (first_row : IsSchemaRow p.definition) (rows : AllByRecursion (λ e. IsSchemaRow e.1) p.extensions) (ordered : in_order schema_sorts (map (λ e. e.1) p.extensions) ≡ true) where
+  abbrev comps : List SourcedPart
+  comps = in_sections (in_operation_order p)
+
+  -- parts in the order in which they are written are written again as themselves
+  pub schema-parts_again : by_origin comps ≡ p
+  schema-parts_again =
+      parts-again p distinct comps ((λ e. marks e.1.directives.0) ∷ (λ e. marks (roots_for Query e.1)) ∷ (λ e. marks (roots_for Mutation e.1)) ∷ (λ e. marks (roots_for Subscription e.1)) ∷ [])
+      (ids_in-sections (in_operation_order p) ∙ (λ i. shown-joined p (λ d. d.directives.0) i ++ (append-nil (ids_in (in_operation_order p).roots) ∙ roots) i)) (sym (in_order-map (λ e. e.1) schema_sorts p.extensions) ∙ ordered)
+      (row-again p Definition (Definition, p.definition) (definition-alone p) first_row)
+      (each-both (λ e. filter (λ h. same_id e.0 h.0) p.extensions ≡ e ∷ []) (λ e. IsSchemaRow e.1) (λ e. of_origin (Extension e.0) comps ≡ e.1)
+      (λ e alone row. row-again p (Extension e.0) (Extension e.0, e.1) (extension-alone p e alone) row) p.extensions (each-alone p distinct) rows)
+    where
+      roots : ids_in (joined (roots_for Query) (with_origins p) ++ (joined (roots_for Mutation) (with_origins p) ++ (joined (roots_for Subscription) (with_origins p) ++ [])))
+          ≡ shown (λ e. e.0) (λ e. marks (roots_for Query e.1)) p.extensions ++ (shown (λ e. e.0) (λ e. marks (roots_for Mutation e.1)) p.extensions ++ (shown (λ e. e.0) (λ e. marks (roots_for Subscription e.1)) p.extensions ++ []))
+      roots =
+          ids_in-append (joined (roots_for Query) (with_origins p)) (joined (roots_for Mutation) (with_origins p) ++ (joined (roots_for Subscription) (with_origins p) ++ []))
+          ∙ (λ i. shown-joined p (roots_for Query) i ++ (ids_in-append (joined (roots_for Mutation) (with_origins p)) (joined (roots_for Subscription) (with_origins p) ++ [])
+          ∙ (λ j. shown-joined p (roots_for Mutation) j ++ (ids_in-append (joined (roots_for Subscription) (with_origins p)) [] ∙ ap (λ l. l ++ []) (shown-joined p (roots_for Subscription))) j)) i)
+
+-- a root is found where there is one alone
+pub from-values : (op : OperationType) (xs : List (ComponentOrigin × Root)) (n : Option ComponentName) → map (λ x. x.1) xs ≡ map (λ x. x.1) (entries op n)
+    → (entries op (option_map (λ x. component_name x.0 x.1.value.1) (slice_get xs 0)) ≡ xs) × (option_map (λ c. c.name) (option_map (λ x. component_name x.0 x.1.value.1) (slice_get xs 0)) ≡ option_map (λ c. c.name) n)
+from-values op [] None h = (refl, refl)
+from-values op [] (Some n) h = absurd (let g : [] ≡ root_node (op, n) ∷ [] = h in cc)
+from-values op (x ∷ xs) None h = absurd (let g : x.1 ∷ map (λ x. x.1) xs ≡ [] = h in cc)
+from-values op (x ∷ []) (Some n) h =
+    let e : x.1 ≡ root_node (op, n) = ap (λ l. unwrap_or (slice_get l 0) x.1) h in
+    (ap (λ (y : Root). (x.0, root_node (op, component_name x.0 y.value.1)) ∷ []) e ∙ sym (ap (λ (y : Root). (x.0, y) ∷ []) e), ap (λ (y : Root). Some y.value.1) e)
+from-values op (x ∷ y ∷ xs) (Some n) h = absurd (let g : x.1 ∷ y.1 ∷ map (λ x. x.1) xs ≡ root_node (op, n) ∷ [] = h in cc)
+
+pub filter-joined : {A : Type 0} (q : A → Bool) (sort : DefinitionParts → List A) (gs : List (ComponentOrigin × DefinitionParts)) → filter (λ x. q x.1) (joined sort gs) ≡ joined (λ d. filter q (sort d)) gs
+filter-joined q sort [] = refl
+filter-joined q sort (g ∷ gs) = filter-append (λ x. q x.1) (map (λ x. (g.0, x)) (sort g.1)) (joined sort gs) ∙ (λ i. filter-map (λ x. q x.1) (λ x. (g.0, x)) (sort g.1) i ++ filter-joined q sort gs i)

@@ -1,0 +1,108 @@
+-- The schemas that equal and rearranged lists mean are equal, and what is built of them, by the laws of these lists.
+use Rattle.std.proofs.Common.{◌≡◌, ℕ, Bool, List, [], length, Option, Some, None, refl, sym, ap, subst, ◌∙◌}
+use Rattle.std.proofs.lemmas.List.{nil_from_length}
+use Rattle.std.proofs.lemmas.List.Sorted.{length_permutation}
+use Rattle.std.specs.List.Sorted.{IsPermutation}
+use Rattle.std.specs.Option.{option_map, unwrap_or}
+use Rattle.graphql_ast.specs.BareTypeSystem.{bare_directive_definition}
+use Rattle.graphql_nodes.specs.Comparing.{entries_by_text}
+use Rattle.graphql_nodes.specs.NodeView.{NodeView}
+use Rattle.apollo_types.specs.BareTypes.{bare_extended_type, bare_schema_definition}
+use Rattle.apollo_types.specs.declared.schema_definition.SchemaDefinition.{SchemaDefinition}
+use Rattle.apollo_meaning.specs.Directives.{directive_definitions, directive_of}
+use Rattle.apollo_meaning.specs.Faults.ListFaults.{faults_of}
+use Rattle.apollo_meaning.specs.Items.ListItems.{Added, ListItem, added_items}
+use Rattle.apollo_meaning.specs.Order.Places.{folding_order}
+use Rattle.apollo_meaning.specs.Schema.Definition.{no_schema, schema_of}
+use Rattle.apollo_meaning.specs.Schema.Whole.{whole}
+use Rattle.apollo_meaning.specs.Completion.ImpliedSchema.{completed}
+use Rattle.apollo_schema_laws.specs.Rearranged.{AreRearranged, directive_meant, schema_meant, type_meant}
+use Rattle.apollo_schema_laws.specs.BuiltAlike.{BuildEqualSchemas, BuildFaultlessTogether, BuildSameFaults, MeanEqualSchemas, StandFor}
+use Rattle.apollo_schema.specs.BuilderStands.{adopts}
+use Rattle.apollo_schema.specs.MeantSchema.{MeansSchema}
+use Rattle.apollo_schema.specs.declared.schema_builder.SchemaBuilder.{SchemaBuilder}
+
+-- what the laws say of rearranged lists: what they are completed with, their schema definitions, types, directives and faults
+abbrev pub CompletedToo : Type 0
+CompletedToo = (adopts : Bool) (xs ys : List ListItem) → AreRearranged xs ys → AreRearranged (completed adopts xs) (completed adopts ys)
+
+abbrev pub EqualDefinitions : Type 0
+EqualDefinitions = (start other : ℕ) (xs ys : List ListItem) → AreRearranged xs ys → schema_meant start xs ≡ schema_meant other ys
+
+abbrev pub EqualTypes : Type 0
+EqualTypes = (start other : ℕ) (xs ys : List ListItem) (n : List ℕ) → AreRearranged xs ys → type_meant start xs n ≡ type_meant other ys n
+
+abbrev pub SameDirectives : Type 0
+SameDirectives = (xs ys : List ListItem) (n : List ℕ) → AreRearranged xs ys → directive_of (directive_definitions xs) n ≡ directive_of (directive_definitions ys) n
+
+abbrev pub SameFaults : Type 0
+SameFaults = (adopts : Bool) (xs ys : List Added) → AreRearranged (added_items xs) (added_items ys) → IsPermutation (faults_of adopts xs) (faults_of adopts ys)
+
+abbrev pub EqualSchemas : Type 0
+EqualSchemas = (adopts : Bool) (xs ys : List Added) → AreRearranged (added_items xs) (added_items ys) → MeanEqualSchemas adopts xs ys
+
+-- what `==` compares of the schema definition that a schema has, by what it compares of that of the list, if there is one
+bare-or_none : (o : Option (NodeView SchemaDefinition))
+    → bare_schema_definition (unwrap_or o no_schema).value ≡ unwrap_or (option_map (λ d. bare_schema_definition d.value) o) (bare_schema_definition no_schema.value)
+bare-or_none None = refl
+bare-or_none (Some d) = refl
+
+module _ (adopts : Bool) (xs ys : List Added) where
+  -- the schemas that two lists mean are equal where the lists mean equal schema definitions, types and directives
+  pub schemas-alike : ((start other : ℕ) → schema_meant start (whole adopts xs) ≡ schema_meant other (whole adopts ys))
+      → ((start other : ℕ) (n : List ℕ) → type_meant start (whole adopts xs) n ≡ type_meant other (whole adopts ys) n)
+      → ((n : List ℕ) → directive_meant (whole adopts xs) n ≡ directive_meant (whole adopts ys) n) → MeanEqualSchemas adopts xs ys
+  schemas-alike definitions types directives start other s t a b = λ i. record {
+    definition = same_definition i;
+    directive_definitions = λ n. same_directive n i;
+    types = λ n. same_type n i;
+  }
+    where
+      definition_of : (n : ℕ) (zs : List ListItem)
+          → bare_schema_definition (unwrap_or (schema_of n (folding_order zs) zs) no_schema).value ≡ unwrap_or (schema_meant n zs) (bare_schema_definition no_schema.value)
+      definition_of n zs = bare-or_none (schema_of n (folding_order zs) zs)
+
+      same_definition : bare_schema_definition s.schema_definition.value ≡ bare_schema_definition t.schema_definition.value
+      same_definition =
+          ap (λ d. bare_schema_definition d.value) a.definition ∙ definition_of start (whole adopts xs)
+          ∙ ap (λ o. unwrap_or o (bare_schema_definition no_schema.value)) (definitions start other)
+          ∙ sym (definition_of other (whole adopts ys)) ∙ sym (ap (λ d. bare_schema_definition d.value) b.definition)
+
+      same_type : (n : List ℕ) → entries_by_text bare_extended_type s.types n ≡ entries_by_text bare_extended_type t.types n
+      same_type n = ap (option_map bare_extended_type) (a.types.each n) ∙ types start other n ∙ sym (ap (option_map bare_extended_type) (b.types.each n))
+
+      same_directive : (n : List ℕ) → entries_by_text (λ d. bare_directive_definition d.value) s.directive_definitions n ≡ entries_by_text (λ d. bare_directive_definition d.value) t.directive_definitions n
+      same_directive n =
+          ap (option_map (λ d. bare_directive_definition d.value)) (a.directives.each n) ∙ directives n
+          ∙ sym (ap (option_map (λ d. bare_directive_definition d.value)) (b.directives.each n))
+
+pub schemas-rearranged : CompletedToo → EqualDefinitions → EqualTypes → SameDirectives → EqualSchemas
+schemas-rearranged completes definitions types directives adopts xs ys r =
+    let all = completes adopts (added_items xs) (added_items ys) r in
+    schemas-alike adopts xs ys (λ start other. definitions start other (whole adopts xs) (whole adopts ys) all)
+    (λ start other n. types start other (whole adopts xs) (whole adopts ys) n all)
+    (λ n. ap (option_map (λ d. bare_directive_definition d.value)) (directives (whole adopts xs) (whole adopts ys) n all))
+
+-- builders that stand for lists that mean equal schemas are built to equal ones
+pub built-alike : (xs ys : List Added) → ((adopts : Bool) → MeanEqualSchemas adopts xs ys) → (b c : SchemaBuilder) → StandFor xs ys b c → BuildEqualSchemas b c
+built-alike xs ys schemas b c stand = λ s t m n.
+    schemas (adopts b) stand.start stand.other s t (m stand.start xs stand.first)
+    (subst (λ (a : Bool). MeansSchema stand.other a ys t) (sym stand.one_setting) (n stand.other ys stand.second))
+
+module _ (same_faults : SameFaults) where
+  pub found-rearranged : EqualSchemas → (xs ys : List Added) → AreRearranged (added_items xs) (added_items ys) → (b c : SchemaBuilder) → StandFor xs ys b c → BuildSameFaults b c
+  found-rearranged schemas xs ys r b c stand = λ s t faults others f g.
+      let first : faults ≡ faults_of (adopts b) xs = (f stand.start xs stand.first).1.0.0 in
+      let second : others ≡ faults_of (adopts b) ys = (g stand.other ys stand.second).1.0.0 ∙ ap (λ a. faults_of a ys) (sym stand.one_setting) in
+      let same : IsPermutation faults others =
+      subst (λ l. IsPermutation l others) (sym first)
+      (subst (IsPermutation (faults_of (adopts b) xs)) (sym second) (same_faults (adopts b) xs ys r)) in
+      (same, built-alike xs ys (λ a. schemas a xs ys r) b c stand s t (λ start zs stands. (f start zs stands).0) (λ start zs stands. (g start zs stands).0))
+
+  pub faultless-rearranged : (xs ys : List Added) → AreRearranged (added_items xs) (added_items ys) → (b c : SchemaBuilder) → StandFor xs ys b c → BuildFaultlessTogether b c
+  faultless-rearranged xs ys r b c stand = λ faultless t others g.
+      let none : faults_of (adopts b) xs ≡ [] = faultless stand.start xs stand.first in
+      let same : IsPermutation (faults_of (adopts b) xs) (faults_of (adopts b) ys) = same_faults (adopts b) xs ys r in
+      let also : faults_of (adopts b) ys ≡ [] = nil_from_length (faults_of (adopts b) ys) (length_permutation (faults_of (adopts b) xs) (faults_of (adopts b) ys) same ∙ ap length none) in
+      let found = (g stand.other ys stand.second).1.0 in
+      found.1 (found.0 ∙ ap (λ a. faults_of a ys) (sym stand.one_setting) ∙ also)

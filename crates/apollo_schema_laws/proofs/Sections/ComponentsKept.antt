@@ -1,0 +1,176 @@
+-- The parts that are written out have all components of the sections, and the directives in order.
+use Rattle.apollo_schema_laws.proofs.Words.Lists.{map-id, ◌≡◌, Bool, true, false, List, [], ◌∷◌, ◌++◌, map, filter, refl, sym, ap, subst, ◌∙◌, true≢false, arith, or_right, not-true, flat_map-map, IsPermutation-map, map-map, IsEquivalence, AllByRecursion, IsDistinct, cons_option, flat_map, list_any, IsPermutation, each-weaken, each-filter, flat_map-each, append-nil, flat_map-append, map-flat_map, list_any-map}
+use Rattle.apollo_schema_laws.proofs.Words.Syntax.{DefinitionPart, DefinitionParts, NodeView, Directive}
+use Rattle.apollo_schema_laws.proofs.Words.Types.{id_of, same_id, same_origin, SourcedPart, origins_in, identities, of_origin, of_extensions, ComponentOrigin, Definition, Extension, ExtensionId, PartsByOrigin, list_any-first_of_each, first_of_each-distinct, first_of_each}
+use Rattle.apollo_schema_laws.proofs.Words.Written.{Sections, HasSameComponents, as_parts, in_sections, with_origins, joined, sections_of}
+use Rattle.graphql_ast.specs.declared.definition_parts.DefinitionPart.TheVariants as parts
+use Rattle.apollo_schema_laws.proofs.Lists.{each-from_map, each-made, keys-distinct, each-split, groups, passes, new_to_these, first_of_each-append, marked, first-shown, flat_map-nothing}
+use Rattle.apollo_schema_laws.proofs.Sections.SectionLemmas.{same_id-equiv, ids_in, picked, of_origin-sections, ids_in-sections, of-alone, definition-alone, each-alone, extension-alone, shown-joined, marks, has_some, has_some-picked}
+
+same_origin-equiv : IsEquivalence same_origin
+same_origin-equiv = record { refl = itself; symm = both-ways; congr = alike }
+  where
+    itself : (a : ComponentOrigin) → same_origin a a ≡ true
+    itself a = grind (arith, same_id-equiv.refl)
+
+    both-ways : (a b : ComponentOrigin) → same_origin a b ≡ same_origin b a
+    both-ways a b = grind (arith, same_id-equiv.symm)
+
+    alike : (a b c : ComponentOrigin) → same_origin a b ≡ true → same_origin a c ≡ same_origin b c
+    alike a b c e = grind (arith, same_id-equiv.congr, e)
+
+-- whether an origin is the definition or among these identities
+abbrev pub is_among : List ExtensionId → ComponentOrigin → Bool
+is_among ids Definition = true
+is_among ids (Extension e) = list_any (same_id e) ids
+
+is_among-more : (ids : List ExtensionId) (a b : ComponentOrigin) → is_among ids b ≡ true → is_among (cons_option (id_of a) ids) b ≡ true
+is_among-more ids a b h = grind (arith, or_right, h)
+
+pub each-among : {A : Type 0} (cs : List (ComponentOrigin × A)) → AllByRecursion (λ c. is_among (ids_in cs) c.0 ≡ true) cs
+each-among [] = tt
+each-among (c ∷ cs) = (here c.0, each-weaken (λ d. is_among (ids_in cs) d.0 ≡ true) (λ d. is_among (ids_in (c ∷ cs)) d.0 ≡ true) (λ d h. is_among-more (ids_in cs) c.0 d.0 h) cs (each-among cs))
+  where
+    here : (o : ComponentOrigin) → is_among (cons_option (id_of o) (ids_in cs)) o ≡ true
+    here o = grind (arith, same_id-equiv.refl)
+
+distinct-with_definition : (ids : List ExtensionId) → IsDistinct same_id ids → IsDistinct same_origin (Definition ∷ map (λ e. Extension e) ids)
+unfolding IsDistinct
+distinct-with_definition ids d = (each-made (λ o. same_origin Definition o ≡ false) (λ k. Extension k) (λ k. refl) ids, keys-distinct same_origin (λ k. Extension k) ids d)
+
+-- what parts have of one sort, without origins
+pub joined-values : {A : Type 0} (sort : DefinitionParts → List A) (gs : List (ComponentOrigin × DefinitionParts)) → map (λ x. x.1) (joined sort gs) ≡ flat_map (λ g. sort g.1) gs
+joined-values {A} sort gs = map-flat_map (λ x. x.1) (λ g. map (λ x. (g.0, x)) (sort g.1)) gs ∙ (λ i. flat_map (λ g. (map-map (λ (x : ComponentOrigin × A). x.1) (λ x. (g.0, x)) (sort g.1) ∙ map-id (sort g.1)) i) gs)
+
+module _ (s : Sections) (p : PartsByOrigin) (same_definition : p.definition ≡ of_origin Definition (in_sections s)) (same_parts : map (λ e. e.1) p.extensions ≡ map (λ e. e.1) (of_extensions (in_sections s))) where
+  abbrev ids : List ExtensionId
+  ids = identities (origins_in (in_sections s))
+
+  abbrev origins : List ComponentOrigin
+  origins = Definition ∷ map (λ e. Extension e) ids
+
+  -- each component comes from one of the origins
+  has_origin : (o : ComponentOrigin) → is_among (ids_in (in_sections s)) o ≡ true → list_any (λ a. same_origin a o) origins ≡ true
+  has_origin Definition h = refl
+  has_origin (Extension e) h =
+      list_any-map (λ a. same_origin a (Extension e)) (λ k. Extension k) ids ∙ (λ i. list_any (λ k. same_id-equiv.symm k e i) ids)
+      ∙ list_any-first_of_each same_id same_id-equiv e (ids_in (in_sections s)) ∙ h
+
+  abbrev pub HasOrigins : {A : Type 0} → List (ComponentOrigin × A) → Type 0
+  HasOrigins xs = AllByRecursion (λ x. list_any (λ a. same_origin a x.0) origins ≡ true) xs
+
+  pub origins-split : {A : Type 0} (xs ys : List (ComponentOrigin × A)) → HasOrigins (xs ++ ys) → HasOrigins xs × HasOrigins ys
+  origins-split xs ys a = each-split (λ x. list_any (λ a. same_origin a x.0) origins ≡ true) xs ys a
+
+  -- the written parts have of one sort what is picked of each origin
+  pub written-values : {A : Type 0} (sort : DefinitionParts → List A) (xs : List (ComponentOrigin × A)) → ((o : ComponentOrigin) → sort (of_origin o (in_sections s)) ≡ picked o xs)
+      → map (λ x. x.1) (joined sort (with_origins p)) ≡ picked Definition xs ++ flat_map (λ e. picked (Extension e) xs) ids
+  written-values sort xs is =
+      joined-values sort (with_origins p)
+      ∙ (λ i. (ap sort same_definition ∙ is Definition) i ++ (flat_map-map (λ (g : ComponentOrigin × DefinitionParts). sort g.1) (λ e. (Extension e.0, e.1)) p.extensions
+      ∙ sym (flat_map-map sort (λ (e : ExtensionId × DefinitionParts). e.1) p.extensions) ∙ ap (flat_map sort) same_parts
+      ∙ ap (flat_map sort) (map-map (λ (e : ExtensionId × DefinitionParts). e.1) (λ e. (e, of_origin (Extension e) (in_sections s))) ids)
+      ∙ flat_map-map sort (λ e. of_origin (Extension e) (in_sections s)) ids) i)
+      ∙ (λ i. picked Definition xs ++ flat_map (λ e. is (Extension e) i) ids)
+
+  -- the components of one sort are those of the written parts
+  pub kept : {A : Type 0} (sort : DefinitionParts → List A) (xs : List (ComponentOrigin × A)) → ((o : ComponentOrigin) → sort (of_origin o (in_sections s)) ≡ picked o xs) → HasOrigins xs
+      → IsPermutation (map (λ x. x.1) xs) (map (λ x. x.1) (joined sort (with_origins p)))
+  kept sort xs is there =
+      subst (λ l. IsPermutation (map (λ x. x.1) xs) l) (map-flat_map (λ x. x.1) (λ o. filter (λ x. same_origin o x.0) xs) origins ∙ ap (λ l. picked Definition xs ++ l) (flat_map-map (λ o. picked o xs) (λ e. Extension e) ids) ∙ sym (written-values sort xs is))
+      (IsPermutation-map (λ x. x.1) xs (flat_map (λ o. filter (λ x. same_origin o x.0) xs) origins) (groups same_origin same_origin-equiv origins xs (distinct-with_definition ids (first_of_each-distinct same_id (ids_in (in_sections s)))) there))
+
+  abbrev Among : SourcedPart → Type 0
+  Among c = list_any (λ a. same_origin a c.0) origins ≡ true
+
+  section : {A : Type 0} (part : A → DefinitionPart) (xs : List (ComponentOrigin × A)) → AllByRecursion Among (as_parts part xs) → HasOrigins xs
+  section part xs there = each-from_map (λ c. list_any (λ a. same_origin a c.0) origins ≡ true) (λ x. (x.0, part x.1)) xs there
+
+  all_there : AllByRecursion Among (in_sections s)
+  all_there = each-weaken (λ c. is_among (ids_in (in_sections s)) c.0 ≡ true) (λ c. list_any (λ a. same_origin a c.0) origins ≡ true) (λ c h. has_origin c.0 h) (in_sections s) (each-among (in_sections s))
+
+  -- section by section
+  sections-there : HasOrigins s.directives × HasOrigins s.names × HasOrigins s.fields × HasOrigins s.values × HasOrigins s.input_fields × HasOrigins s.roots
+  sections-there =
+      let a = each-split Among (as_parts parts.Directive s.directives) _ all_there in
+      let b = each-split Among (as_parts parts.Name s.names) _ a.1 in
+      let c = each-split Among (as_parts parts.Field s.fields) _ b.1 in
+      let d = each-split Among (as_parts parts.EnumValue s.values) _ c.1 in
+      let e = each-split Among (as_parts parts.InputField s.input_fields) _ d.1 in
+      let f = each-split Among (as_parts parts.Root s.roots) _ e.1 in
+      (section parts.Directive s.directives a.0, section parts.Name s.names b.0, section parts.Field s.fields c.0, section parts.EnumValue s.values d.0, section parts.InputField s.input_fields e.0, section parts.Root s.roots f.0)
+
+  pub roots-there : HasOrigins s.roots
+  roots-there = sections-there.5
+
+  pub written-keeps : HasSameComponents s (sections_of p)
+  written-keeps = record {
+    directives = kept (λ d. d.directives.0) s.directives (λ o. ap (λ d. d.directives.0) (of_origin-sections o s)) sections-there.0;
+    names = kept (λ d. d.names) s.names (λ o. ap (λ d. d.names) (of_origin-sections o s)) sections-there.1;
+    fields = kept (λ d. d.fields) s.fields (λ o. ap (λ d. d.fields) (of_origin-sections o s)) sections-there.2;
+    values = kept (λ d. d.values) s.values (λ o. ap (λ d. d.values) (of_origin-sections o s)) sections-there.3;
+    input_fields = kept (λ d. d.input_fields) s.input_fields (λ o. ap (λ d. d.input_fields) (of_origin-sections o s)) sections-there.4;
+    roots = kept (λ d. d.roots) s.roots (λ o. ap (λ d. d.roots) (of_origin-sections o s)) sections-there.5;
+  }
+
+-- what a filter leaves out may be empty
+flat_map-filter : {X Y : Type 0} (f : X → List Y) (p : X → Bool) → ((x : X) → p x ≡ false → f x ≡ []) → (xs : List X) → flat_map f (filter p xs) ≡ flat_map f xs
+flat_map-filter f p out [] = refl
+flat_map-filter f p out (x ∷ xs) = grind (arith, out x, flat_map-filter f p out xs)
+
+pub has_none : {A : Type 0} (xs : List A) → has_some xs ≡ false → xs ≡ []
+has_none [] h = refl
+has_none (x ∷ xs) h = absurd (true≢false h)
+
+-- the directives of parts
+abbrev of_parts : DefinitionParts → List (NodeView Directive)
+of_parts d = d.directives.0
+
+module _ (q : PartsByOrigin) (distinct : IsDistinct same_id (map (λ e. e.0) q.extensions)) where
+  abbrev directives : List (ComponentOrigin × NodeView Directive)
+  directives = joined of_parts (with_origins q)
+
+  abbrev has_directives : ExtensionId × DefinitionParts → Bool
+  has_directives = marked (λ e. marks (of_parts e.1))
+
+  -- extensions with directives come first, in order
+  first-ids : (later : List ExtensionId) → first_of_each same_id (ids_in directives ++ later) ≡ map (λ e. e.0) (filter has_directives q.extensions) ++ filter (new_to_these same_id (ids_in directives)) (first_of_each same_id later)
+  first-ids later =
+      first_of_each-append same_id same_id-equiv (ids_in directives) later
+      ∙ ap (λ l. l ++ filter (new_to_these same_id (ids_in directives)) (first_of_each same_id later))
+      (ap (first_of_each same_id) (shown-joined q of_parts) ∙ first-shown same_id same_id-equiv (λ e. e.0) (λ e. marks (of_parts e.1)) q.extensions distinct)
+
+  of_each : AllByRecursion (λ g. picked (Extension g.0) directives ≡ of_parts g.1) q.extensions
+  of_each = each-weaken (λ g. filter (λ h. same_id g.0 h.0) q.extensions ≡ g ∷ []) (λ g. picked (Extension g.0) directives ≡ of_parts g.1)
+      (λ g alone. of-alone (Extension g.0) of_parts (with_origins q) (Extension g.0, g.1) (extension-alone q g alone)) q.extensions (each-alone q distinct)
+
+  -- those with directives have all of them
+  of_first : flat_map (λ e. picked (Extension e) directives) (map (λ e. e.0) (filter has_directives q.extensions)) ≡ flat_map (λ g. of_parts g.1) q.extensions
+  of_first =
+      flat_map-map (λ e. picked (Extension e) directives) (λ (e : ExtensionId × DefinitionParts). e.0) (filter has_directives q.extensions)
+      ∙ flat_map-each (λ g. (picked (Extension g.0) directives ≡ of_parts g.1) × (has_directives g ≡ true)) (λ g. picked (Extension g.0) directives) (λ g. of_parts g.1) (λ g h. h.0) (filter has_directives q.extensions)
+      (each-filter (λ g. picked (Extension g.0) directives ≡ of_parts g.1) has_directives q.extensions of_each)
+      ∙ flat_map-filter (λ g. of_parts g.1) has_directives (λ g none. has_none (of_parts g.1) none) q.extensions
+
+  -- and the others have none
+  of_later : (later : List ExtensionId) → flat_map (λ e. picked (Extension e) directives) (filter (new_to_these same_id (ids_in directives)) later) ≡ []
+  of_later later = flat_map-nothing (λ e. picked (Extension e) directives) (filter (new_to_these same_id (ids_in directives)) later)
+      (each-weaken (λ e. new_to_these same_id (ids_in directives) e ≡ true) (λ e. picked (Extension e) directives ≡ []) (λ e new. has_none (picked (Extension e) directives) (has_some-picked e directives ∙ not-true (list_any (same_id e) (ids_in directives)) new))
+      (filter (new_to_these same_id (ids_in directives)) later) (passes (new_to_these same_id (ids_in directives)) later))
+
+  all_directives : (later : List ExtensionId) → picked Definition directives ++ flat_map (λ e. picked (Extension e) directives) (first_of_each same_id (ids_in directives ++ later)) ≡ map (λ d. d.1) directives
+  all_directives later =
+      ap (λ l. picked Definition directives ++ flat_map (λ e. picked (Extension e) directives) l) (first-ids later)
+      ∙ (simp (flat_map-append, of_first, of_later (first_of_each same_id later), append-nil, of-alone Definition of_parts (with_origins q) (Definition, q.definition) (definition-alone q), flat_map-map))
+      ∙ sym (joined-values of_parts (with_origins q))
+
+pub directives-in_order : (s : Sections) (q p : PartsByOrigin) → IsDistinct same_id (map (λ e. e.0) q.extensions) → s.directives ≡ (sections_of q).directives
+    → p.definition ≡ of_origin Definition (in_sections s) → map (λ e. e.1) p.extensions ≡ map (λ e. e.1) (of_extensions (in_sections s))
+    → map (λ d. d.1) (sections_of p).directives ≡ map (λ d. d.1) s.directives
+directives-in_order s q p distinct first same_definition same_parts =
+    let later : List ExtensionId = flat_map (λ ids. ids) (ids_in s.names ∷ ids_in s.fields ∷ ids_in s.values ∷ ids_in s.input_fields ∷ ids_in s.roots ∷ []) in
+    written-values s p same_definition same_parts of_parts s.directives (λ o. ap of_parts (of_origin-sections o s))
+    ∙ ap (λ l. picked Definition s.directives ++ flat_map (λ e. picked (Extension e) s.directives) (first_of_each same_id l)) (ids_in-sections s)
+    ∙ ap (λ ds. picked Definition ds ++ flat_map (λ e. picked (Extension e) ds) (first_of_each same_id (ids_in ds ++ later))) first
+    ∙ all_directives q distinct later
+    ∙ ap (map (λ d. d.1)) (sym first)

@@ -1,0 +1,11 @@
+pub mod BuiltAlike
+pub mod Documents
+pub mod Dropped
+pub mod Equal
+pub mod MeaningLaws
+pub mod Rearranged
+pub mod Reported
+pub mod ReportedRows
+pub mod Sections
+pub mod TypeSections
+pub mod WrittenAgain

@@ -1,0 +1,71 @@
+//! Laws of what equal and rearranged lists of definitions are built to, for those who compose schemas or keep registries of them.
+ghost use Rattle.std.specs.Prelude.{◌≡◌, ◌++◌, ℕ, Bool, List};
+ghost use Rattle.std.specs.List.Sorted.{IsPermutation};
+ghost use Rattle.apollo_meaning.specs.Faults.ListFaults.{faults_of};
+ghost use Rattle.apollo_meaning.specs.Items.ListItems.{Added, added_items};
+ghost use Rattle.apollo_schema_laws.specs.Documents.{Documents, added_each, added_joined};
+ghost use Rattle.apollo_schema_laws.specs.Equal.{AreEqualLists};
+ghost use Rattle.apollo_schema_laws.specs.Rearranged.{AreRearranged};
+ghost use Rattle.apollo_schema_laws.specs.BuiltAlike.{BuildEqualSchemas, BuildFaultlessTogether, BuildSameFaults, MeanEqualSchemas, StandFor};
+ghost use Rattle.apollo_schema.specs.BuilderStands.{StandsFor};
+ghost use Rattle.apollo_schema.specs.MeantSchema.{MeansSchema};
+ghost use Rattle.apollo_schema.specs.declared.schema.Schema.{Schema};
+ghost use Rattle.apollo_schema.specs.declared.schema_builder.SchemaBuilder.{SchemaBuilder};
+
+use crate::rearrangement::{
+    completed_lists_are_rearranged, equal_lists_mean_equal_definitions,
+    rearranged_directives_are_the_same, rearranged_faults_are_the_same,
+    rearranged_schema_definitions_are_equal, rearranged_types_are_equal,
+    rearranging_is_an_equivalence,
+};
+use apollo_schema::laws::a_list_means_one_schema;
+
+/// Two lists of the same definitions that keep, for each type name, the order of its definitions and the order of its
+/// extensions, and so for the directive definitions of each name, the schema definitions and the schema extensions, mean
+/// equal schemas, whatever numbers their extensions get; and have the same faults, with their locations, in some order.
+/// So do builders that stand for them and both adopt or both don't, and where one has no fault, none are found of the other.
+/// GraphQL specification of October 2021, section 3.
+pub fn rearranged()
+    ensures schemas { (adopts : Bool) (xs ys : List Added) → AreRearranged (added_items xs) (added_items ys) → MeanEqualSchemas adopts xs ys }
+    ensures faults { (adopts : Bool) (xs ys : List Added) → AreRearranged (added_items xs) (added_items ys) → IsPermutation (faults_of adopts xs) (faults_of adopts ys) }
+    ensures built { (xs ys : List Added) → AreRearranged (added_items xs) (added_items ys) → (b c : SchemaBuilder) → StandFor xs ys b c → BuildEqualSchemas b c }
+    ensures found { (xs ys : List Added) → AreRearranged (added_items xs) (added_items ys) → (b c : SchemaBuilder) → StandFor xs ys b c → BuildSameFaults b c }
+    ensures faultless { (xs ys : List Added) → AreRearranged (added_items xs) (added_items ys) → (b c : SchemaBuilder) → StandFor xs ys b c → BuildFaultlessTogether b c }
+{
+    completed_lists_are_rearranged();
+    rearranged_schema_definitions_are_equal();
+    rearranged_types_are_equal();
+    rearranged_directives_are_the_same();
+    rearranged_faults_are_the_same();
+}
+
+/// Documents that are added one by one, with one setting, mean the schema of one document of all their definitions, and have
+/// its faults in the same order; and a builder to which they were added stands for what that one adds. It is the same schema, with
+/// every location, origin and number, where the extensions of both are numbered from one number, and an equal one where they
+/// aren't.
+pub fn documents_one_by_one()
+    ensures schemas { (adopts ignores : Bool) (xs : List Added) (documents : Documents)
+        → MeanEqualSchemas adopts (xs ++ added_each ignores documents) (xs ++ added_joined ignores documents) }
+    ensures same { (start : ℕ) (adopts ignores : Bool) (xs : List Added) (documents : Documents) (s t : Schema)
+        → MeansSchema start adopts (xs ++ added_each ignores documents) s → MeansSchema start adopts (xs ++ added_joined ignores documents) t
+        → s ≡ record t { sources = s.sources } }
+    ensures faults { (adopts ignores : Bool) (xs : List Added) (documents : Documents)
+        → faults_of adopts (xs ++ added_each ignores documents) ≡ faults_of adopts (xs ++ added_joined ignores documents) }
+    ensures stands { (b : SchemaBuilder) (n : ℕ) (ignores : Bool) (xs : List Added) (documents : Documents)
+        → StandsFor n (xs ++ added_each ignores documents) b → StandsFor n (xs ++ added_joined ignores documents) b }
+{
+    rearranged();
+    rearranging_is_an_equivalence();
+    crate::rearrangement::documents_one_by_one();
+    a_list_means_one_schema();
+}
+
+/// Two lists whose definitions are equal one by one, whatever their locations, and whose directive definitions are marked
+/// built-in alike, mean equal schemas, whatever numbers their extensions get; and builders that stand for them, and both adopt
+/// or both don't, are built to equal schemas. GraphQL specification of October 2021, section 3.
+pub fn equal_lists()
+    ensures schemas { (adopts : Bool) (xs ys : List Added) → AreEqualLists xs ys → MeanEqualSchemas adopts xs ys }
+    ensures built { (xs ys : List Added) → AreEqualLists xs ys → (b c : SchemaBuilder) → StandFor xs ys b c → BuildEqualSchemas b c }
+{
+    equal_lists_mean_equal_definitions();
+}

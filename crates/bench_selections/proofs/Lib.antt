@@ -1,2 +1,0 @@
-pub mod FoldedText
-pub mod OpenLemmas

@@ -1,3 +1,0 @@
-pub mod Nesting
-pub mod OpenSelections
-pub mod Text
