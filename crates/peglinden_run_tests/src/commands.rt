@@ -3,6 +3,7 @@
 use crate::rows::{Row, expect_all};
 use program_io::status::Status;
 
+/// The field that isn't there, and the one that is left without selections.
 const MISSING_FIELD: &str = "error: type `Book` does not have a field `pages`
   --> faulty.graphql:3:5
    |
@@ -10,11 +11,19 @@ const MISSING_FIELD: &str = "error: type `Book` does not have a field `pages`
    |     ^^^^^
    = path: query Page → book → pages
 
-1 fault
+error: `book`: a field of object, interface or union type must have subselections
+  --> faulty.graphql:2:3
+   |
+ 2 |   book {
+   |   ^^^^^^
+   = path: query Page → book
+
+2 faults
 ";
 
 const MISSING_FIELD_JSON: &str =
     "{\"kind\":\"UndefinedField\",\"message\":\"type `Book` does not have a field `pages`\",\"file\":\"faulty.graphql\",\"line\":3,\"column\":5,\"end_line\":3,\"end_column\":10,\"path\":[\"query Page\",\"book\",\"pages\"],\"type_name\":\"Book\",\"field_name\":\"pages\"}
+{\"kind\":\"MissingSubselection\",\"message\":\"`book`: a field of object, interface or union type must have subselections\",\"file\":\"faulty.graphql\",\"line\":2,\"column\":3,\"end_line\":4,\"end_column\":4,\"path\":[\"query Page\",\"book\"],\"response_key\":\"book\",\"parent_type\":\"Query\"}
 ";
 
 const SECOND_BOOK: &str = "error: the type `Book` is defined multiple times in the schema
@@ -134,7 +143,7 @@ static FOUND: [Row; 6] = [
     },
     Row {
         words: &["lookup", "@skip", "parts.graphql"],
-        output: "# built-in\n\"\"\"\nDirects the executor to skip this field or fragment when the `if` argument is true.\n\"\"\"\ndirective @skip(\n  \"\"\"Skipped when true.\"\"\"\n  if: Boolean!\n) on FIELD | FRAGMENT_SPREAD | INLINE_FRAGMENT\n",
+        output: "# built-in\ndirective @skip(if: Boolean!) on FIELD | FRAGMENT_SPREAD | INLINE_FRAGMENT\n",
         errors: "",
         status: Status::Done,
     },

@@ -20,14 +20,14 @@ pub struct Row {
 
 /// The files of the rows: a schema and documents over it, one with a fault, and a schema with one; and texts of every sort.
 pub static FILES: [(&str, &[u8]); 10] = [
-    ("store.graphql", STORE.as_bytes()),
-    ("page.graphql", PAGE.as_bytes()),
-    ("faulty.graphql", FAULTY.as_bytes()),
+    ("store.graphql", STORE),
+    ("page.graphql", PAGE),
+    ("faulty.graphql", FAULTY),
     (
         "twice.graphql",
         b"type Book { title: String }\ntype Book { price: Int }\n",
     ),
-    ("parts.graphql", PARTS.as_bytes()),
+    ("parts.graphql", PARTS),
     ("broken.graphql", b"type Query {\n  book: }\n"),
     ("bytes.graphql", b"type Query { a: Int }\xff"),
     ("empty.graphql", b""),
@@ -35,7 +35,7 @@ pub static FILES: [(&str, &[u8]); 10] = [
     ("lines.graphql", b"type Query {\r\n  a: Int\r\n}\r\n"),
 ];
 
-const STORE: &str = "type Query {
+const STORE: &[u8] = b"type Query {
   book: Book
 }
 
@@ -44,14 +44,14 @@ type Book {
 }
 ";
 
-const PAGE: &str = "query Page {
+const PAGE: &[u8] = b"query Page {
   book {
     title
   }
 }
 ";
 
-const FAULTY: &str = "query Page {
+const FAULTY: &[u8] = b"query Page {
   book {
     pages
   }
@@ -59,7 +59,7 @@ const FAULTY: &str = "query Page {
 ";
 
 /// One of each that a coordinate points to.
-const PARTS: &str = "directive @shown(where: Place) on FIELD
+const PARTS: &[u8] = b"directive @shown(where: Place) on FIELD
 
 type Book {
   \"What it costs.\"
