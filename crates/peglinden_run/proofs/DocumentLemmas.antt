@@ -1,5 +1,5 @@
 -- Documents of files, one file after another.
-use Rattle.std.proofs.Common.{◌≡◌, ◌≢◌, ◌⊎◌, ℕ, ◌+◌, suc, List, [], ◌∷◌, ◌++◌, Option, None, Some, Result, Ok, Err, IfOk, MatchResult, ◌<◌, Bool, cond, count_by, is_some, get_or, take, length, length-take-le, le_of_lt, inl, inr, refl, sym, ap, subst, string_bytes, ◌∙◌, add-zero, append_assoc, arith}
+use Rattle.std.proofs.Common.{◌≡◌, ◌≢◌, ◌⊎◌, ℕ, ◌+◌, suc, List, [], ◌∷◌, ◌++◌, Option, Some, Result, Ok, Err, IfOk, MatchResult, ◌<◌, cond, count_by, is_some, get_or, take, length, length-take-le, le_of_lt, inl, inr, refl, sym, ap, subst, ◌∙◌, add-zero, arith}
 use Rattle.std.specs.Borrow.{Bor}
 use Rattle.std.specs.List.{flat_map}
 use Rattle.std.proofs.lemmas.Grind.{flat_map-append}
@@ -19,7 +19,7 @@ use Rattle.apollo_reporting.specs.TextErrors.{parse_error_about}
 use Rattle.program_io.specs.Files.{CannotBeRead, IsFileCause}
 use Rattle.program_io.specs.declared.file_error.FileError.{FileError}
 use Rattle.program_io.specs.declared.file_error.FileError.TheVariants as errors
-use Rattle.peglinden_run.specs.Documents.{AreDocumentsAt, IsDocumentAt, IsDocumentOf, IsNoDocument, alone, file, most_open, most_tokens, texts_of}
+use Rattle.peglinden_run.specs.Documents.{AreDocumentsAt, IsDocumentAt, IsDocumentOf, IsNoDocument, most_open, most_tokens, texts_of}
 use Rattle.peglinden_run.specs.RefusedFiles.{AreReported, IsErrorOf, IsRefusedFile, IsRefusedText, IsReported, if_reported}
 use Rattle.peglinden_run.specs.Reports.{IsReport}
 

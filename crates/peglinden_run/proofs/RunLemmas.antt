@@ -1,17 +1,20 @@
 -- How a run ends with an answer and without one, and over standard input.
-use Rattle.std.proofs.Common.{◌≡◌, ℕ, List, Option, Result, Ok, Err, IfOk, IfErr, MatchResult, inl, inr, refl, subst}
+use Rattle.std.proofs.Common.{◌≡◌, ℕ, true, List, Option, None, Result, Ok, Err, IfOk, IfErr, MatchResult, inl, inr, refl, subst}
+use Rattle.clap.specs.Walk.{Text}
 use Rattle.program_io.specs.Files.{IsReadCause, IsRefusal, may_fail_with_input, with_input}
 use Rattle.program_io.specs.Writing.{IsBegun}
 use Rattle.program_io.specs.declared.file_error.FileError.{FileError}
 use Rattle.program_io.specs.declared.file_error.FileError.TheVariants as errors
 use Rattle.program_io.specs.declared.status.Status.{Status}
 use Rattle.program_io.specs.declared.status.Status.TheVariants as s
+use Rattle.peglinden_words.specs.Refusals.{call_for_help}
+use Rattle.peglinden_words.specs.Requests.{asked}
 use Rattle.peglinden_words.specs.declared.request.Request.{Request}
 use Rattle.peglinden_run.specs.declared.answer.Answer.{Answer}
 use Rattle.peglinden_run.specs.declared.failure.Failure.{Failure}
 use Rattle.peglinden_run.specs.declared.failure.Failure.TheVariants as failures
 use Rattle.peglinden_run.specs.Requests.{IsAnswerTo, IsCauseTo}
-use Rattle.peglinden_run.specs.Runs.{IsUnanswered, IsWritten, MayEnd, MayEndWithInput}
+use Rattle.peglinden_run.specs.Runs.{IsTextWritten, IsUnanswered, IsUnasked, IsWritten, MayEnd, MayEndWithInput}
 use Rattle.peglinden_run.specs.Status.{message_of, status_of}
 
 module _ (request : Request) (held : List ℕ → List ℕ → Type 0) (may_fail : List ℕ → Type 0) (old new old_errors new_errors : Option (List ℕ)) where
@@ -57,3 +60,11 @@ is_not_done failures.ExtensionIds done = cc
 -- reading bytes doesn't refuse them as no text
 pub no_text_refusal : {B : Type 0} (input_may_fail : Type 0) (input : Result B FileError) → IfErr input (IsReadCause input_may_fail) → ◌≡◌ {A = Result B FileError} input (Err errors.NotText) → ⊥
 no_text_refusal input_may_fail input causes is = subst (λ (r : Result _ FileError). IfErr r (IsReadCause input_may_fail)) is causes
+
+-- where words call for help, a run ends as writing a text went
+pub help_written : (words : List Text) (old new : Option (List ℕ)) (text : List ℕ) (status : Status) → (asked words ≡ None) × (call_for_help words ≡ true) → IsTextWritten text old new status → IsUnasked words old new status
+help_written words old new text s.Done called written = (called.0, called.1, (text, written))
+help_written words old new text s.Faults called written = absurd written
+help_written words old new text s.Refused called written = absurd written
+help_written words old new text s.Exhausted called written = absurd written
+help_written words old new text s.NotWritten called written = (called.0, called.1, (text, written))

@@ -1,4 +1,4 @@
-use Rattle.std.proofs.Common.{◌≡◌, ◌++◌, ◌∷◌, [], ◌∙◌, List, ℕ, ◌+◌, None, Some, string_bytes, take, sym, ap, subst, arith}
+use Rattle.std.proofs.Common.{◌≡◌, ◌++◌, ◌∷◌, [], ◌∙◌, ◌+◌, None, Some, string_bytes, take, sym, ap, subst, arith}
 use Rattle.std.proofs.lemmas.List.{append-nil}
 use Rattle.peglinden_run.specs.Documents.{AreDocumentsAt, texts_of}
 use Rattle.peglinden_run.proofs.DocumentLemmas.{matched-err, matched-ok, next-document, next-reported}
