@@ -1,0 +1,183 @@
+"""What the work on an input takes, by the built programs, and by others that do the same work, where they are there."""
+import json
+import os
+import pathlib
+import re
+import shutil
+import subprocess
+import sys
+from typing import NamedTuple
+
+from peg import TOP, Usage, programs
+from peg.notation import as_graphql, in_order, without_empty
+
+HERE = pathlib.Path(__file__).parent
+# `rustgql`, the Rust crate's own code as a program over the notation, where its script builds it.
+CRATE = pathlib.Path(os.environ.get("RUSTGQL", pathlib.Path.home() / "gql-baseline/target/release/rustgql"))
+# The phases of reports over the notation, by the phases here.
+OF_NOTATION = {"schema-build": "build", "to_ast": "write out", "doc-build": "type"}
+
+
+class Failed(Exception):
+    """Why something isn't measured."""
+
+
+class Input(NamedTuple):
+    """A name, and the paths of its files: the GraphQL text of a schema, that of documents over it, and both in the notation.
+    What an input lacks is None."""
+
+    name: str
+    schema: pathlib.Path | None
+    documents: pathlib.Path | None
+    notation: pathlib.Path | None
+    options: tuple[str, ...] = ()
+
+    @property
+    def text(self):
+        """The text that is read and written."""
+        return self.documents or self.schema
+
+
+def made(folder, shape, count):
+    """The input that tools/shapes makes."""
+    ended = subprocess.run([TOP / "tools/shapes", shape, count], capture_output=True, text=True)
+    if ended.returncode != 0:
+        raise Usage(ended.stderr.strip())
+    notation = folder / f"{shape}-{count}.txt"
+    notation.write_text(ended.stdout)
+    lines = without_empty(in_order(ended.stdout.splitlines()))
+    end = lines.index("===") if "===" in lines else len(lines)
+    texts = {"schema": as_graphql(lines[:end]), "documents": as_graphql(lines[end + 1 :])}
+    paths = {part: folder / f"{shape}-{count}.{part}.graphql" if text.strip() else None for part, text in texts.items()}
+    for part, path in paths.items():
+        if path:
+            path.write_text(texts[part])
+    return Input(f"{shape} {int(count):,}", **paths, notation=notation, options=("--adopt",) if shape == "orphan" else ())
+
+
+def inputs(words, folder):
+    """The inputs that the words name: SHAPE:N, or the path of a GraphQL schema."""
+    for word in words:
+        if shape := re.fullmatch(r"(\w+):(\d+)", word):
+            yield made(folder, *shape.groups())
+        elif os.path.isfile(word):
+            yield Input(pathlib.Path(word).name, pathlib.Path(word), None, None)
+        else:
+            raise Usage(f"{word}: neither a shape and a number nor a file")
+
+
+def run(program, words, text=b""):
+    """A run that ends with status 0, or with faults alone."""
+    ended = programs.run(program, [os.fsencode(word) for word in words], text)
+    if ended.status not in (0, 1):
+        raise Failed(ended.errors.decode(errors="replace").strip().split("\n")[0] or f"status {ended.status}")
+    return ended
+
+
+def whole(program, words):
+    """The seconds of the processor of a whole run, and the mebibytes that it has at its highest."""
+    ended = run(program, words)
+    if ended.status == 1 and not ended.output:
+        raise Failed(ended.errors.decode(errors="replace").strip().split("\n")[0])
+    return {"whole": ended.seconds, "memory": ended.memory}
+
+
+def bench(words, text, seconds):
+    """What the phases of `gqlbench` take: the difference of a run that repeats them for so many seconds and of a short one,
+    divided as the clock divides it."""
+
+    def report(repeat):
+        ended = run(programs.path("gqlbench"), [words[0], "--json", *words[1:], str(repeat)], text)
+        return ended.seconds, [json.loads(line) for line in ended.output.splitlines()]
+
+    once, _ = report(1)
+    repeat = int(seconds / max(once / 2, 1e-5)) + 1
+    many, (_, *lines) = report(1 + repeat)
+    means = {line["phase"]: line["mean"] for line in lines if "phase" in line}
+    return {phase: (many - once) / repeat * mean / sum(means.values()) for phase, mean in means.items()}
+
+
+def own(given, seconds):
+    """What `gqlbench` and `peglinden` take. Freeing counts as reading."""
+    if missing := programs.unbuilt("gqlbench", "peglinden"):
+        raise Failed(missing)
+    text = bench(["text"], given.text.read_bytes(), seconds)
+    phases = {"read": text["parse"] + text["drop"], "write": text["print"]}
+    if given.notation:
+        command = "doc" if given.documents else "schema"
+        times = bench([command, *given.options], given.notation.read_bytes(), seconds)
+        phases |= {phase: times[theirs] for theirs, phase in OF_NOTATION.items() if theirs in times}
+    words = ["typed", "--schema", given.schema, given.documents] if given.documents else ["schema", *given.options, given.schema]
+    return phases | whole(programs.path("peglinden"), words)
+
+
+def crate(given, _):
+    """What the Rust crate's own code takes over the notation, which it reads by a reader of its own."""
+    if not os.access(CRATE, os.X_OK):
+        raise Failed("`rustgql` isn't there")
+    if not given.notation:
+        raise Failed("it reads the notation alone")
+    command = "doc" if given.documents else "schema"
+    ended = run(CRATE, ["bench", command, given.notation, "9", *given.options])
+    found = re.findall(r"^(\S+) +min +(\d+)", ended.output.decode(), re.MULTILINE)
+    phases = {OF_NOTATION[phase]: int(least) / 1e9 for phase, least in found if phase in OF_NOTATION}
+    ended = run(CRATE, [command, *given.options], given.notation.read_bytes())
+    return phases | {"whole": ended.seconds, "memory": ended.memory}
+
+
+def script(*command):
+    """What a script beside this file takes, which measures itself; as a whole run it is started once for that."""
+
+    def measured(given, seconds):
+        if not shutil.which(command[0]):
+            raise Failed(f"`{command[0]}` isn't there")
+        program, words = shutil.which(command[0]), [*command[1:], given.text]
+        phases = json.loads(run(program, [*words, str(seconds)]).output)
+        if given.documents:
+            return {phase: phases[phase] for phase in ("read", "write")}
+        # What refuses the schema builds none.
+        return phases | (whole(program, [*words, "0", "whole"]) if "build" in phases else {})
+
+    return measured
+
+
+def go(folder):
+    """gqlparser, by a program that Go makes first."""
+    settings = {**os.environ, "GO111MODULE": "off", "GOPATH": "/usr/share/gocode"}
+    program = folder / "gqlparser"
+    if not shutil.which("go"):
+        return script("go")
+    made = subprocess.run(["go", "build", "-o", program, HERE / "peer_times.go"], env=settings, stderr=subprocess.PIPE, text=True)
+    return script(str(program)) if made.returncode == 0 else script(f"go build: {made.stderr.strip()}")
+
+
+def peers(folder):
+    return {
+        "ours": own,
+        "crate": crate,
+        "graphql-js": script("node", HERE / "peer_times.js"),
+        "gqlparser": go(folder),
+        "graphql-core": script(sys.executable, HERE / "peer_times.py"),
+    }
+
+
+def least(runs):
+    """The least of each phase, and the most memory."""
+    phases = {phase for each in runs for phase in each}
+    return {phase: (max if phase == "memory" else min)(it[phase] for it in runs if phase in it) for phase in sorted(phases)}
+
+
+def measure(words, folder, count, seconds):
+    """What each input takes by each peer, as it is measured: an object for each input."""
+    its_peers = peers(folder)
+    for given in inputs(words, folder):
+        runs, lacks = {peer: [] for peer in its_peers}, {}
+        for _ in range(count):
+            for peer, measured in its_peers.items():
+                if peer not in lacks:
+                    try:
+                        runs[peer].append(measured(given, seconds))
+                    except Failed as why:
+                        lacks[peer] = str(why)
+        sizes = [path.stat().st_size for path in (given.schema, given.documents) if path]
+        yield {"input": given.name, "bytes": sum(sizes), "times": {peer: least(its) for peer, its in runs.items() if its}, "lacks": lacks}
