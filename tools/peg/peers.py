@@ -1,4 +1,4 @@
-"""What the work on an input takes, by the built programs, and by others that do the same work, where they are there."""
+"""What the work on an input takes, by the built programs, and by others that do the same work, where they are."""
 import json
 import os
 import pathlib
@@ -23,8 +23,8 @@ class Failed(Exception):
 
 
 class Input(NamedTuple):
-    """A name, and the paths of its files: the GraphQL text of a schema, that of documents over it, and both in the notation.
-    What an input lacks is None."""
+    """A name, and the paths of its files: the GraphQL text of a schema, that of documents over it, and both in the
+    notation. What an input lacks is None."""
 
     name: str
     schema: pathlib.Path | None
@@ -38,21 +38,34 @@ class Input(NamedTuple):
         return self.documents or self.schema
 
 
-def made(folder, shape, count):
-    """The input that tools/shapes makes."""
-    ended = subprocess.run([TOP / "tools/shapes", shape, count], capture_output=True, text=True)
+def shaped(*words):
+    """What tools/shapes writes."""
+    ended = subprocess.run([TOP / "tools/shapes", *words], capture_output=True, text=True)
     if ended.returncode != 0:
         raise Usage(ended.stderr.strip())
-    notation = folder / f"{shape}-{count}.txt"
-    notation.write_text(ended.stdout)
-    lines = without_empty(in_order(ended.stdout.splitlines()))
+    return ended.stdout
+
+
+def kept(path, text):
+    """The path of a file with this text, if there is any."""
+    if not text.strip():
+        return None
+    path.write_text(text)
+    return path
+
+
+def made(folder, shape, count):
+    """The input of a shape. What has descriptions can't be said in the notation."""
+    name, path = f"{shape} {int(count):,}", folder / f"{shape}-{count}"
+    if shape == "described":
+        return Input(name, kept(path.with_suffix(".graphql"), shaped("--graphql", shape, count)), None, None)
+    notation = shaped(shape, count)
+    lines = without_empty(in_order(notation.splitlines()))
     end = lines.index("===") if "===" in lines else len(lines)
     texts = {"schema": as_graphql(lines[:end]), "documents": as_graphql(lines[end + 1 :])}
-    paths = {part: folder / f"{shape}-{count}.{part}.graphql" if text.strip() else None for part, text in texts.items()}
-    for part, path in paths.items():
-        if path:
-            path.write_text(texts[part])
-    return Input(f"{shape} {int(count):,}", **paths, notation=notation, options=("--adopt",) if shape == "orphan" else ())
+    paths = {part: kept(path.with_suffix(f".{part}.graphql"), text) for part, text in texts.items()}
+    options = ("--adopt",) if shape == "orphan" else ()
+    return Input(name, **paths, notation=kept(path.with_suffix(".txt"), notation), options=options)
 
 
 def inputs(words, folder):
@@ -83,8 +96,8 @@ def whole(program, words):
 
 
 def bench(words, text, seconds):
-    """What the phases of `gqlbench` take: the difference of a run that repeats them for so many seconds and of a short one,
-    divided as the clock divides it."""
+    """What the phases of `gqlbench` take: the difference of a run that repeats them for so many seconds and of a short
+    one, divided as the clock divides it."""
 
     def report(repeat):
         ended = run(programs.path("gqlbench"), [words[0], "--json", *words[1:], str(repeat)], text)
@@ -107,7 +120,8 @@ def own(given, seconds):
         command = "doc" if given.documents else "schema"
         times = bench([command, *given.options], given.notation.read_bytes(), seconds)
         phases |= {phase: times[theirs] for theirs, phase in OF_NOTATION.items() if theirs in times}
-    words = ["typed", "--schema", given.schema, given.documents] if given.documents else ["schema", *given.options, given.schema]
+    typed = ["typed", "--schema", given.schema, given.documents]
+    words = typed if given.documents else ["schema", *given.options, given.schema]
     return phases | whole(programs.path("peglinden"), words)
 
 
@@ -147,8 +161,9 @@ def go(folder):
     program = folder / "gqlparser"
     if not shutil.which("go"):
         return script("go")
-    made = subprocess.run(["go", "build", "-o", program, HERE / "peer_times.go"], env=settings, stderr=subprocess.PIPE, text=True)
-    return script(str(program)) if made.returncode == 0 else script(f"go build: {made.stderr.strip()}")
+    words = ["go", "build", "-o", program, HERE / "peer_times.go"]
+    built = subprocess.run(words, env=settings, stderr=subprocess.PIPE, text=True)
+    return script(str(program) if built.returncode == 0 else f"go build: {built.stderr.strip()}")
 
 
 def peers(folder):
@@ -180,4 +195,5 @@ def measure(words, folder, count, seconds):
                     except Failed as why:
                         lacks[peer] = str(why)
         sizes = [path.stat().st_size for path in (given.schema, given.documents) if path]
-        yield {"input": given.name, "bytes": sum(sizes), "times": {peer: least(its) for peer, its in runs.items() if its}, "lacks": lacks}
+        times = {peer: least(its) for peer, its in runs.items() if its}
+        yield {"input": given.name, "bytes": sum(sizes), "times": times, "lacks": lacks}
