@@ -1,3 +1,4 @@
+pub mod FoldedLemmas
 pub mod FoldingLemmas
 pub mod LongerLemmas
 pub mod MomentLemmas

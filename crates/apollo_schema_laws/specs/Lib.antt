@@ -2,7 +2,6 @@ pub mod BuiltAlike
 pub mod Documents
 pub mod Dropped
 pub mod Equal
-pub mod MeaningLaws
 pub mod Rearranged
 pub mod Reported
 pub mod ReportedRows

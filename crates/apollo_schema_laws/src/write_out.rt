@@ -18,31 +18,11 @@ ghost use Rattle.apollo_schema.specs.SchemaWriteOut.{write_schema};
 ghost use Rattle.apollo_schema.specs.declared.schema.Schema.{Schema};
 ghost use Rattle.graphql_ast.specs.BareDocuments.{bare_definition};
 ghost use Rattle.graphql_ast.specs.declared.definition.Definition.{Definition};
-ghost use Rattle.apollo_schema_laws.specs.MeaningLaws.{MeaningLaws};
 ghost use Rattle.apollo_schema_laws.specs.Sections.{Sections, section_directives, HasDefinitionOf, HasDistinctIdentities, HasExtensionsOf, HasSameComponents, in_sections, sections_of};
 ghost use Rattle.apollo_schema_laws.specs.TypeSections.{HasWhatIsWritten, HasEachNameOnce, type_sections};
 ghost use Rattle.apollo_schema_laws.specs.WrittenAgain.{IsMeantByList, IsWriteOutOf, written_again};
 
 use crate::rearranged_builds::equal_lists;
-use apollo_meaning::laws::{
-    each_extension_is_met_once, faults_item_by_item, folded_extensions, folded_schema_extensions,
-    joined_lists_define_first_in_front, later_roots_are_at_fault,
-    type_names_are_the_first_of_each_text, types_are_headed_by_their_definitions,
-};
-
-/// What the laws of the write-out take from the laws of lists of definitions.
-fn laws_of_lists()
-    ensures { MeaningLaws }
-{
-    types_are_headed_by_their_definitions();
-    type_names_are_the_first_of_each_text();
-    joined_lists_define_first_in_front();
-    folded_extensions();
-    folded_schema_extensions();
-    each_extension_is_met_once();
-    faults_item_by_item();
-    later_roots_are_at_fault();
-}
 
 /// What is written out stays as it is when it is read and written out again: the components of any sections, put under
 /// their origins, make the parts of a definition and of its extensions. Whatever distinct identities these extensions
@@ -106,9 +86,7 @@ pub fn canonical()
     ensures written { (schema rebuilt : Schema) → IsMeantByList schema → (ignores : Bool) (again : ℕ) → MeansSchema again true (written_again ignores schema) rebuilt
         → write_schema rebuilt ≡ write_schema schema }
     ensures means { (schema : Schema) → IsMeantByList schema → (ignores : Bool) (again : ℕ) → ∥ ((rebuilt : Schema) × MeansSchema again true (written_again ignores schema) rebuilt) ∥₁ }
-{
-    laws_of_lists();
-}
+{}
 
 /// To write out twice is to write out once: what the write-out of a schema of a list as [`canonical`] takes it is written out
 /// as, read with adoption after the built-in definitions, is that write-out. GraphQL specification of October 2021, sections 3
@@ -126,7 +104,6 @@ pub fn equal_write_outs_have_equal_schemas()
     ensures { (schema other : Schema) → IsMeantByList schema → IsMeantByList other → map bare_definition (write_schema schema) ≡ map bare_definition (write_schema other)
         → AreEqualSchemas schema other }
 {
-    laws_of_lists();
     equal_lists();
 }
 
@@ -140,9 +117,7 @@ pub fn a_write_out_folds_no_more()
         → folds true (written_again ignores schema) ≤ folds adopts xs }
     ensures spends { (start again : ℕ) (adopts ignores : Bool) (xs : List Added) (schema : Schema) → MeansSchema start adopts xs schema
         → SpendsIds again true (written_again ignores schema) → SpendsIds again adopts xs }
-{
-    laws_of_lists();
-}
+{}
 
 /// A write-out may fold fewer extensions than its list: the worked list with faults folds two, whose components are all dropped,
 /// and the type that it means is written out as a definition alone, computed. GraphQL specification of October 2021, section

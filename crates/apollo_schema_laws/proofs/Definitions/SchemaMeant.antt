@@ -4,13 +4,14 @@ use Rattle.apollo_schema_laws.proofs.Words.Syntax.{NodeView, OperationType}
 use Rattle.apollo_schema_laws.proofs.Words.Types.{has_own_root, root_of, SchemaDefinition, ComponentName}
 use Rattle.apollo_schema_laws.proofs.Words.Meaning.{adopted, with_adopted, implicit_roots, implied_schema, schema_for, schema_of_roots, ListItem, SchemaDefined, added_items, defined_schema, extended_schema, first_schema}
 use Rattle.apollo_schema_laws.proofs.Words.Meaning.{schema_extensions, Root, SchemaPart, roots_in, folding_order, SourcedSchema, no_schema, roots_of, schema_extension_source, schema_from, schema_of, schema_parts, whole, Schema}
-use Rattle.apollo_schema_laws.proofs.Words.Written.{MeaningLaws, IsMeantByList, with_built_ins}
+use Rattle.apollo_schema_laws.proofs.Words.Written.{IsMeantByList, with_built_ins}
 use Rattle.apollo_component.specs.declared.extension.ComponentOrigin.TheVariants as origins
 use Rattle.apollo_schema_laws.proofs.Lists.{both-empty, map-empty}
 use Rattle.apollo_schema_laws.proofs.Items.{adopted-unchosen, no-schema_definitions, adopted-split, items, rooted}
 use Rattle.apollo_schema_laws.proofs.Types.{rising-distinct, schema_numbers, schema_numbers-rise, IsMadeBy}
 use Rattle.apollo_schema_laws.proofs.Definitions.OneSchema.{made_schema, root-made, written_parts_of}
 use Rattle.apollo_schema_laws.proofs.Definitions.SchemaSaid.{all-none, no-directives, own-root, operations-named}
+use Rattle.apollo_meaning.proofs.Order.FoldedLemmas.{folded-of_schema}
 
 -- it names a root
 abbrev pub NamesRoot : SchemaPart → Type 0
@@ -24,10 +25,10 @@ first_schema-append xs ys = ap (λ l. slice_get l 0) (filter_map-append defined_
     by (s ∷ l) = refl
 
 -- the extensions that are folded are all, where there is a definition
-pub schema_numbers-parts : MeaningLaws → (start : ℕ) (xs : List ListItem) (s : SchemaPart) → first_schema xs ≡ Some s → map (λ e. e.1) (schema_numbers start (folding_order xs)) ≡ schema_extensions xs
-schema_numbers-parts laws start xs s h =
+pub schema_numbers-parts : (start : ℕ) (xs : List ListItem) (s : SchemaPart) → first_schema xs ≡ Some s → map (λ e. e.1) (schema_numbers start (folding_order xs)) ≡ schema_extensions xs
+schema_numbers-parts start xs s h =
     sym (map-map (λ (e : SourcedSchema). e.1) schema_extension_source (schema_numbers start (folding_order xs)))
-    ∙ laws.schema_folded start xs s h
+    ∙ folded-of_schema start xs s h
 
 -- a schema definition that isn't written in a list has nothing of its own but implied roots, if the list implies these
 pub record IsMeantSchema (d : SchemaDefinition) (implied : List Root) : Type 0 where
@@ -83,7 +84,7 @@ none-named head es none =
     nothing : flat_map roots_of (map schema_extension_source es) ≡ []
     nothing = (both-empty (roots_of (origins.Definition, head)) (flat_map roots_of (map schema_extension_source es)) (all-none (flat_map roots_of ((origins.Definition, head) ∷ map schema_extension_source es)) (λ op. sym (root-made head es op) ∙ none op))).1
 
-module _ (laws : MeaningLaws) (schema : Schema) (list : IsMeantByList schema) where
+module _ (schema : Schema) (list : IsMeantByList schema) where
   open list use {start, adopts, more}
 
   -- the list with adopted types, and with the implied definition of the schema
@@ -138,7 +139,7 @@ module _ (laws : MeaningLaws) (schema : Schema) (list : IsMeantByList schema) wh
           let here : first_schema xs ≡ Some (schema_of_roots []) = completed-first (schema_of_roots []) none is in
           is_meant (schema_of_roots []) here
           (meant-of_roots [] (schema_numbers start (folding_order xs)) (implicit_roots W) apart
-          (λ own nothing. absurd (let g : r ∷ rs ≡ [] = sym named_is ∙ ap roots_in (sym (extensions-kept (schema_of_roots []) is) ∙ sym (schema_numbers-parts laws start xs (schema_of_roots []) here)) ∙ none-named (schema_of_roots []) (schema_numbers start (folding_order xs)) nothing in cc)))
+          (λ own nothing. absurd (let g : r ∷ rs ≡ [] = sym named_is ∙ ap roots_in (sym (extensions-kept (schema_of_roots []) is) ∙ sym (schema_numbers-parts start xs (schema_of_roots []) here)) ∙ none-named (schema_of_roots []) (schema_numbers start (folding_order xs)) nothing in cc)))
       implied none false named [] named_is implicit_is is =
           let nothing : first_schema xs ≡ None = first_schema-append W (implied_schema adopts W) ∙ (λ i. option_or (none i) (first_schema (is i))) in
           subst (λ n. IsMeantSchema n.value (implicit_roots W)) (sym (node-none start xs nothing)) (meant-of_roots [] [] (implicit_roots W) no-numbers (λ own nothing. implicit_is))

@@ -5,10 +5,10 @@ use Rattle.apollo_schema_laws.proofs.Words.Syntax.{NameView, same, same_text, by
 use Rattle.apollo_schema_laws.proofs.Words.Types.{first_of_each, name_laws, found-any, given-by_keys}
 use Rattle.apollo_schema_laws.proofs.Words.Meaning.{ListItem, defined_part, named, first, TypePart, key_of, type_names, directive_definitions, directive_part, Defined, Extended, SchemaDefined, SchemaExtended, Other, defined_schema, extended_part, extended_schema, extensions_of, first_schema, schema_extensions, NoSubject, Subject, TheSchema, TypeNamed, first-is, found_at-agree, in-subject, same_subject, subject, subject_laws}
 use Rattle.apollo_schema_laws.proofs.Words.Faults.{found_at, found}
-use Rattle.apollo_schema_laws.proofs.Words.Written.{MeaningLaws}
 use Rattle.std.proofs.lemmas.Map.Views.{lookup-from_Contains}
 use Rattle.apollo_schema_laws.specs.Rearranged.{is_in}
 use Rattle.apollo_schema_laws.proofs.Lists.{each-found}
+use Rattle.apollo_meaning.proofs.Types.NameLemmas.{type_names-first}
 
 module _ {V : Type 0} where
   -- after an entry nothing stands under its key
@@ -38,9 +38,9 @@ find-defined : (k : NameView) (ps : List TypePart) → find (same_text k) (map (
 find-defined k ps = find-made (same_text k) (λ (p : TypePart). p.name) ps ∙ sym (ap (option_map (λ (d : TypePart). d.name)) (lookup-named k.text ps))
 
 -- each name is that of its text's first definition
-pub names-of_first : MeaningLaws → (xs : List ListItem) → AllByRecursion (λ k. option_map (λ d. d.name) (first xs k.text) ≡ Some k) (type_names xs)
-names-of_first laws xs =
-    subst (AllByRecursion (λ k. option_map (λ d. d.name) (first xs k.text) ≡ Some k)) (sym (laws.names xs))
+pub names-of_first : (xs : List ListItem) → AllByRecursion (λ k. option_map (λ d. d.name) (first xs k.text) ≡ Some k) (type_names xs)
+names-of_first xs =
+    subst (AllByRecursion (λ k. option_map (λ d. d.name) (first xs k.text) ≡ Some k)) (sym (type_names-first xs))
     (each-weaken (λ k. find (same_text k) (defined_names xs) ≡ Some k) (λ k. option_map (λ d. d.name) (first xs k.text) ≡ Some k) (λ k h. sym (find-defined k (filter_map defined_part xs)) ∙ h)
     (first_of_each same_text (defined_names xs)) (each-found same_text name_laws (defined_names xs)))
 

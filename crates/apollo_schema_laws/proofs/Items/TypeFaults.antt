@@ -1,12 +1,13 @@
 -- What a type is written out as is without fault: its components differ, and its extensions have its name and kind.
 use Rattle.apollo_schema_laws.proofs.Words.Lists.{◌≡◌, Bool, true, false, cond, ◌||◌, List, [], ◌∷◌, ◌++◌, Some, map, map-id, filter, flat_map, refl, sym, ap, subst, ◌∙◌, append_assoc, append-nil, map-append, flat_map-append, IsEquivalence, AllByRecursion, IsDistinct, list_any, option_map_or, each-weaken, filter_map-made, map-map, find-none, filter-all}
-use Rattle.apollo_schema_laws.proofs.Words.Syntax.{NameView, same, same_text, TypeKind, same-is}
+use Rattle.apollo_schema_laws.proofs.Words.Syntax.{NameView, same, same_text, same-is}
 use Rattle.apollo_schema_laws.proofs.Words.Types.{each_after, name_laws}
 use Rattle.apollo_schema_laws.proofs.Words.Meaning.{Defined, Extended, extended_part, extensions_of, first, of_kind, TypePart, TypeBody, ScalarBody, ObjectBody, InterfaceBody, UnionBody, EnumBody, InputObjectBody, key_of, kind_of, same_kind, body_interfaces, body_members, body_fields, body_values, body_input_fields}
 use Rattle.apollo_schema_laws.proofs.Words.Faults.{Entry, collision, collision_at, collisions, interface_names, member_names, field_names, value_names, input_field_names, name_entries, body_faults, part_faults, joining_fault, kind_mismatch, found_at}
 use Rattle.apollo_meaning.specs.declared.collision.Collection.{Collection}
 use Rattle.apollo_meaning.specs.declared.collision.Collection.TheVariants as c
 use Rattle.apollo_schema_laws.proofs.Lists.{each-split}
+use Rattle.apollo_meaning.proofs.Order.FoldingLemmas.{same_kind-refl}
 
 -- an element of a list of which no two are the same is the same as none before it
 pub new-after : {X : Type 0} (same : X → X → Bool) → IsEquivalence same → (xs : List X) (y : X) (ys : List X) → IsDistinct same (xs ++ y ∷ ys) → list_any (same y) xs ≡ false
@@ -99,10 +100,9 @@ parts-none ps p rest h =
 abbrev pub Fits : TypePart → TypePart → Type 0
 Fits d e = (key_of e ≡ key_of d) × (kind_of e ≡ kind_of d)
 
--- where each kind is itself
-module _ (own_kind : (k : TypeKind) → same_kind k k ≡ true) (d : TypePart) where
+module _ (d : TypePart) where
   pub fits-of_kind : (es : List TypePart) → AllByRecursion (Fits d) es → of_kind (kind_of d) es ≡ es
-  fits-of_kind es a = filter-all (λ e. same_kind (kind_of d) (kind_of e)) es (each-weaken (Fits d) (λ e. same_kind (kind_of d) (kind_of e) ≡ true) (λ e f. ap (same_kind (kind_of d)) f.1 ∙ own_kind (kind_of d)) es a)
+  fits-of_kind es a = filter-all (λ e. same_kind (kind_of d) (kind_of e)) es (each-weaken (Fits d) (λ e. same_kind (kind_of d) (kind_of e) ≡ true) (λ e f. ap (same_kind (kind_of d)) f.1 ∙ same_kind-refl (kind_of d)) es a)
 
   -- those before one are the definition and the extensions before it
   extensions-found : (done : List TypePart) → AllByRecursion (Fits d) done → (e : TypePart) → Fits d e → extensions_of (Defined d ∷ map Extended done) (key_of e) ≡ done
@@ -120,7 +120,7 @@ module _ (own_kind : (k : TypeKind) → same_kind k k ≡ true) (d : TypePart) w
       ap (λ b. option_map_or (λ x. joining_fault x (x ∷ of_kind (kind_of x) (extensions_of (Defined d ∷ map Extended done) (key_of e))) e) (cond b (Some d) (first (map Extended done) (key_of e))) []) (same-is (key_of e) (key_of d) f.0)
       ∙ ap (λ l. joining_fault d (d ∷ of_kind (kind_of d) l) e) (extensions-found done fit.0 e f)
       ∙ ap (λ l. joining_fault d (d ∷ l) e) (fits-of_kind done fit.0)
-      ∙ ap (λ b. cond b (part_faults (d ∷ done) e) (kind_mismatch d e ∷ [])) (ap (same_kind (kind_of d)) f.1 ∙ own_kind (kind_of d))
+      ∙ ap (λ b. cond b (part_faults (d ∷ done) e) (kind_mismatch d e ∷ [])) (ap (same_kind (kind_of d)) f.1 ∙ same_kind-refl (kind_of d))
       ∙ parts-none (d ∷ done) e rest both.1
 
   -- a definition and the extensions after it

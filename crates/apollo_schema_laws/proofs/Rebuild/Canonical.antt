@@ -4,7 +4,7 @@ use Rattle.apollo_schema_laws.proofs.Words.Syntax.{is_built_in, NodeView, by_tex
 use Rattle.apollo_schema_laws.proofs.Words.Types.{name_laws, entries_from_lookups, bare_schema_definition, write_schema_definition, ExtendedType, SchemaDefinition}
 use Rattle.apollo_schema_laws.proofs.Words.Meaning.{completed, implied_schema, directive_definitions, directive_part, is_handed_in, directive_names, directive_of, ListItem, added, added_items, folding_order, whole, AreOf, MeansSchema, write_directives, write_held_schema_definition, write_held_type, write_schema, Schema, first, parts, type_from, type_of}
 use Rattle.apollo_schema_laws.proofs.Words.Faults.{faults_in, faults_of}
-use Rattle.apollo_schema_laws.proofs.Words.Written.{MeaningLaws, IsMeantByList, with_built_ins, written_again}
+use Rattle.apollo_schema_laws.proofs.Words.Written.{IsMeantByList, with_built_ins, written_again}
 use Rattle.apollo_schema.specs.EqualSchemas.{AreEqualSchemas}
 use Rattle.apollo_schema_laws.proofs.Items.{built_ins, items-split, first-about}
 use Rattle.apollo_schema_laws.proofs.Types.{document_items-append, items-types, IsAgain}
@@ -20,17 +20,17 @@ pub items-listed : (c : Bool) (schema : Schema)
     → added_items (written_again c schema) ≡ written_list c schema.schema_definition.value schema.schema_definition.location schema.types (filter is_handed_in (values_of schema.directive_definitions)) (values_of schema.types)
 items-listed c schema = items-split true (added c (write_schema schema)) ∙ simp (document_items-append c, directives-listed c, items-types c)
 
-module _ (laws : MeaningLaws) (schema : Schema) (list : IsMeantByList schema) (c : Bool) where
+module _ (schema : Schema) (list : IsMeantByList schema) (c : Bool) where
   open list use {start, adopts, more, means}
 
   abbrev xs : List ListItem
   xs = whole adopts (with_built_ins more)
 
   abbrev pub written_items : List ListItem
-  written_items = Y laws schema list c
+  written_items = Y schema list c
 
   abbrev pub all_items : List ListItem
-  all_items = Z laws schema list c
+  all_items = Z schema list c
 
   -- the items of the list with the write-out
   pub listed : added_items (written_again c schema) ≡ written_items
@@ -41,11 +41,11 @@ module _ (laws : MeaningLaws) (schema : Schema) (list : IsMeantByList schema) (c
   pub all-listed : whole true (written_again c schema) ≡ all_items
   all-listed =
       ap (completed true) listed
-      ∙ (λ i. with-adopted laws schema list c i ++ implied_schema true (with-adopted laws schema list c i))
+      ∙ (λ i. with-adopted schema list c i ++ implied_schema true (with-adopted schema list c i))
 
   pub directive_list : directive_definitions all_items ≡ directive_definitions built_ins ++ written_directives schema list
   directive_list =
-      filter_map-append directive_part written_items (ends laws schema list c)
+      filter_map-append directive_part written_items (ends schema list c)
       ∙ (λ i. list-directives c (schema_node start xs).value (schema_node start xs).location schema.types (written_directives schema list) (values_of schema.types) i
       ++ implied-directives written_items i)
       ∙ append-nil (directive_definitions built_ins ++ written_directives schema list)
@@ -56,7 +56,7 @@ module _ (laws : MeaningLaws) (schema : Schema) (list : IsMeantByList schema) (c
 
     same_definition : (bare_schema_definition (schema_node again all_items).value ≡ bare_schema_definition (schema_node start xs).value)
         × (write_schema_definition (schema_node again all_items).value (schema_node again all_items).location rebuilt.types ≡ write_schema_definition (schema_node start xs).value (schema_node start xs).location schema.types)
-    same_definition = same-schema laws schema list c again rebuilt.types are_again.types
+    same_definition = same-schema schema list c again rebuilt.types are_again.types
 
     same_directives : (keys_of rebuilt.directive_definitions ≡ keys_of schema.directive_definitions) × ((n : List ℕ) → lookup (by_text n) rebuilt.directive_definitions ≡ lookup (by_text n) schema.directive_definitions)
     same_directives = directives-again schema list all_items rebuilt.directive_definitions directive_list are_again.directives
@@ -66,8 +66,8 @@ module _ (laws : MeaningLaws) (schema : Schema) (list : IsMeantByList schema) (c
     equal = (λ i. record {
       definition = definition i;
       directive_definitions = (λ n. option_map (λ d. bare_directive_definition d.value) (same_directives.1 n i));
-      types = equal_types laws schema list c (others laws schema list c)
-          (ends laws schema list c) (quiet laws schema list c) (quiet-implied written_items)
+      types = equal_types schema list c (others schema list c)
+          (ends schema list c) (quiet schema list c) (quiet-implied written_items)
           again rebuilt.types are_again.types i;
     })
       where
@@ -92,13 +92,13 @@ module _ (laws : MeaningLaws) (schema : Schema) (list : IsMeantByList schema) (c
         held t u a = (λ i. cond (is_built_in (a.location i)) (drop 1 (a.same i)) (a.same i))
 
         types : flat_map write_held_type (values_of rebuilt.types) ≡ flat_map write_held_type (values_of schema.types)
-        types = same_written laws schema list c (others laws schema list c)
-            (ends laws schema list c) (quiet laws schema list c) (quiet-implied written_items)
+        types = same_written schema list c (others schema list c)
+            (ends schema list c) (quiet schema list c) (quiet-implied written_items)
             again rebuilt.types are_again.types write_held_type held
 
   -- and is without fault
   pub faultless : faults_of true (written_again c schema) ≡ []
-  faultless = ap (faults_in true) listed ∙ faults-none laws schema list c
+  faultless = ap (faults_in true) listed ∙ faults-none schema list c
 
 -- a table with other values, by their keys
 module _ {V : Type 0} (g : List ℕ → Option V) where
@@ -109,9 +109,9 @@ module _ {V : Type 0} (g : List ℕ → Option V) where
   lookup-valued n [] = refl
   lookup-valued n (e ∷ es) = grind (arith, same-true n e.0.text, lookup-valued n es)
 
-module _ (laws : MeaningLaws) (schema : Schema) (list : IsMeantByList schema) (c : Bool) (again : ℕ) where
+module _ (schema : Schema) (list : IsMeantByList schema) (c : Bool) (again : ℕ) where
   abbrev zs : List ListItem
-  zs = all_items laws schema list c
+  zs = all_items schema list c
 
   abbrev types_meant : List ℕ → Option ExtendedType
   types_meant = type_of again (folding_order zs) zs
@@ -120,9 +120,9 @@ module _ (laws : MeaningLaws) (schema : Schema) (list : IsMeantByList schema) (c
   meant-each n = lookup-valued types_meant n schema.types ∙ option_cases (lookup (by_text n) schema.types)
       (λ e. ap (option_map (unwrap_or (types_meant n))) e
       ∙ sym (ap (option_map (λ d. type_from d (parts again (folding_order zs) n d))) (first-about n zs ∙ ap (λ l. first l n)
-      (view-nothing laws schema list c (others laws schema list c) (ends laws schema list c) (quiet laws schema list c) (quiet-implied (written_items laws schema list c)) n e))))
+      (view-nothing schema list c (others schema list c) (ends schema list c) (quiet schema list c) (quiet-implied (written_items schema list c)) n e))))
       (λ t e.
-      let there = first-again laws schema list c (others laws schema list c) (ends laws schema list c) (quiet laws schema list c) (quiet-implied (written_items laws schema list c)) n t e in
+      let there = first-again schema list c (others schema list c) (ends schema list c) (quiet schema list c) (quiet-implied (written_items schema list c)) n t e in
       ap (option_map (unwrap_or (types_meant n))) e
       ∙ ap (λ o. Some (unwrap_or (option_map (λ d. type_from d (parts again (folding_order zs) n d)) o) t)) there
       ∙ sym (ap (option_map (λ d. type_from d (parts again (folding_order zs) n d))) there))
@@ -135,14 +135,14 @@ module _ (laws : MeaningLaws) (schema : Schema) (list : IsMeantByList schema) (c
     definition = refl;
     types = record {
       names = map-map (λ (e : NameView × ExtendedType). e.0) (λ e. (e.0, unwrap_or (types_meant e.0.text) e.1)) schema.types
-          ∙ sym (names-again laws schema list c (others laws schema list c) (ends laws schema list c) (quiet laws schema list c) (quiet-implied (written_items laws schema list c)));
+          ∙ sym (names-again schema list c (others schema list c) (ends schema list c) (quiet schema list c) (quiet-implied (written_items schema list c)));
       each = meant-each;
     };
     directives = record {
-      names = sym (ap directive_names (directive_list laws schema list c) ∙ same_keys schema list);
-      each = (λ n. sym (ap (λ ds. directive_of ds n) (directive_list laws schema list c) ∙ same_meaning schema list n));
+      names = sym (ap directive_names (directive_list schema list c) ∙ same_keys schema list);
+      each = (λ n. sym (ap (λ ds. directive_of ds n) (directive_list schema list c) ∙ same_meaning schema list n));
     };
   }
 
   pub rebuilds : (rebuilt : Schema) × MeansSchema again true (written_again c schema) rebuilt
-  rebuilds = (rebuilt, subst (λ l. AreOf again (folding_order l) l rebuilt) (sym (all-listed laws schema list c)) is-meant)
+  rebuilds = (rebuilt, subst (λ l. AreOf again (folding_order l) l rebuilt) (sym (all-listed schema list c)) is-meant)

@@ -1,10 +1,10 @@
 -- A list with a write-out is without fault.
-use Rattle.apollo_schema_laws.proofs.Words.Lists.{filter-fails, ◌≡◌, List, [], ◌∷◌, ◌++◌, None, Option, Some, slice_get, map, refl, sym, ap, subst, ◌∙◌, append_assoc, append-nil, map-append, flat_map-append, flat_map-map, IsDistinct-IsPermutation, IsEquivalence, IsDistinct, option_map_or, filter_map-made, ℕ, Bool, true, false, cond, ◌&&◌, filter, find, flat_map, arith, filter_map-append, find-append, map-map, AllByRecursion, list_any, option_or, option_cases, find-none, filter_map-unmade, IsPermutation-append_comm}
+use Rattle.apollo_schema_laws.proofs.Words.Lists.{filter-fails, ◌≡◌, List, [], ◌∷◌, ◌++◌, None, Option, Some, slice_get, map, refl, sym, ap, subst, ◌∙◌, append_assoc, append-nil, map-append, flat_map-append, flat_map-map, IsDistinct-IsPermutation, IsDistinct, option_map_or, filter_map-made, ℕ, Bool, true, false, cond, ◌&&◌, filter, find, flat_map, arith, filter_map-append, find-append, map-map, AllByRecursion, list_any, option_or, option_cases, find-none, filter_map-unmade, IsPermutation-append_comm}
 use Rattle.apollo_schema_laws.proofs.Words.Syntax.{operation_text, Query, Mutation, Subscription, NameView, NodeView, by_text, same, same_text, HasUniqueKeys, keys_of, lookup, values_of, same-true, DirectiveDefinition, built_in_definitions}
 use Rattle.apollo_schema_laws.proofs.Words.Types.{each_after, by_origin, ComponentName, SchemaDefinition, is_written, ExtendedType, name_laws}
 use Rattle.apollo_schema_laws.proofs.Words.Meaning.{SchemaDefined, SchemaExtended, defined_schema, extended_schema, first_schema, schema_extensions, Root, SchemaPart, roots_in, extended_names, orphans_of, schema_orphans, adopting_schema, implicit_roots, implied_schema, schema_of_roots, Directives, directive_definitions, directive_part, has_text, is_handed_in, Defined, Extended, ListItem, Other, whole, Schema, DirectiveNamed, NoSubject, Subject, TheSchema, TypeNamed}
 use Rattle.apollo_schema_laws.proofs.Words.Faults.{root_faults, same_root, schema_faults, schema_begun_faults, schema_joining_faults, found_at, Fault, faults_in, further_schema, schema_orphan, orphan, found, root_fault}
-use Rattle.apollo_schema_laws.proofs.Words.Written.{joined, with_origins, MeaningLaws, IsMeantByList, with_built_ins}
+use Rattle.apollo_schema_laws.proofs.Words.Written.{joined, with_origins, IsMeantByList, with_built_ins}
 use Rattle.graphql_ast.specs.declared.definition.Definition.TheVariants as ast
 use Rattle.apollo_component.proofs.Lists.EachAfter.{each_after-append}
 use Rattle.apollo_meaning.specs.declared.build_error.BuildError.TheVariants as errors
@@ -16,33 +16,34 @@ use Rattle.apollo_schema_laws.proofs.Definitions.{schema_extension_of, written_p
 use Rattle.apollo_schema_laws.proofs.Rebuild.TypesAgain.{fits, flag, is-made, view-type}
 use Rattle.apollo_schema_laws.proofs.Rebuild.DirectivesAgain.{built_in-marked, built_in_directives, find-unmarked, texts, unique_directives, written_directives}
 use Rattle.apollo_schema_laws.proofs.Rebuild.WrittenList.{directive_items, directives-of_items, list-about_others, list-about_schema, schema-listed, written_head, Y, Z, exts-Y, unwritten-Y, written-Y, alone, first-nothing, implicit-again, object_at, orphans-none, others, quiet, with-adopted}
+use Rattle.apollo_meaning.proofs.Completion.CompletionLemmas.{faults-completed}
+use Rattle.apollo_meaning.proofs.Faults.DroppedLemmas.{same_root_laws}
 
-module _ (root_laws : IsEquivalence same_root) where
-  -- roots that differ from those before them and from one another
-  pub roots-none : (before rs : List Root) → IsDistinct same_root (before ++ rs) → root_faults before rs ≡ []
-  roots-none =
-      none-added root_fault (IsDistinct same_root) (λ done r rest d.
-      ap (λ o. option_map_or (λ (kept : Root). (r.location, errors.DuplicateRootOperation kept.value.1.location (operation_text r.value.0)) ∷ []) o []) (find-none (same_root r) done (new-after same_root root_laws done r rest d)))
+-- roots that differ from those before them and from one another
+pub roots-none : (before rs : List Root) → IsDistinct same_root (before ++ rs) → root_faults before rs ≡ []
+roots-none =
+    none-added root_fault (IsDistinct same_root) (λ done r rest d.
+    ap (λ o. option_map_or (λ (kept : Root). (r.location, errors.DuplicateRootOperation kept.value.1.location (operation_text r.value.0)) ∷ []) o []) (find-none (same_root r) done (new-after same_root same_root_laws done r rest d)))
 
-  -- a part after others
-  schema-none : (ps : List SchemaPart) (p : SchemaPart) (rest : List SchemaPart) → IsDistinct same_root (roots_in (ps ++ p ∷ rest)) → schema_faults ps p ≡ []
-  schema-none ps p rest d =
-      roots-none (roots_in ps) p.roots (distinct-front same_root (roots_in ps ++ p.roots) (roots_in rest)
-      (subst (IsDistinct same_root) (flat_map-append (λ (s : SchemaPart). s.roots) ps (p ∷ rest) ∙ sym (append_assoc (roots_in ps) p.roots (roots_in rest))) d))
+-- a part after others
+schema-none : (ps : List SchemaPart) (p : SchemaPart) (rest : List SchemaPart) → IsDistinct same_root (roots_in (ps ++ p ∷ rest)) → schema_faults ps p ≡ []
+schema-none ps p rest d =
+    roots-none (roots_in ps) p.roots (distinct-front same_root (roots_in ps ++ p.roots) (roots_in rest)
+    (subst (IsDistinct same_root) (flat_map-append (λ (s : SchemaPart). s.roots) ps (p ∷ rest) ∙ sym (append_assoc (roots_in ps) p.roots (roots_in rest))) d))
 
-  -- extensions that join a definition
-  pub joining-none : (parts es : List SchemaPart) → IsDistinct same_root (roots_in (parts ++ es)) → schema_joining_faults parts es ≡ []
-  joining-none = none-added schema_faults (λ l. IsDistinct same_root (roots_in l)) schema-none
+-- extensions that join a definition
+pub joining-none : (parts es : List SchemaPart) → IsDistinct same_root (roots_in (parts ++ es)) → schema_joining_faults parts es ≡ []
+joining-none = none-added schema_faults (λ l. IsDistinct same_root (roots_in l)) schema-none
 
-  pub begun-none : (s : SchemaPart) (es : List SchemaPart) → IsDistinct same_root (roots_in (s ∷ es)) → schema_begun_faults s es ≡ []
-  begun-none s es d = (λ i. schema-none [] s es d i ++ joining-none (s ∷ []) es d i)
+pub begun-none : (s : SchemaPart) (es : List SchemaPart) → IsDistinct same_root (roots_in (s ∷ es)) → schema_begun_faults s es ≡ []
+begun-none s es d = (λ i. schema-none [] s es d i ++ joining-none (s ∷ []) es d i)
 
-  -- extensions after a definition, item by item
-  pub schema-faultless : (s : SchemaPart) (es : List SchemaPart) → IsDistinct same_root (roots_in (s ∷ es)) → each_after found_at [] (SchemaDefined s ∷ map SchemaExtended es) ≡ []
-  schema-faultless s es d = (λ i. (append-nil (schema_faults [] s) ∙ schema-none [] s es d) i ++ none-made found_at (SchemaDefined s ∷ []) SchemaExtended (λ l. IsDistinct same_root (roots_in (s ∷ l))) after [] es d i)
-    where
-      after : (done : List SchemaPart) (e : SchemaPart) (rest : List SchemaPart) → IsDistinct same_root (roots_in (s ∷ done ++ e ∷ rest)) → found_at (SchemaDefined s ∷ map SchemaExtended done) (SchemaExtended e) ≡ []
-      after done e rest d = ap (λ l. schema_faults (s ∷ l) e) (filter_map-made extended_schema SchemaExtended (λ e. refl) done) ∙ schema-none (s ∷ done) e rest d
+-- extensions after a definition, item by item
+pub schema-faultless : (s : SchemaPart) (es : List SchemaPart) → IsDistinct same_root (roots_in (s ∷ es)) → each_after found_at [] (SchemaDefined s ∷ map SchemaExtended es) ≡ []
+schema-faultless s es d = (λ i. (append-nil (schema_faults [] s) ∙ schema-none [] s es d) i ++ none-made found_at (SchemaDefined s ∷ []) SchemaExtended (λ l. IsDistinct same_root (roots_in (s ∷ l))) after [] es d i)
+  where
+    after : (done : List SchemaPart) (e : SchemaPart) (rest : List SchemaPart) → IsDistinct same_root (roots_in (s ∷ done ++ e ∷ rest)) → found_at (SchemaDefined s ∷ map SchemaExtended done) (SchemaExtended e) ≡ []
+    after done e rest d = ap (λ l. schema_faults (s ∷ l) e) (filter_map-made extended_schema SchemaExtended (λ e. refl) done) ∙ schema-none (s ∷ done) e rest d
 
 -- extensions before any definition
 pub early-none : (before es : List SchemaPart) → each_after found_at (map SchemaExtended before) (map SchemaExtended es) ≡ []
@@ -56,10 +57,10 @@ entries-distinct : (q m s : Option ComponentName) → IsDistinct same_root (map 
 entries-distinct q m s = distinct-from_first same_root (map (λ x. x.1) (entries Query q ++ (entries Mutation m ++ (entries Subscription s ++ [])))) (grind arith)
 
 -- so do those of what is written of it
-pub written-distinct : IsEquivalence same_root → (d : SchemaDefinition) → IsDistinct same_root ((written_parts_of d).definition.roots ++ roots_in (map schema_extension_of (written_parts_of d).extensions))
-written-distinct root_laws d =
+pub written-distinct : (d : SchemaDefinition) → IsDistinct same_root ((written_parts_of d).definition.roots ++ roots_in (map schema_extension_of (written_parts_of d).extensions))
+written-distinct d =
     subst (IsDistinct same_root) listed
-    (IsDistinct-IsPermutation same_root root_laws.symm (map (λ x. x.1) (root_entries d)) (map (λ x. x.1) (joined (λ p. p.roots) (with_origins (written_parts_of d))))
+    (IsDistinct-IsPermutation same_root same_root_laws.symm (map (λ x. x.1) (root_entries d)) (map (λ x. x.1) (joined (λ p. p.roots) (with_origins (written_parts_of d))))
     (written-keeps (schema_sections d) (written_parts_of d) (ap (λ cs. (by_origin cs).definition) (schema-components d)) (ap (λ cs. map (λ e. e.1) (by_origin cs).extensions) (schema-components d))).roots
     (entries-distinct d.query d.mutation d.subscription))
   where
@@ -106,17 +107,17 @@ names-distinct (e ∷ es) d t = (apart es d.0 t.1, names-distinct es d.1 t.1)
 values-distinct : (es : List (NameView × NodeView DirectiveDefinition)) → HasUniqueKeys same_text es → AllByRecursion (λ e. has_text e.0.text e.1 ≡ true) es → IsDistinct same_text (map (λ d. d.value.name) (filter is_handed_in (values_of es)))
 values-distinct es d t = distinct-filter same_text name_laws (λ d. d.value.name) is_handed_in (values_of es) (names-distinct es d t)
 
-module _ (laws : MeaningLaws) (schema : Schema) (list : IsMeantByList schema) (c : Bool) where
+module _ (schema : Schema) (list : IsMeantByList schema) (c : Bool) where
   open list use {start, adopts, more}
 
   abbrev types : List (NameView × ExtendedType)
   types = schema.types
 
   abbrev ys : List ListItem
-  ys = Y laws schema list c
+  ys = Y schema list c
 
   abbrev zs : List ListItem
-  zs = Z laws schema list c
+  zs = Z schema list c
 
   abbrev node : NodeView SchemaDefinition
   node = schema_node start (whole adopts (with_built_ins more))
@@ -129,13 +130,13 @@ module _ (laws : MeaningLaws) (schema : Schema) (list : IsMeantByList schema) (c
 
   type-none : (n : List ℕ) (t : ExtendedType) → lookup (by_text n) types ≡ Some t → found (about (TypeNamed n) ys) ≡ []
   type-none n t e =
-      let b : Bool = flag laws schema list c (others laws schema list c) [] (quiet laws schema list c) tt n t e in
-      let h : HaveEachNameOnce (written_parts t) = once-in_parts t (once t (is-made laws schema list n t e)) in
-      ap found (ap (about (TypeNamed n)) (sym (alone laws schema list c))
-      ∙ view-type laws schema list c (others laws schema list c) [] (quiet laws schema list c) tt n t e
+      let b : Bool = flag schema list c (others schema list c) [] (quiet schema list c) tt n t e in
+      let h : HaveEachNameOnce (written_parts t) = once-in_parts t (once t (is-made schema list n t e)) in
+      ap found (ap (about (TypeNamed n)) (sym (alone schema list c))
+      ∙ view-type schema list c (others schema list c) [] (quiet schema list c) tt n t e
       ∙ ap (λ l. Defined (record (definition_part t) { ignorable = b }) ∷ l) (sym (map-map Extended (extension_of t) (written t).extensions)))
-      ∙ type-faultless laws.own_kind (record (definition_part t) { ignorable = b }) (map (extension_of t) (written t).extensions)
-      (fits laws schema list c (others laws schema list c) [] (quiet laws schema list c) tt n t e (written t).extensions)
+      ∙ type-faultless (record (definition_part t) { ignorable = b }) (map (extension_of t) (written t).extensions)
+      (fits schema list c (others schema list c) [] (quiet schema list c) tt n t e (written t).extensions)
       (record { interfaces = h.interfaces; members = h.members; fields = h.fields; values = h.values; input_fields = h.input_fields })
 
   schema-items-none : found (about TheSchema ys) ≡ []
@@ -145,7 +146,7 @@ module _ (laws : MeaningLaws) (schema : Schema) (list : IsMeantByList schema) (c
       ∙ by (is_written types node.value)
     where
       by : (b : Bool) → found (cond b (SchemaDefined (written_head node.value node.location) ∷ []) [] ++ map SchemaExtended exts) ≡ []
-      by true = schema-faultless laws.same_root (written_head node.value node.location) exts (written-distinct laws.same_root node.value)
+      by true = schema-faultless (written_head node.value node.location) exts (written-distinct node.value)
       by false = early-none [] exts
 
   others-none : found (about NoSubject ys) ≡ []
@@ -159,13 +160,13 @@ module _ (laws : MeaningLaws) (schema : Schema) (list : IsMeantByList schema) (c
   found-none = faultless-by_topic ys by
     where
       by : (topic : Subject) → found (about topic ys) ≡ []
-      by (TypeNamed n) = option_cases (lookup (by_text n) types) (λ e. ap found (first-nothing laws schema list c n e)) (type-none n)
+      by (TypeNamed n) = option_cases (lookup (by_text n) types) (λ e. ap found (first-nothing schema list c n e)) (type-none n)
       by TheSchema = schema-items-none
       by NoSubject = others-none
       by (DirectiveNamed n) = ap found (filter-fails (λ x. is_about (DirectiveNamed n) x ≡ false) (is_about (DirectiveNamed n)) (λ x e. e) ys (each-of (λ x. is_about (DirectiveNamed n) x ≡ false) (λ x. grind arith) ys))
 
   orphaned-none : flat_map (orphans_of ys) (extended_names ys) ≡ []
-  orphaned-none = flat_map-none (orphans_of ys) (orphans-none laws schema list c) (extended_names ys)
+  orphaned-none = flat_map-none (orphans_of ys) (orphans-none schema list c) (extended_names ys)
 
   -- what is found at the end: at an implied definition, and of extensions without any
   end-none : (each_after found_at ys (implied_schema true ys) ≡ []) × (schema_orphans zs ≡ [])
@@ -178,37 +179,37 @@ module _ (laws : MeaningLaws) (schema : Schema) (list : IsMeantByList schema) (c
       at s none is d = (
         ap (each_after found_at ys) is ∙ append-nil (found_at ys (SchemaDefined s))
             ∙ ap (λ o. option_map_or (λ f. further_schema f s ∷ []) o (schema_begun_faults s (schema_extensions ys))) none
-            ∙ ap (schema_begun_faults s) (exts-Y laws schema list c) ∙ begun-none laws.same_root s exts d,
+            ∙ ap (schema_begun_faults s) (exts-Y schema list c) ∙ begun-none s exts d,
         defined s (first_schema-append ys (implied_schema true ys) ∙ (λ i. option_or (none i) (first_schema (is i)))),
       )
 
       by : (b : Bool) → is_written types node.value ≡ b → (each_after found_at ys (implied_schema true ys) ≡ []) × (schema_orphans zs ≡ [])
       by true e =
-          let both = written-Y laws schema list c e in
+          let both = written-Y schema list c e in
           (ap (each_after found_at ys) both.1, defined (written_head node.value node.location) (first_schema-append ys (implied_schema true ys) ∙ ap (λ o. option_or o (first_schema (implied_schema true ys))) both.0))
       by false e = unnamed (roots_in (schema_extensions ys)) refl
         where
           none : first_schema ys ≡ None
-          none = (unwritten-Y laws schema list c e).0
+          none = (unwritten-Y schema list c e).0
 
           are_ends : implied_schema true ys ≡ adopting_schema (roots_in (schema_extensions ys)) (implicit_roots ys)
-          are_ends = (unwritten-Y laws schema list c e).1
+          are_ends = (unwritten-Y schema list c e).1
 
           same_exts : schema_extensions ys ≡ exts
-          same_exts = exts-Y laws schema list c
+          same_exts = exts-Y schema list c
 
           unnamed : (named : List Root) → roots_in (schema_extensions ys) ≡ named → (each_after found_at ys (implied_schema true ys) ≡ []) × (schema_orphans zs ≡ [])
           unnamed (r ∷ rs) g = at (schema_of_roots []) none (are_ends ∙ ap (λ l. adopting_schema l (implicit_roots ys)) g)
-              (distinct-front same_root (roots_in exts) (written_parts_of node.value).definition.roots (IsDistinct-IsPermutation same_root laws.same_root.symm ((written_parts_of node.value).definition.roots ++ roots_in exts) (roots_in exts ++ (written_parts_of node.value).definition.roots)
-              (IsPermutation-append_comm (written_parts_of node.value).definition.roots (roots_in exts)) (written-distinct laws.same_root node.value)))
+              (distinct-front same_root (roots_in exts) (written_parts_of node.value).definition.roots (IsDistinct-IsPermutation same_root same_root_laws.symm ((written_parts_of node.value).definition.roots ++ roots_in exts) (roots_in exts ++ (written_parts_of node.value).definition.roots)
+              (IsPermutation-append_comm (written_parts_of node.value).definition.roots (roots_in exts)) (written-distinct node.value)))
           unnamed [] g =
               at (schema_of_roots (implicit_roots ys)) none (are_ends ∙ ap (λ l. adopting_schema l (implicit_roots ys)) g)
-              (subst (IsDistinct same_root) (sym ((λ i. implicit-again laws schema list c i ++ (ap roots_in (sym same_exts) ∙ g) i) ∙ append-nil (roots_where (object_at types Query) (object_at types Mutation) (object_at types Subscription))))
+              (subst (IsDistinct same_root) (sym ((λ i. implicit-again schema list c i ++ (ap roots_in (sym same_exts) ∙ g) i) ∙ append-nil (roots_where (object_at types Query) (object_at types Mutation) (object_at types Subscription))))
               (implied-distinct (object_at types Query) (object_at types Mutation) (object_at types Subscription)))
 
   pub faults-none : faults_in true ys ≡ []
   faults-none =
-      laws.faults true ys ∙ ap all (with-adopted laws schema list c)
+      faults-completed true ys ∙ ap all (with-adopted schema list c)
       ∙ (λ i. found-none i ++ (map orphan (orphaned-none i) ++ (end-none.0 i ++ map schema_orphan (end-none.1 i))))
     where
       all : List ListItem → List Fault

@@ -7,7 +7,7 @@ use Rattle.apollo_schema_laws.proofs.Words.Types.{same_key, SourcedPart, sourced
 use Rattle.apollo_schema_laws.proofs.Words.Meaning.{EnumBody, InputObjectBody, InterfaceBody, ObjectBody, ScalarBody, SchemaPart, TypeBody, TypePart, UnionBody, SourcedSchema, root_in, roots_of, same_operation, schema_definition_of, schema_directives_of, Sourced, body_fields, body_input_fields, body_interfaces, body_members, body_values, component, component_name, extended_schema}
 use Rattle.apollo_schema_laws.proofs.Words.Meaning.{sourced_directives, distinct_entries, distinct_names, field_entry, input_field_entry, same_component_name, value_entry, type_of_kind, adopted, with_adopted, implied_schema, Added, ListItem, OfSchema, OfType, added_items, extended_part, Extended, Folding, schema_extensions}
 use Rattle.apollo_schema_laws.proofs.Words.Meaning.{first, first_schema, Family, Placed, extension_places, first_place, folded_when, folding_order, is_folded, is_met, met_when, once_if_defined, schemas, times_met, types, folds, whole, Directives, is_handed_in, no_schema, schema_from, schema_parts, of_type, parts, type_from, MeansSchema, Schema}
-use Rattle.apollo_schema_laws.proofs.Words.Written.{MeaningLaws, written_again}
+use Rattle.apollo_schema_laws.proofs.Words.Written.{written_again}
 use Rattle.std.proofs.lemmas.Map.Made.{length-le_from_is_member}
 use Rattle.std.proofs.lemmas.Map.Steps.{list_any_congr}
 use Rattle.std.proofs.lemmas.List.Sums.{count_by-le-length, length-filter}
@@ -21,6 +21,7 @@ use Rattle.apollo_schema_laws.proofs.Items.{adopted-unchosen, by_implied, each-e
 use Rattle.apollo_schema_laws.proofs.Rebuild.TypesAgain.{unique}
 use Rattle.apollo_schema_laws.proofs.Rebuild.WrittenList.{list-extended, list-schema_extensions}
 use Rattle.apollo_schema_laws.proofs.Rebuild.Canonical.{items-listed}
+use Rattle.apollo_meaning.proofs.Order.OnceLemmas.{each-met-once}
 
 module _ (P : ComponentOrigin → Type 0) where
   -- it holds of the origin of a component
@@ -152,8 +153,8 @@ module _ (xs : List ListItem) where
   folded-met (i ∷ is) =
       simp (length-append, length-map) (omega (arith, folded-met is, length-filter (is_folded xs) (met_when types xs i), count_by-le-length (is_folded xs) (met_when types xs i)))
 
-  folded-few : MeaningLaws → length (folding_order xs) ≤ extensions_in xs
-  folded-few laws = omega (arith, folded-met (range_with_len 0 (length xs)), met-few types (laws.types_met xs), met-few schemas (laws.schemas_met xs))
+  folded-few : length (folding_order xs) ≤ extensions_in xs
+  folded-few = omega (arith, folded-met (range_with_len 0 (length xs)), met-few types (each-met-once types xs), met-few schemas (each-met-once schemas xs))
 
   -- what is adopted extends nothing
   adopted-unextended : extensions_in (adopted xs) ≡ 0
@@ -164,12 +165,12 @@ module _ (xs : List ListItem) where
   implied-none = by_implied (λ l. extensions_in l ≡ 0) refl (λ s. refl) true xs
 
 -- so where extensions are adopted no more are folded than there are
-pub folds-few : MeaningLaws → (xs : List Added) → folds true xs ≤ extensions_in (added_items xs)
-folds-few laws xs =
+pub folds-few : (xs : List Added) → folds true xs ≤ extensions_in (added_items xs)
+folds-few xs =
     let items : List ListItem = added_items xs in
     omega (
       arith,
-      folded-few (whole true xs) laws,
+      folded-few (whole true xs),
       extensions_in-append (with_adopted true items) (implied_schema true (with_adopted true items)),
       implied-none (with_adopted true items),
       extensions_in-append items (adopted items),
@@ -218,7 +219,7 @@ module _ (c : Bool) where
       let ts : List ExtendedType = values_of schema.types in
       rw (items-listed c schema, list-extended c d location schema.types ds ts, list-schema_extensions c d location schema.types ds ts, length-map (written_parts_of d).extensions schema_extension_of) refl
 
-module _ (laws : MeaningLaws) (start : ℕ) (adopts : Bool) (xs : List Added) (schema : Schema) (means : MeansSchema start adopts xs schema) where
+module _ (start : ℕ) (adopts : Bool) (xs : List Added) (schema : Schema) (means : MeansSchema start adopts xs schema) where
   abbrev items : List ListItem
   items = whole adopts xs
 
@@ -235,7 +236,7 @@ module _ (laws : MeaningLaws) (start : ℕ) (adopts : Bool) (xs : List Added) (s
   each-few : AllByRecursion (λ e. length (written e.1).extensions ≤ length (numbers_of e.0.text start folded)) schema.types
   each-few =
       each-weaken (λ e. lookup (by_text e.0.text) schema.types ≡ Some e.1) (λ e. length (written e.1).extensions ≤ length (numbers_of e.0.text start folded))
-      (λ e found. by e.0.text e.1 (first items e.0.text) (sym (means.types.each e.0.text) ∙ found)) schema.types (each-entry schema.types (unique laws start items schema.types means.types))
+      (λ e found. by e.0.text e.1 (first items e.0.text) (sym (means.types.each e.0.text) ∙ found)) schema.types (each-entry schema.types (unique start items schema.types means.types))
     where
       by : (n : List ℕ) (t : ExtendedType) (o : Option TypePart) → option_map (λ d. type_from d (parts start folded n d)) o ≡ Some t → length (written t).extensions ≤ length (numbers_of n start folded)
       by n t None h = absurd (let g : None ≡ Some t = h in cc)
@@ -245,11 +246,11 @@ module _ (laws : MeaningLaws) (start : ℕ) (adopts : Bool) (xs : List Added) (s
   folds-no_more c =
       omega (
         arith,
-        folds-few laws (written_again c schema),
+        folds-few (written_again c schema),
         written-counted c schema,
         definition-few,
         types-few c start folded schema.types each-few,
-        by-name-few start folded (keys_of schema.types) (unique laws start items schema.types means.types),
+        by-name-few start folded (keys_of schema.types) (unique start items schema.types means.types),
       )
 
   -- so where the numbers don't suffice for the write-out, they don't for the list

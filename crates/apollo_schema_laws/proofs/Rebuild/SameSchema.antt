@@ -3,7 +3,7 @@ use Rattle.apollo_schema_laws.proofs.Words.Lists.{◌≡◌, ℕ, Bool, true, fa
 use Rattle.apollo_schema_laws.proofs.Words.Syntax.{NameView, NodeView, default_type_text, by_text, lookup, OperationType, Query, Mutation, Subscription, SourceSpan}
 use Rattle.apollo_schema_laws.proofs.Words.Types.{ComponentName, bare_schema_definition, has_own_root, implied_name, is_implied, is_some_object, is_written, write_schema_definition, root_of, ExtendedType, SchemaDefinition}
 use Rattle.apollo_schema_laws.proofs.Words.Meaning.{adopting_schema, implicit_roots, schema_of_roots, ListItem, SchemaDefined, extended_schema, first_schema, schema_extensions, Root, SchemaPart, roots_in, folding_order, roots_of, same_operation, schema_extension_source, AreTypesOf, Schema, same_kind}
-use Rattle.apollo_schema_laws.proofs.Words.Written.{MeaningLaws, IsMeantByList}
+use Rattle.apollo_schema_laws.proofs.Words.Written.{IsMeantByList}
 use Rattle.graphql_nodes.specs.declared.type_kind.TypeKind.TheVariants as kinds
 use Rattle.apollo_schema_laws.proofs.Lists.{map-empty}
 use Rattle.apollo_schema_laws.proofs.Types.{rising-distinct, schema_numbers, schema_numbers-rise}
@@ -20,32 +20,32 @@ no-roots es h op =
     root-made (schema_of_roots []) es op
     ∙ ap (λ l. option_map (λ r. r.1) (find (λ r. same_operation op r.0) l)) (map-empty (λ (r : OperationType × ComponentName). r.0) (flat_map roots_of (map schema_extension_source es)) (operations-named es ∙ ap (map (λ (r : Root). r.value.0)) h))
 
-module _ (laws : MeaningLaws) (schema : Schema) (list : IsMeantByList schema) (c : Bool) (again : ℕ) (types_again : List (NameView × ExtendedType))
-    (are_again : AreTypesOf again (folding_order (Z laws schema list c)) (Z laws schema list c) types_again) where
+module _ (schema : Schema) (list : IsMeantByList schema) (c : Bool) (again : ℕ) (types_again : List (NameView × ExtendedType))
+    (are_again : AreTypesOf again (folding_order (Z schema list c)) (Z schema list c) types_again) where
   abbrev types : List (NameView × ExtendedType)
   types = schema.types
 
   abbrev location : Option SourceSpan
-  location = (node laws schema list c).location
+  location = (node schema list c).location
 
   -- the written list, what it is completed with, and all
   abbrev ys : List ListItem
-  ys = Y laws schema list c
+  ys = Y schema list c
 
   abbrev end_items : List ListItem
-  end_items = ends laws schema list c
+  end_items = ends schema list c
 
   abbrev zs : List ListItem
-  zs = Z laws schema list c
+  zs = Z schema list c
 
   abbrev d : SchemaDefinition
-  d = (node laws schema list c).value
+  d = (node schema list c).value
 
-  m : IsMeantSchema d (implicit_roots (W laws schema list c))
-  m = meant-schema laws schema list
+  m : IsMeantSchema d (implicit_roots (W schema list c))
+  m = meant-schema schema list
 
   object-same : (n : List ℕ) → is_some_object (lookup (by_text n) types_again) ≡ is_some_object (lookup (by_text n) types)
-  object-same = same-seen laws schema list c (others laws schema list c) end_items (quiet laws schema list c) (quiet-implied ys) again types_again are_again is_some_object (λ t u a. object-kind u ∙ ap (same_kind kinds.Object) a.kind ∙ sym (object-kind t))
+  object-same = same-seen schema list c (others schema list c) end_items (quiet schema list c) (quiet-implied ys) again types_again are_again is_some_object (λ t u a. object-kind u ∙ ap (same_kind kinds.Object) a.kind ∙ sym (object-kind t))
 
   same_implied : SameImplied types types_again
   same_implied op = ap (λ b. cond b (Some (default_type_text op)) None) (object-same (default_type_text op))
@@ -62,27 +62,27 @@ module _ (laws : MeaningLaws) (schema : Schema) (list : IsMeantByList schema) (c
   -- what follows from a head that is written
   from-head : (head : SchemaPart) → first_schema zs ≡ Some head → schema_extensions zs ≡ map schema_extension_of (written_parts_of d).extensions → IsWrittenHead d head → (is_written types d ≡ true → head.location ≡ location) → Same (schema_node again zs)
   from-head head here exts h at =
-      let a : IsSchemaAgain d (made_schema head (schema_numbers again (folding_order zs))) = schema-again d m.made head h (schema_numbers again (folding_order zs)) apart (schema_numbers-parts laws again zs head here ∙ exts) in
+      let a : IsSchemaAgain d (made_schema head (schema_numbers again (folding_order zs))) = schema-again d m.made head h (schema_numbers again (folding_order zs)) apart (schema_numbers-parts again zs head here ∙ exts) in
       subst Same (sym (node-of again zs head here)) (equal-again d (made_schema head (schema_numbers again (folding_order zs))) a, written-alike d (made_schema head (schema_numbers again (folding_order zs))) a types types_again same_implied location head.location at)
 
   exts-ys : schema_extensions ys ≡ map schema_extension_of (written_parts_of d).extensions
-  exts-ys = exts-Y laws schema list c
+  exts-ys = exts-Y schema list c
 
   -- where a definition is written
   where-written : is_written types d ≡ true → Same (schema_node again zs)
   where-written e =
-      let both = written-Y laws schema list c e in
+      let both = written-Y schema list c e in
       from-head (written_head d location) (first_schema-append ys end_items ∙ (λ i. option_or (both.0 i) (first_schema end_items)))
       (filter_map-append extended_schema ys end_items ∙ (λ i. exts-ys i ++ filter_map extended_schema (both.1 i)) ∙ append-nil (map schema_extension_of (written_parts_of d).extensions))
       (record { description = refl; directives = refl; roots = refl }) (λ _. refl)
 
   module _ (e : is_written types d ≡ false) where
     ends-are : end_items ≡ adopting_schema (roots_in (schema_extensions ys)) (implicit_roots ys)
-    ends-are = (unwritten-Y laws schema list c e).1
+    ends-are = (unwritten-Y schema list c e).1
 
     at-end : (head : SchemaPart) → end_items ≡ SchemaDefined head ∷ [] → (first_schema zs ≡ Some head) × (schema_extensions zs ≡ map schema_extension_of (written_parts_of d).extensions)
     at-end head is = (
-      first_schema-append ys end_items ∙ (λ i. option_or ((unwritten-Y laws schema list c e).0 i) (first_schema (is i))),
+      first_schema-append ys end_items ∙ (λ i. option_or ((unwritten-Y schema list c e).0 i) (first_schema (is i))),
       filter_map-append extended_schema ys end_items ∙ (λ i. exts-ys i ++ filter_map extended_schema (is i)) ∙ append-nil (map schema_extension_of (written_parts_of d).extensions),
     )
 
@@ -91,17 +91,17 @@ module _ (laws : MeaningLaws) (schema : Schema) (list : IsMeantByList schema) (c
     where-left-out f =
         let l = left-out d types f in
         let no_exts : (written_parts_of d).extensions ≡ [] = ap (map (extension_written d)) l.extensions in
-        let is : end_items ≡ SchemaDefined (schema_of_roots (implied_here laws schema list c)) ∷ [] = ends-are ∙ (λ i. adopting_schema (roots_in ((exts-ys ∙ ap (map schema_extension_of) no_exts) i)) ((implicit-again laws schema list c) i)) in
-        let here = at-end (schema_of_roots (implied_here laws schema list c)) is in
-        let none : schema_numbers again (folding_order zs) ≡ [] = map-empty (λ (f : ℕ × SchemaPart). f.1) (schema_numbers again (folding_order zs)) (schema_numbers-parts laws again zs (schema_of_roots (implied_here laws schema list c)) here.0 ∙ here.1 ∙ ap (map schema_extension_of) no_exts) in
-        subst Same (sym (node-of again zs (schema_of_roots (implied_here laws schema list c)) here.0 ∙ ap of_extensions none)) (
+        let is : end_items ≡ SchemaDefined (schema_of_roots (implied_here schema list c)) ∷ [] = ends-are ∙ (λ i. adopting_schema (roots_in ((exts-ys ∙ ap (map schema_extension_of) no_exts) i)) ((implicit-again schema list c) i)) in
+        let here = at-end (schema_of_roots (implied_here schema list c)) is in
+        let none : schema_numbers again (folding_order zs) ≡ [] = map-empty (λ (f : ℕ × SchemaPart). f.1) (schema_numbers again (folding_order zs)) (schema_numbers-parts again zs (schema_of_roots (implied_here schema list c)) here.0 ∙ here.1 ∙ ap (map schema_extension_of) no_exts) in
+        subst Same (sym (node-of again zs (schema_of_roots (implied_here schema list c)) here.0 ∙ ap of_extensions none)) (
           left-out-equal types (object_at types Query) (object_at types Mutation) (object_at types Subscription) (implied-cond types) d l,
           implied-unwritten types_again (object_at types Query) (object_at types Mutation) (object_at types Subscription) (λ op. same_implied op ∙ implied-cond types op) None
               ∙ sym (left-out-written d location types f l.extensions),
         )
       where
         of_extensions : List (ℕ × SchemaPart) → NodeView SchemaDefinition
-        of_extensions fs = record { value = made_schema (schema_of_roots (implied_here laws schema list c)) fs; location = None }
+        of_extensions fs = record { value = made_schema (schema_of_roots (implied_here schema list c)) fs; location = None }
 
     -- where there are extensions alone
     where-extended : is_implied types d ≡ false → Same (schema_node again zs)
@@ -124,11 +124,11 @@ module _ (laws : MeaningLaws) (schema : Schema) (list : IsMeantByList schema) (c
         by [] g =
             let is : end_items ≡ SchemaDefined (schema_of_roots (implicit_roots ys)) ∷ [] = ends-are ∙ ap (λ l. adopting_schema l (implicit_roots ys)) g in
             let here = at-end (schema_of_roots (implicit_roots ys)) is in
-            let parts : map (λ e. e.1) (schema_numbers again (folding_order zs)) ≡ map schema_extension_of (written_parts_of d).extensions = schema_numbers-parts laws again zs (schema_of_roots (implicit_roots ys)) here.0 ∙ here.1 in
+            let parts : map (λ e. e.1) (schema_numbers again (folding_order zs)) ≡ map schema_extension_of (written_parts_of d).extensions = schema_numbers-parts again zs (schema_of_roots (implicit_roots ys)) here.0 ∙ here.1 in
             let a : IsSchemaAgain d (made_schema (schema_of_roots []) (schema_numbers again (folding_order zs))) = schema-again d m.made (schema_of_roots []) (written-head [] refl) (schema_numbers again (folding_order zs)) apart parts in
             let nothing : (op : OperationType) → root_of d op ≡ None =
             λ op. unnamed (root_of d op) (sym (a.roots op) ∙ ap (option_map (λ (n : ComponentName). n.name)) (no-roots (schema_numbers again (folding_order zs)) (ap roots_in (parts ∙ sym exts-ys) ∙ g) op)) in
-            from-head (schema_of_roots (implicit_roots ys)) here.0 here.1 (written-head (implicit_roots ys) ((implicit-again laws schema list c) ∙ sym (implicit-listed laws schema list c) ∙ m.roots own nothing)) unwritten
+            from-head (schema_of_roots (implicit_roots ys)) here.0 here.1 (written-head (implicit_roots ys) ((implicit-again schema list c) ∙ sym (implicit-listed schema list c) ∙ m.roots own nothing)) unwritten
           where
             unnamed : (o : Option ComponentName) → option_map (λ n. n.name) o ≡ None → o ≡ None
             unnamed o h = grind (arith, h)

@@ -3,10 +3,14 @@ use Rattle.apollo_schema_laws.proofs.Words.Lists.{◌≡◌, ℕ, Bool, true, fa
 use Rattle.apollo_schema_laws.proofs.Words.Syntax.{is_built_in, entries_by_text, NameView, same, same_text, by_text, HasUniqueKeys, keys_of, values_of, lookup, DefinitionParts}
 use Rattle.apollo_schema_laws.proofs.Words.Types.{first_of_each, ExtensionId, bare_extended_type, type_location, type_name, ExtendedType, name_laws, first_of_each-distinct}
 use Rattle.apollo_schema_laws.proofs.Words.Meaning.{ListItem, Defined, Extended, defined_part, extended_part, first, extensions_of, of_kind, TypePart, kind_of, folding_order, whole, Sourced, AreTypesOf, extension_part, type_names, type_from, parts, Schema, TypeNamed}
-use Rattle.apollo_schema_laws.proofs.Words.Written.{MeaningLaws, IsMeantByList, with_built_ins}
+use Rattle.apollo_schema_laws.proofs.Words.Written.{IsMeantByList, with_built_ins}
 use Rattle.apollo_schema_laws.proofs.Lists.{first_of_each-again, new_to_these, each-both, each-from_map, passes}
 use Rattle.apollo_schema_laws.proofs.Items.{about, is_about, first-about, extensions-about, built_ins, built_in_names, about-built_ins, first-built_in, first-unmarked, handed, later_items, whole-split, each-entry, values-by_keys, defined_names, defined_names-append, names-of_first, among-defined, first-key, Fits, fits-of_kind}
 use Rattle.apollo_schema_laws.proofs.Types.{numbers_of, numbers-rise, rising-distinct, IsAgain, made, rebuilt, definition-own, written, definition_part, extension_of, kind-body, held_items, extension_items, about-types, defines-types, IsMadeBy}
+use Rattle.apollo_meaning.proofs.Items.ItemLemmas.{first-append}
+use Rattle.apollo_meaning.proofs.Order.FoldedLemmas.{folded-of_name}
+use Rattle.apollo_meaning.proofs.Order.FoldingLemmas.{type_location-from, type_name-from}
+use Rattle.apollo_meaning.proofs.Types.NameLemmas.{type_names-first}
 
 -- a type of a list is made of its name's first definition
 pub record IsMeant (xs : List ListItem) (n : List ℕ) (t : ExtendedType) : Type 0 where
@@ -32,21 +36,21 @@ module _ (start : ℕ) (xs : List ListItem) (types : List (NameView × ExtendedT
   unmeant n h = option_cases (first xs n) (λ e. e) (λ d e.
       absurd (let f : Some (type_from d (parts start (folding_order xs) n d)) ≡ None = sym (ap (option_map (λ d. type_from d (parts start (folding_order xs) n d))) e) ∙ sym (are.each n) ∙ h in cc))
 
-module _ (laws : MeaningLaws) (start : ℕ) (xs : List ListItem) (types : List (NameView × ExtendedType)) (are : AreTypesOf start (folding_order xs) xs types) where
+module _ (start : ℕ) (xs : List ListItem) (types : List (NameView × ExtendedType)) (are : AreTypesOf start (folding_order xs) xs types) where
   pub unique : HasUniqueKeys same_text types
-  unique = subst (IsDistinct same_text) (sym (are.names ∙ laws.names xs)) (first_of_each-distinct same_text (defined_names xs))
+  unique = subst (IsDistinct same_text) (sym (are.names ∙ type_names-first xs)) (first_of_each-distinct same_text (defined_names xs))
 
   -- each type has the name that it stands under
   pub own_names : AllByRecursion (λ e. type_name e.1 ≡ e.0) types
   own_names =
       each-both (λ e. option_map (λ d. d.name) (first xs e.0.text) ≡ Some e.0) (λ e. lookup (by_text e.0.text) types ≡ Some e.1) (λ e. type_name e.1 ≡ e.0) one types
-      (each-from_map (λ k. option_map (λ d. d.name) (first xs k.text) ≡ Some k) (λ e. e.0) types (subst (AllByRecursion (λ k. option_map (λ d. d.name) (first xs k.text) ≡ Some k)) (sym are.names) (names-of_first laws xs)))
+      (each-from_map (λ k. option_map (λ d. d.name) (first xs k.text) ≡ Some k) (λ e. e.0) types (subst (AllByRecursion (λ k. option_map (λ d. d.name) (first xs k.text) ≡ Some k)) (sym are.names) (names-of_first xs)))
       (each-entry types unique)
     where
       one : (e : NameView × ExtendedType) → option_map (λ d. d.name) (first xs e.0.text) ≡ Some e.0 → lookup (by_text e.0.text) types ≡ Some e.1 → type_name e.1 ≡ e.0
       one e name found =
           let m : IsMeant xs e.0.text e.1 = meant start xs types are e.0.text e.1 found in
-          ap type_name m.made_of.is ∙ laws.name m.made_of.head _ ∙ ap (λ o. unwrap_or o e.0) (sym (ap (option_map (λ (d : TypePart). d.name)) m.first_one) ∙ name)
+          ap type_name m.made_of.is ∙ type_name-from m.made_of.head _ ∙ ap (λ o. unwrap_or o e.0) (sym (ap (option_map (λ (d : TypePart). d.name)) m.first_one) ∙ name)
 
 -- items that say nothing of types
 abbrev pub IsQuiet : ListItem → Type 0
@@ -64,7 +68,7 @@ extends-quiet [] q = refl
 extends-quiet (x ∷ xs) q = rw q.0.1 (extends-quiet xs q.1)
 
 -- the types of a list of which nothing but its head is built in
-module _ (laws : MeaningLaws) (schema : Schema) (list : IsMeantByList schema) where
+module _ (schema : Schema) (list : IsMeantByList schema) where
   open list use {start, adopts, more}
 
   abbrev xs : List ListItem
@@ -77,7 +81,7 @@ module _ (laws : MeaningLaws) (schema : Schema) (list : IsMeantByList schema) wh
   are = list.means.types
 
   first-split : (n : List ℕ) → first xs n ≡ option_or (first built_ins n) (first (later_items adopts more) n)
-  first-split n = ap (λ l. first l n) (whole-split adopts more) ∙ laws.joined built_ins (later_items adopts more) n
+  first-split n = ap (λ l. first l n) (whole-split adopts more) ∙ first-append built_ins (later_items adopts more) n
 
   module _ (n : List ℕ) (t : ExtendedType) (found : lookup (by_text n) types ≡ Some t) where
     abbrev m : IsMeant xs n t
@@ -87,10 +91,10 @@ module _ (laws : MeaningLaws) (schema : Schema) (list : IsMeantByList schema) wh
     is-made = m.made_of
 
     location : type_location t ≡ m.made_of.head.location
-    location = ap type_location m.made_of.is ∙ laws.location m.made_of.head _
+    location = ap type_location m.made_of.is ∙ type_location-from m.made_of.head _
 
     pub key : same n (type_name t).text ≡ true
-    key = ap (λ (k : NameView). same n k.text) (ap type_name m.made_of.is ∙ laws.name m.made_of.head _) ∙ first-key n (filter_map defined_part xs) m.made_of.head m.first_one
+    key = ap (λ (k : NameView). same n k.text) (ap type_name m.made_of.is ∙ type_name-from m.made_of.head _) ∙ first-key n (filter_map defined_part xs) m.made_of.head m.first_one
 
     -- its location is marked built-in where its name is that of a built-in type
     marked-where : (o : Option TypePart) → first built_ins n ≡ o → is_built_in (type_location t) ≡ is_some o
@@ -116,7 +120,7 @@ module _ (laws : MeaningLaws) (schema : Schema) (list : IsMeantByList schema) wh
   -- entries are marked built-in where built-in names have theirs
   marked : AllByRecursion (λ e. is_built_in (type_location e.1) ≡ list_any (same_text e.0) built_in_names) types
   marked = each-weaken (λ e. lookup (by_text e.0.text) types ≡ Some e.1) (λ e. is_built_in (type_location e.1) ≡ list_any (same_text e.0) built_in_names)
-      (λ e found. marked-where e.0.text e.1 found (first built_ins e.0.text) refl ∙ sym (among-defined e.0 built_ins)) types (each-entry types (unique laws start xs types are))
+      (λ e found. marked-where e.0.text e.1 found (first built_ins e.0.text) refl ∙ sym (among-defined e.0 built_ins)) types (each-entry types (unique start xs types are))
 
   -- what a name's part of the written list is
   module _ (c : Bool) (others ends : List ListItem) (quiet : AllByRecursion IsQuiet others) (quiet_end : AllByRecursion IsQuiet ends) where
@@ -125,7 +129,7 @@ module _ (laws : MeaningLaws) (schema : Schema) (list : IsMeantByList schema) wh
 
     view : (n : List ℕ) → about (TypeNamed n) again_items ≡ about (TypeNamed n) built_ins ++ option_map_or (held_items c) (lookup (by_text n) types) []
     view n =
-        simp (filter-append (is_about (TypeNamed n)), about-quiet n ends quiet_end, about-quiet n others quiet, about-types c n types (unique laws start xs types are) (own_names laws start xs types are), append-nil)
+        simp (filter-append (is_about (TypeNamed n)), about-quiet n ends quiet_end, about-quiet n others quiet, about-types c n types (unique start xs types are) (own_names start xs types are), append-nil)
 
     pub view-nothing : (n : List ℕ) → lookup (by_text n) types ≡ None → about (TypeNamed n) again_items ≡ []
     view-nothing n none =
@@ -160,14 +164,14 @@ module _ (laws : MeaningLaws) (schema : Schema) (list : IsMeantByList schema) wh
       numbers-again : (again : ℕ) → map (λ e. e.1) (numbers_of n again (folding_order again_items)) ≡ map (extension_of t) (written t).extensions
       numbers-again again =
           sym (map-map (λ (s : Sourced). s.1) extension_part (numbers_of n again (folding_order again_items)))
-          ∙ laws.folded again again_items n (record (definition_part t) { ignorable = flag }) first-again
+          ∙ folded-of_name again again_items n (record (definition_part t) { ignorable = flag }) first-again
           ∙ ap (of_kind (kind_of (definition_part t))) extensions-again
-          ∙ fits-of_kind laws.own_kind (record (definition_part t) { ignorable = flag }) (map (extension_of t) (written t).extensions) (fits (written t).extensions)
+          ∙ fits-of_kind (record (definition_part t) { ignorable = flag }) (map (extension_of t) (written t).extensions) (fits (written t).extensions)
 
     -- the same names are defined, in order
     pub names-again : type_names again_items ≡ keys_of types
     names-again =
-        laws.names again_items ∙ ap (first_of_each same_text) defined
+        type_names-first again_items ∙ ap (first_of_each same_text) defined
         ∙ first_of_each-again same_text name_laws built_in_names (defined_names (later_items adopts more)) (filter new (keys_of types)) (filter-all new (filter new (keys_of types)) (passes new (keys_of types)) ∙ ap (filter new) keys)
         ∙ sym keys
       where
@@ -175,10 +179,10 @@ module _ (laws : MeaningLaws) (schema : Schema) (list : IsMeantByList schema) wh
         new = new_to_these same_text built_in_names
 
         keys : keys_of types ≡ first_of_each same_text (built_in_names ++ defined_names (later_items adopts more))
-        keys = are.names ∙ laws.names xs ∙ ap (λ l. first_of_each same_text (defined_names l)) (whole-split adopts more) ∙ ap (first_of_each same_text) (defined_names-append built_ins (later_items adopts more))
+        keys = are.names ∙ type_names-first xs ∙ ap (λ l. first_of_each same_text (defined_names l)) (whole-split adopts more) ∙ ap (first_of_each same_text) (defined_names-append built_ins (later_items adopts more))
 
         defined : defined_names again_items ≡ built_in_names ++ filter new (keys_of types)
-        defined = simp (defined_names-append, defines-quiet ends quiet_end, defines-quiet others quiet, defines-types c built_in_names types (own_names laws start xs types are) marked, append-nil)
+        defined = simp (defined_names-append, defines-quiet ends quiet_end, defines-quiet others quiet, defines-types c built_in_names types (own_names start xs types are) marked, append-nil)
 
     module _ (again : ℕ) (types_again : List (NameView × ExtendedType)) (are_again : AreTypesOf again (folding_order again_items) again_items types_again) where
       -- each type is there again
@@ -187,7 +191,7 @@ module _ (laws : MeaningLaws) (schema : Schema) (list : IsMeantByList schema) wh
           let ms : List (ℕ × TypePart) = numbers_of n again (folding_order again_items) in (
             made (record (definition_part t) { ignorable = flag n t found }) ms,
             are_again.each n ∙ ap (option_map (λ d. type_from d (parts again (folding_order again_items) n d))) (first-again n t found),
-            rebuilt laws t (is-made n t found) (flag n t found) ms (rising-distinct again ms (numbers-rise n again (folding_order again_items))) (numbers-again n t found again),
+            rebuilt t (is-made n t found) (flag n t found) ms (rising-distinct again ms (numbers-rise n again (folding_order again_items))) (numbers-again n t found again),
           )
 
       -- and no other
@@ -210,6 +214,6 @@ module _ (laws : MeaningLaws) (schema : Schema) (list : IsMeantByList schema) wh
       -- and so is what they are written out as
       pub same_written : {X : Type 0} (give : ExtendedType → List X) → ((t u : ExtendedType) → IsAgain t u → give u ≡ give t) → flat_map give (values_of types_again) ≡ flat_map give (values_of types)
       same_written give alike =
-          values-by_keys give types_again (subst (IsDistinct same_text) (sym same_names) (unique laws start xs types are))
+          values-by_keys give types_again (subst (IsDistinct same_text) (sym same_names) (unique start xs types are))
           ∙ (λ i. flat_map (λ k. same-seen (λ o. option_map_or give o []) alike k.text i) (same_names i))
-          ∙ sym (values-by_keys give types (unique laws start xs types are))
+          ∙ sym (values-by_keys give types (unique start xs types are))

@@ -4,7 +4,7 @@ use Rattle.apollo_schema_laws.proofs.Words.Syntax.{is_built_in, NameView, Source
 use Rattle.apollo_schema_laws.proofs.Words.Types.{extension_location, ExtensionId, is_written, write_schema_definition, type_location, ExtendedType, SchemaDefinition, is_some_object, is_object, type_kind}
 use Rattle.apollo_schema_laws.proofs.Words.Meaning.{Directives, directive_definitions, is_handed_in, Defined, Extended, ListItem, Other, SchemaDefined, SchemaExtended, defined_schema, extended_part, extended_schema, first_schema, schema_extensions, SchemaPart, write_directives, adopted, adopted_by, NoSubject, Subject, TheSchema, TypeNamed}
 use Rattle.apollo_schema_laws.proofs.Words.Meaning.{extended_names, orphans_of, with_adopted, implicit_roots, implied_schema, is_object_name, adopting_schema, schema_for, extensions_of, first, Root, kind_of, same_kind, roots_in, folding_order, whole, AreTypesOf, Schema, directive_part}
-use Rattle.apollo_schema_laws.proofs.Words.Written.{MeaningLaws, IsMeantByList, with_built_ins}
+use Rattle.apollo_schema_laws.proofs.Words.Written.{IsMeantByList, with_built_ins}
 use Rattle.graphql_nodes.specs.declared.type_kind.TypeKind.TheVariants as kinds
 use Rattle.graphql_ast.specs.declared.definition.Definition.TheVariants as ast
 use Rattle.apollo_schema_laws.proofs.Lists.{each-flat_map, each-made, each-of, flat_map-none}
@@ -13,6 +13,8 @@ use Rattle.apollo_schema_laws.proofs.Types.{written, definition_part, extension_
 use Rattle.apollo_schema_laws.proofs.Definitions.{schema_extension_of, written_parts_of, roots_where, schema_node}
 use Rattle.apollo_schema_laws.proofs.Rebuild.TypesAgain.{IsQuiet, extends-quiet, again_items, first-again, meant, unmeant, view-nothing}
 use Rattle.apollo_schema_laws.proofs.Rebuild.DirectivesAgain.{written_directives}
+use Rattle.apollo_meaning.proofs.Items.ItemLemmas.{first-append}
+use Rattle.apollo_meaning.proofs.Order.FoldingLemmas.{type_kind-from}
 
 no-schema-built_in : about TheSchema built_ins ≡ []
 unfolding built_in_definitions
@@ -157,7 +159,7 @@ quiet-implied = by_implied (AllByRecursion IsQuiet) tt (λ s. ((refl, refl), tt)
 pub implied-directives : (ys : List ListItem) → directive_definitions (implied_schema true ys) ≡ []
 implied-directives = by_implied (λ l. directive_definitions l ≡ []) refl (λ s. refl) true
 
-module _ (laws : MeaningLaws) (schema : Schema) (list : IsMeantByList schema) (c : Bool) where
+module _ (schema : Schema) (list : IsMeantByList schema) (c : Bool) where
   open list use {start, adopts, more}
 
   abbrev types : List (NameView × ExtendedType)
@@ -186,16 +188,16 @@ module _ (laws : MeaningLaws) (schema : Schema) (list : IsMeantByList schema) (c
   quiet = each-append IsQuiet (schema_items c node.value node.location types) (directive_items (written_directives schema list))
       (schema-quiet c node.value node.location types) (directives-quiet (written_directives schema list))
 
-  pub alone : again_items laws schema list c others [] quiet tt ≡ Y
+  pub alone : again_items schema list c others [] quiet tt ≡ Y
   alone = append-nil Y
 
   pub first-nothing : (n : List ℕ) → lookup (by_text n) types ≡ None → about (TypeNamed n) Y ≡ []
-  first-nothing n none = ap (about (TypeNamed n)) (sym alone) ∙ view-nothing laws schema list c others [] quiet tt n none
+  first-nothing n none = ap (about (TypeNamed n)) (sym alone) ∙ view-nothing schema list c others [] quiet tt n none
 
   pub orphans-none : (n : List ℕ) → orphans_of Y n ≡ []
   orphans-none n =
       option_cases (lookup (by_text n) types) (λ e. ap (option_map_or (λ _. []) (first Y n)) (extensions-about n Y ∙ ap (λ l. extensions_of l n) (first-nothing n e)) ∙ grind arith)
-      (λ t e. ap (λ o. option_map_or (λ _. []) o (extensions_of Y n)) (ap (λ l. first l n) (sym alone) ∙ first-again laws schema list c others [] quiet tt n t e))
+      (λ t e. ap (λ o. option_map_or (λ _. []) o (extensions_of Y n)) (ap (λ l. first l n) (sym alone) ∙ first-again schema list c others [] quiet tt n t e))
 
   adopted-none : adopted Y ≡ []
   adopted-none = flat_map-none (λ n. adopted_by (orphans_of Y n)) (λ n. ap adopted_by (orphans-none n)) (extended_names Y)
@@ -216,15 +218,15 @@ module _ (laws : MeaningLaws) (schema : Schema) (list : IsMeantByList schema) (c
       (λ t e.
       let m = meant start xs types are n t e in
       ap (λ o. option_map_or (λ p. same_kind kinds.Object (kind_of p)) o false) (sym same_first ∙ m.first_one)
-      ∙ ap (same_kind kinds.Object) (sym (ap type_kind m.made_of.is ∙ laws.kind m.made_of.head _)) ∙ sym (object-kind t) ∙ sym (ap is_some_object e))
+      ∙ ap (same_kind kinds.Object) (sym (ap type_kind m.made_of.is ∙ type_kind-from m.made_of.head _)) ∙ sym (object-kind t) ∙ sym (ap is_some_object e))
     where
       same_first : first xs n ≡ first W n
-      same_first = laws.joined W (implied_schema adopts W) n ∙ ap (λ o. option_or (first W n) o) (by_implied (λ l. first l n ≡ None) refl (λ s. refl) adopts W) ∙ or-none (first W n)
+      same_first = first-append W (implied_schema adopts W) n ∙ ap (λ o. option_or (first W n) o) (by_implied (λ l. first l n ≡ None) refl (λ s. refl) adopts W) ∙ or-none (first W n)
 
   object-again : (n : List ℕ) → is_object_name Y n ≡ is_some_object (lookup (by_text n) types)
   object-again n = option_cases (lookup (by_text n) types)
       (λ e. ap (λ o. option_map_or (λ p. same_kind kinds.Object (kind_of p)) o false) (first-about n Y ∙ ap (λ l. first l n) (first-nothing n e)) ∙ sym (ap is_some_object e))
-      (λ t e. ap (λ o. option_map_or (λ p. same_kind kinds.Object (kind_of p)) o false) (ap (λ l. first l n) (sym alone) ∙ first-again laws schema list c others [] quiet tt n t e)
+      (λ t e. ap (λ o. option_map_or (λ p. same_kind kinds.Object (kind_of p)) o false) (ap (λ l. first l n) (sym alone) ∙ first-again schema list c others [] quiet tt n t e)
       ∙ ap (same_kind kinds.Object) (kind-body (type_kind t) (written t).definition) ∙ sym (object-kind t) ∙ sym (ap is_some_object e))
 
   abbrev pub implied_here : List Root

@@ -3,7 +3,7 @@ use Rattle.apollo_schema_laws.proofs.Words.Lists.{◌≡◌, ℕ, Bool, true, fa
 use Rattle.apollo_schema_laws.proofs.Words.Syntax.{bare_name, entries_by_text, members_by_text, NameView, NodeView, by_text, same_text, lookup, values_of, TypeKind, bare_directive, bare_field_definition, bare_enum_value_definition, bare_input_value_definition, Directive, SourceSpan}
 use Rattle.apollo_schema_laws.proofs.Words.Types.{bare_component, same_key, Component, ComponentName, ComponentOrigin, BareType, bare_extended_type, type_kind, type_name, type_description, type_location, write_type, ExtendedType, Scalar, Object, Interface, Union, Enum, InputObject, each-first, name_laws, by_origin, Definition, PartsByOrigin, same_origin, first_of_each, of_origin, entry_laws}
 use Rattle.apollo_schema_laws.proofs.Words.Meaning.{TypePart, TypeBody, ScalarBody, ObjectBody, InterfaceBody, UnionBody, EnumBody, InputObjectBody, Sourced, body_fields, body_values, body_input_fields, fields_of, field_entry, input_fields_of, input_field_entry, value_entry, component, type_of_kind, type_from, extension_part, component_name, same_component_name, body_interfaces, body_members, distinct_names, distinct_entries}
-use Rattle.apollo_schema_laws.proofs.Words.Written.{Sections, HasSameComponents, sections_of, node_with_origin, name_with_origin, type_sections, HasEachNameOnce, HasWhatIsWritten, MeaningLaws}
+use Rattle.apollo_schema_laws.proofs.Words.Written.{Sections, HasSameComponents, sections_of, node_with_origin, name_with_origin, type_sections, HasEachNameOnce, HasWhatIsWritten}
 use Rattle.graphql_nodes.specs.declared.type_kind.TypeKind.TheVariants as kinds
 use Rattle.graphql_ast.specs.declared.type_system.EnumValueDefinition.{EnumValueDefinition}
 use Rattle.graphql_ast.specs.declared.type_system.FieldDefinition.{FieldDefinition}
@@ -15,6 +15,7 @@ use Rattle.apollo_schema_laws.proofs.Items.{HaveEachNameOnce}
 use Rattle.apollo_schema_laws.proofs.Types.WrittenParts.{written, definition_part, extension_of, part_from}
 use Rattle.apollo_schema_laws.proofs.Types.NamesOnce.{IsNamed, all-named, made-once, components-again, components-sections, same_parts, type-again}
 use Rattle.apollo_schema_laws.proofs.Types.TypeAgain.{directives_alone, numbered-distinct, numbered-written, numbered_parts, paired, paired-self, sourced_again, type_again, shown_in, shown-made, directives-numbered, has-what-is-written}
+use Rattle.apollo_meaning.proofs.Order.FoldingLemmas.{type_from-ignorable}
 
 -- what `==` compares of components of each sort
 abbrev directives_in : Sections → List Directive
@@ -149,13 +150,13 @@ module _ (head : TypePart) (es : List (ℕ × TypePart)) where
 pub once : (t : ExtendedType) → IsMadeBy made t → HasEachNameOnce (type_sections t)
 once t m = subst (λ u. HasEachNameOnce (type_sections u)) (sym m.is) (made-once m.head ((Definition, m.head) ∷ map extension_part m.extensions) m.head.body)
 
-module _ (laws : MeaningLaws) (t : ExtendedType) (m : IsMadeBy made t) where
+module _ (t : ExtendedType) (m : IsMadeBy made t) where
   named : HasNamedEntries t
   named = subst HasNamedEntries (sym m.is) (named-made m.head.body m.head ((Definition, m.head) ∷ map extension_part m.extensions))
 
   module _ (is : List ℕ) (many : length is ≡ length (written t).extensions) (apart : IsDistinct ◌==◌ is) where
     has : HasWhatIsWritten t (type_again t is)
-    has = has-what-is-written laws t (once t m) is many apart
+    has = has-what-is-written t (once t m) is many apart
 
     -- directives keep their order
     same_directives : map (λ d. d.1) (type_sections (type_again t is)).directives ≡ map (λ d. d.1) (type_sections t).directives
@@ -182,7 +183,7 @@ module _ (laws : MeaningLaws) (t : ExtendedType) (m : IsMadeBy made t) where
       let many : length is ≡ length (written t).extensions =
       length-map es (λ e. e.0) ∙ sym (length-map es (λ e. e.1)) ∙ ap length written_parts ∙ length-map (written t).extensions (extension_of t) in
       let made_again : made (record (definition_part t) { ignorable = b }) es ≡ type_again t is =
-      laws.ignorable (definition_part t) b (map extension_part es)
+      type_from-ignorable (definition_part t) b (map extension_part es)
       ∙ ap (λ l. type_from (definition_part t) ((Definition, definition_part t) ∷ l))
       (ap (map extension_part) (paired-self es ∙ ap (paired is) written_parts) ∙ numbered-written (λ (p : TypePart). p.location) (λ s d. part_from (type_kind t) s (type_name t) None d) (λ s d. refl) is (written t).extensions) in
       subst (IsAgain t) (sym made_again) (again is many apart)

@@ -3,11 +3,12 @@ use Rattle.apollo_schema_laws.proofs.Words.Lists.{◌≡◌, ℕ, ◌+◌, ◌�
 use Rattle.apollo_schema_laws.proofs.Words.Syntax.{same, SourceSpan, NodeView, Directive, DefinitionParts, NameView, same_text, values_of}
 use Rattle.apollo_schema_laws.proofs.Words.Types.{ComponentOrigin, Extension, extension_id, extension_location, same_id, ExtensionId, by_origin, of_origin, identities, origins_in, Component, ComponentName, Definition, PartsByOrigin, type_kind, type_components, ExtendedType, Scalar, Object, Interface, Union, Enum, InputObject}
 use Rattle.apollo_schema_laws.proofs.Words.Meaning.{Folding, OfType, OfSchema, TypePart, SchemaPart, key_of, of_schema, of_type, Sourced, component, component_name, field_entry, value_entry, input_field_entry, body_interfaces, body_members, body_fields, body_values, body_input_fields, sourced_directives, distinct_names, distinct_entries, type_from}
-use Rattle.apollo_schema_laws.proofs.Words.Written.{placed, MeaningLaws, in_sections, with_origins, joined, sections_of, node_with_origin, name_with_origin, type_sections, HasWhatIsWritten, HasEachNameOnce}
+use Rattle.apollo_schema_laws.proofs.Words.Written.{placed, in_sections, with_origins, joined, sections_of, node_with_origin, name_with_origin, type_sections, HasWhatIsWritten, HasEachNameOnce}
 use Rattle.apollo_schema_laws.proofs.Lists.{distinct-by_keys, keys-distinct, map-each, all-first}
 use Rattle.apollo_schema_laws.proofs.Sections.{written-keeps, of_origin-sections, parts_in}
 use Rattle.apollo_schema_laws.proofs.Types.WrittenParts.{written, definition_part, extension_of, kind-body}
 use Rattle.apollo_schema_laws.proofs.Types.NamesOnce.{IsNamed, all-named, once-kept, components-sections, same-located}
+use Rattle.apollo_meaning.proofs.Order.FoldingLemmas.{type_description-from, type_kind-from, type_location-from, type_name-from}
 
 -- numbers that rise from this one
 abbrev pub Rises : {X : Type 0} → ℕ → List (ℕ × X) → Type 0
@@ -233,12 +234,12 @@ sections-again t is once = (λ i. record {
 })
 
 -- so it has what is written of the first type
-pub has-what-is-written : MeaningLaws → (t : ExtendedType) → HasEachNameOnce (type_sections t) → (is : List ℕ) → length is ≡ length (written t).extensions → IsDistinct ◌==◌ is → HasWhatIsWritten t (type_again t is)
-has-what-is-written laws t once is many apart = record {
-  kind = laws.kind (definition_part t) (sourced_again t is) ∙ kind-body (type_kind t) (written t).definition;
-  description = laws.description (definition_part t) (sourced_again t is);
-  name = laws.name (definition_part t) (sourced_again t is);
-  location = laws.location (definition_part t) (sourced_again t is);
+pub has-what-is-written : (t : ExtendedType) → HasEachNameOnce (type_sections t) → (is : List ℕ) → length is ≡ length (written t).extensions → IsDistinct ◌==◌ is → HasWhatIsWritten t (type_again t is)
+has-what-is-written t once is many apart = record {
+  kind = type_kind-from (definition_part t) (sourced_again t is) ∙ kind-body (type_kind t) (written t).definition;
+  description = type_description-from (definition_part t) (sourced_again t is);
+  name = type_name-from (definition_part t) (sourced_again t is);
+  location = type_location-from (definition_part t) (sourced_again t is);
   parts = parts_again t is;
   definition = refl;
   extensions = renumbered-placed is (written t).extensions many;

@@ -5,9 +5,8 @@ use Rattle.apollo_schema_laws.proofs.write_out.equal_write_outs_have_equal_schem
 
 pub returns : goal.returns
 returns c = λ schema other m o alike.
-    let laws = c.laws_of_lists.ensures in
-    let first = rebuilds laws schema m false 0 in
-    let second = rebuilds laws other o false 0 in
-    sym (equal laws schema m false 0 first.0 first.1)
+    let first = rebuilds schema m false 0 in
+    let second = rebuilds other o false 0 in
+    sym (equal schema m false 0 first.0 first.1)
     ∙ c.equal_lists.ensures.schemas true (written_again false schema) (written_again false other) (equal-again false schema other alike) 0 0 first.0 second.0 first.1 second.1
-    ∙ equal laws other o false 0 second.0 second.1
+    ∙ equal other o false 0 second.0 second.1
