@@ -7,6 +7,7 @@ pub mod KeySets
 pub mod KeyedHash
 pub mod KindTexts
 pub mod LineColumns
+pub mod LineIndexes
 pub mod LocationTexts
 pub mod NameRefusal
 pub mod NameSyntax
@@ -20,4 +21,5 @@ pub mod SameText
 pub mod Sources
 pub mod TableLending
 pub mod Tables
+pub mod VisibleTexts
 pub mod formers

@@ -27,9 +27,13 @@ line_of text offset = 1 + count_before (ends_line text) offset
 abbrev pub column_of : List ℕ → ℕ → ℕ
 column_of text offset = 1 + count_before (λ i. begins_char (slice_index text i) && nat_eq (line_of text i) (line_of text offset)) offset
 
+-- the line and column of an offset
+abbrev pub place_of : List ℕ → ℕ → LineColumn
+place_of text offset = record { line = line_of text offset; column = column_of text offset }
+
 -- the line and column of an offset, if it is within the text or at its end
 abbrev pub line_column_of : List ℕ → ℕ → Option LineColumn
-line_column_of text offset = cond (nat_le offset (length text)) (Some record { line = line_of text offset; column = column_of text offset }) None
+line_column_of text offset = cond (nat_le offset (length text)) (Some (place_of text offset)) None
 
 -- the line and column where a span starts, in the file of its number
 abbrev pub start_of : SourceSpan → Files → Option LineColumn

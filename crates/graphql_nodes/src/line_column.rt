@@ -33,15 +33,26 @@ pub fn begins_char(byte: u8) -> bool
     byte < 128 || byte >= 192
 }
 
-/// The line and column of an offset within a text, or at its end.
-fn counted(text: &[u8], offset: usize) -> LineColumn
-    requires { offset ≤ length text.now }
+impl LineColumn {
+    /// Where each text starts.
+    pub(crate) const FIRST: LineColumn = LineColumn { line: 1, column: 1 };
+}
+
+/// The line and column of an offset within a text, or at its end, counted on from an offset before, where this is its line
+/// and column.
+pub(crate) fn counted(text: &[u8], from: usize, start: LineColumn, offset: usize) -> LineColumn
+    requires forward { from ≤ offset }
+    requires within { offset ≤ length text.now }
+    requires line { start.line ≡ line_of text.now from }
+    requires column { start.column ≡ column_of text.now from }
     ensures line { result.line ≡ line_of text.now offset }
     ensures column { result.column ≡ column_of text.now offset }
 {
-    let mut line = 1;
-    let mut column = 1;
-    for at in 0..offset {
+    let LineColumn {
+        mut line,
+        mut column,
+    } = start;
+    for at in from..offset {
         if ends_line(text, at) {
             line += 1;
             column = 1;
@@ -65,7 +76,7 @@ impl SourceFile {
         if offset > bytes.len() {
             return None;
         }
-        Some(counted(bytes, offset))
+        Some(counted(bytes, 0, LineColumn::FIRST, offset))
     }
 }
 

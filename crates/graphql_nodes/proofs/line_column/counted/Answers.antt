@@ -8,13 +8,13 @@ reached : (text : List ℕ) (at line column : ℕ) → line ≡ line_of text at 
 reached text at line column e f = (e, f, rw e (line-le text at), rw f (column-le text at))
 
 pub loop-at-init : goal.loop-at-init
-loop-at-init c = (refl, refl, omega arith, omega arith)
+loop-at-init c = reached c.args.text.now c.args.from c.args.start.line c.args.start.column c.requires.line c.requires.column
 
 pub overflow_add-line : goal.overflow_add-line
-overflow_add-line c = omega (arith, c.loop-at.invariant.2, c.loop-at-test.true, c.requires)
+overflow_add-line c = omega (arith, c.loop-at.invariant.2, c.loop-at-test.true, c.requires.within)
 
 pub overflow_add-column : goal.overflow_add-column
-overflow_add-column c = omega (arith, c.loop-at.invariant.3, c.loop-at-test.true, c.requires)
+overflow_add-column c = omega (arith, c.loop-at.invariant.3, c.loop-at-test.true, c.requires.within)
 
 pub loop-at-preserved : goal.loop-at-preserved
 loop-at-preserved c =
@@ -35,10 +35,10 @@ loop-at-preserved c =
 
 pub returns-clause-line : goal.returns-clause-line
 returns-clause-line c =
-    let done : c.loop-at.at ≡ c.args.offset = omega (arith, c.loop-at.auto.at-end, c.loop-at-test.false) in
+    let done : c.loop-at.at ≡ c.args.offset = omega (arith, c.loop-at.auto.at-end, c.loop-at-test.false, c.requires.forward) in
     c.loop-at.invariant.0 ∙ ap (line_of c.args.text.now) done
 
 pub returns-clause-column : goal.returns-clause-column
 returns-clause-column c =
-    let done : c.loop-at.at ≡ c.args.offset = omega (arith, c.loop-at.auto.at-end, c.loop-at-test.false) in
+    let done : c.loop-at.at ≡ c.args.offset = omega (arith, c.loop-at.auto.at-end, c.loop-at-test.false, c.requires.forward) in
     c.loop-at.invariant.1 ∙ ap (column_of c.args.text.now) done
