@@ -1,3 +1,4 @@
+pub mod AddedDefinitions
 pub mod ArgumentAnswer
 pub mod ArgumentsByName
 pub mod Bare

@@ -3,6 +3,7 @@
 //! A tree is plain data. Cloning it shares its nodes, and comparing it leaves locations out.
 #![tactic(auto)]
 
+pub mod added_list;
 pub mod argument;
 pub mod definition;
 pub mod definition_parts;
