@@ -6,6 +6,7 @@
 
 pub mod collections;
 pub mod directive_location;
+mod kept_location;
 pub mod laws;
 pub mod line_column;
 pub mod name;
