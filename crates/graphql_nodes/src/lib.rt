@@ -29,6 +29,7 @@ pub use crate::collections::table::Table;
 pub use crate::collections::text::Text;
 pub use crate::directive_location::DirectiveLocation;
 pub use crate::line_column::LineColumn;
+pub use crate::name::seen_names::SeenNames;
 pub use crate::name::{InvalidNameError, Name, NameError, NamedType};
 pub use crate::named::Named;
 pub use crate::node::Node;
