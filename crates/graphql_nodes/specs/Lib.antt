@@ -5,6 +5,7 @@ pub mod Comparing
 pub mod ItemsLending
 pub mod KeySets
 pub mod KeyedHash
+pub mod KeptLocations
 pub mod KindTexts
 pub mod LineColumns
 pub mod LineIndexes

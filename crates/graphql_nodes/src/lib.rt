@@ -6,6 +6,7 @@
 
 pub mod collections;
 pub mod directive_location;
+mod kept_location;
 pub mod laws;
 pub mod line_column;
 pub mod line_index;
@@ -31,6 +32,7 @@ pub use crate::collections::text::Text;
 pub use crate::directive_location::DirectiveLocation;
 pub use crate::line_column::LineColumn;
 pub use crate::line_index::LineIndex;
+pub use crate::name::seen_names::SeenNames;
 pub use crate::name::{InvalidNameError, Name, NameError, NamedType};
 pub use crate::named::Named;
 pub use crate::node::Node;

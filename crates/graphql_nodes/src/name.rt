@@ -11,6 +11,8 @@ ghost use Rattle.std.proofs.Common.{rules, refl};
 ghost use Rattle.graphql_nodes.specs.NameSyntax.{IsName, IsNameStart, IsNameContinue};
 ghost use Rattle.graphql_nodes.specs.NameRefusal.{IsNameRefusal};
 
+pub mod seen_names;
+
 use crate::collections::text::Text;
 use crate::name_text::NameText;
 use crate::source::SourceSpan;

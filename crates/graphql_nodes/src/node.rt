@@ -6,6 +6,7 @@ ghost use Rattle.std.specs.Cmp.{on_equiv, on_per};
 ghost use Rattle.std.specs.Cmp.Rules.{hashing};
 ghost use Rattle.std.proofs.Common.{rules};
 
+use crate::kept_location::KeptLocation;
 use crate::source::{FileId, SourceSpan};
 use std::alloc::{AllocError, Global};
 use std::fmt;
@@ -15,7 +16,7 @@ use std::ops::Deref;
 use std::rc::Rc;
 
 struct Held<T> {
-    location: Option<SourceSpan>,
+    location: KeptLocation,
     value: T,
 }
 
@@ -33,7 +34,7 @@ impl<T: Clone + Drop> Clone for Held<T> {
 
     fn clone(&self) -> Result<Held<T>, AllocError> {
         Ok(Held {
-            location: self.location,
+            location: self.location.clone()?,
             value: self.value.clone()?,
         })
     }
@@ -83,7 +84,7 @@ impl<T> Node<T> {
         ensures { IfOk result (λ n. n ≡ record { value = value; location = location }) }
     {
         let held = Held {
-            location: location,
+            location: KeptLocation::new(alloc, location)?,
             value,
         };
         Ok(Node {
@@ -95,14 +96,14 @@ impl<T> Node<T> {
     pub fn location(&self) -> Option<SourceSpan>
         ensures { result ≡ self.now.location }
     {
-        self.shared.location
+        self.shared.location.get()
     }
 
     /// Whether the node has a location in the file of the built-in definitions, [`FileId::BUILT_IN`].
     pub fn is_built_in(&self) -> bool
         ensures { result ≡ is_built_in self.now.location }
     {
-        match self.shared.location {
+        match self.location() {
             Some(span) => span.file == FileId::BUILT_IN,
             None => false,
         }
@@ -112,7 +113,7 @@ impl<T> Node<T> {
     pub fn same_location<U: Drop>(&self, alloc: Global, value: U) -> Result<Node<U>, AllocError>
         ensures { IfOk result (λ n. n ≡ record { value = value; location = self.now.location }) }
     {
-        Node::new_opt_location(alloc, value, self.shared.location)
+        Node::new_opt_location(alloc, value, self.location())
     }
 }
 

@@ -3,6 +3,7 @@
 use crate::samples::PLACE;
 use crate::shown::is_shown;
 use crate::tables::expect_at;
+use graphql_nodes::name::seen_names::SeenNames;
 use graphql_nodes::name::{InvalidNameError, Name, NameError};
 use graphql_nodes::node::Node;
 use graphql_nodes::node_str::NodeStr;
@@ -74,6 +75,23 @@ fn names_carry_text_and_location_and_one_error_serves_their_nodes(rt: HostRuntim
     assert!(rt; matches!(is_field_kept(rt.alloc()), Ok(true)));
     assert!(rt; matches!(is_named(rt.alloc()), Ok(true)));
     assert!(rt; matches!(NameError::from(AllocError), NameError::Memory));
+}
+
+/// Whether each of the texts gets a name of it without a location, twice over, among those that were seen.
+fn are_seen(alloc: Global) -> Result<bool, AllocError> {
+    let mut seen = SeenNames::new(alloc, 0)?;
+    for (text, _) in TEXTS.iter().chain(TEXTS) {
+        let name = seen.name(alloc, text)?;
+        if (name.as_str(), name.location()) != (*text, None) {
+            return Ok(false);
+        }
+    }
+    Ok(true)
+}
+
+#[test]
+fn names_that_come_again_have_their_texts(rt: HostRuntime) {
+    assert!(rt; are_seen(rt.alloc()) == Ok(true));
 }
 
 /// Whether a copy of the refusal at another location is equal.

@@ -16,6 +16,13 @@ const BUILT_IN: SourceSpan = SourceSpan {
     end: 0,
 };
 
+/// A location that takes more than 32 bits.
+const FAR: SourceSpan = SourceSpan {
+    file: FileId(u64::MAX),
+    start: usize::MAX,
+    end: 0,
+};
+
 /// Whether a node of 7 is at this location, is shown as 7, and is equal to a node of 7 at none, and hashed the same.
 fn is_at(
     alloc: Global,
@@ -43,6 +50,7 @@ fn nodes_are_one_pointer_wide_and_equal_without_locations(rt: HostRuntime) {
     assert!(rt; is_at(alloc, None, false) == Ok(true));
     assert!(rt; is_at(alloc, Some(PLACE), false) == Ok(true));
     assert!(rt; is_at(alloc, Some(BUILT_IN), true) == Ok(true));
+    assert!(rt; is_at(alloc, Some(FAR), false) == Ok(true));
     assert!(rt; is_beside(alloc) == Ok(true));
     assert!(rt; are_equal(Node::new(alloc, 7), Node::new(alloc, 8)) == Some(false));
 }
