@@ -1,5 +1,5 @@
 //! The words of a text that are left to read. They are made one by one, as they are taken.
-ghost use Rattle.std.specs.Prelude.{◌≡◌, ◌-◌, [], length, Option, None, Some};
+ghost use Rattle.std.specs.Prelude.{◌≡◌, ◌-◌, [], length, IfOk, Option, None, Some};
 ghost use Rattle.graphql_grammar.specs.Kinds.{is_name, names_of, only};
 ghost use Rattle.graphql_grammar.specs.Pieces.{Gives, GivesSeen, take_sign, take_word};
 ghost use Rattle.graphql_grammar.specs.Standing.{before, standing, words_of_split};
@@ -11,8 +11,12 @@ use crate::fault::{FaultKind, ReadError};
 use crate::keywords::name_kind;
 use crate::kind::{Kind, Names};
 use crate::word::Word;
+use graphql_nodes::name::Name;
+use graphql_nodes::name::seen_names::SeenNames;
+use graphql_nodes::source::SourceSpan;
 use graphql_tokens::first::{FirstToken, first_token_of};
 use graphql_tokens::token::{TokenError, TokenErrorKind, TokenKind};
+use std::alloc::{AllocError, Global};
 
 /// The words of a text that are left, and where the last one before them ended.
 #[derive(Drop)]
@@ -26,6 +30,8 @@ pub struct Words<'a> {
     total: usize,
     /// How many words are allowed behind the next one.
     allowed: usize,
+    /// The names that were made of words, from the first one on.
+    seen: Option<SeenNames>,
 }
 
 /// A word, and what stands behind it.
@@ -144,6 +150,7 @@ impl<'a> Words<'a> {
             rest: text,
             total: text.len(),
             allowed,
+            seen: None,
         };
         words.advance();
         words
@@ -260,5 +267,25 @@ impl<'a> Words<'a> {
             }
             _ => Err(ReadError::Fault(fault)),
         }
+    }
+
+    /// The name of this text at this location. A name that comes again shares its text, where that is at hand.
+    /// The error is want of memory.
+    pub fn name(
+        &mut self,
+        alloc: Global,
+        text: &str,
+        location: SourceSpan,
+    ) -> Result<Name, AllocError>
+        ensures name { IfOk result (λ name. name ≡ record { text = text.now; location = Some location }) }
+        ensures stands { standing self.new ≡ standing self.old }
+    {
+        let mut seen = match self.seen.take() {
+            Some(seen) => seen,
+            None => SeenNames::new(alloc, self.total)?,
+        };
+        let name = seen.name(alloc, text);
+        self.seen = Some(seen);
+        Ok(name?.with_location(location))
     }
 }

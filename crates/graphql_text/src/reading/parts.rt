@@ -150,7 +150,7 @@ fn enum_value_name(target: Target, words: &mut Words<'_>) -> Result<Name, ReadEr
 {
     let fault = no_enum_value(words);
     let word = words.expect_name(Names::EnumValue, fault)?;
-    Ok(target.name_of(word)?)
+    Ok(target.name_of(words, word)?)
 }
 
 impl Read for Node<EnumValueDefinition> {

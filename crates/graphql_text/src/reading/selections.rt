@@ -82,7 +82,7 @@ pub(crate) fn fragment_name(target: Target, words: &mut Words<'_>) -> Result<Nam
         FaultKind::Expected(Item::Name)
     };
     let word = words.expect_name(Names::Fragment, fault)?;
-    Ok(target.name_of(word)?)
+    Ok(target.name_of(words, word)?)
 }
 
 #[tactic(auto, unfolding(graphql_productions::specs::Selections::spread_body))]

@@ -68,12 +68,12 @@ impl Target {
         Node::new_opt_location(self.alloc, value, Some(self.span(start, end)))
     }
 
-    /// The name that a word is.
-    pub(crate) fn name_of(self, word: Word<'_>) -> Result<Name, AllocError>
-        ensures { IfOk result (λ name. name ≡ name_of self.file (word_view word.entry)) }
+    /// The name that a word is, which was taken from these words.
+    pub(crate) fn name_of(self, words: &mut Words<'_>, word: Word<'_>) -> Result<Name, AllocError>
+        ensures name { IfOk result (λ name. name ≡ name_of self.file (word_view word.entry)) }
+        ensures stands { standing words.new ≡ standing words.old }
     {
-        let name = Name::new_unchecked(self.alloc, word.text)?;
-        Ok(name.with_location(self.span(word.start, word.end)))
+        words.name(self.alloc, word.text, self.span(word.start, word.end))
     }
 
     /// Reads a name.
@@ -82,7 +82,7 @@ impl Target {
         ensures { Gives result (standing words.new) ((name self.file).read (standing words.old)) }
     {
         let word = words.expect_name(Names::Any, FaultKind::Expected(Item::Name))?;
-        Ok(self.name_of(word)?)
+        Ok(self.name_of(words, word)?)
     }
 }
 
