@@ -5,7 +5,13 @@ from peg import TOP
 
 
 def pages():
+    """Those that are kept by hand."""
     return [TOP / "README.md", TOP / "CONTRIBUTING.md", *sorted(TOP.glob("docs/*.md")), TOP / "tools/README.md"]
+
+
+def made():
+    """The pages that tools/pages makes."""
+    return sorted(TOP.glob("docs/*/*.md"))
 
 
 def without_pieces(text):

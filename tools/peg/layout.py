@@ -1,0 +1,96 @@
+"""How the made pages are laid out."""
+import os
+import re
+
+from peg import TOP
+
+WIDTH = 100
+MADE = "<!-- Made by tools/pages from the sources. Change those, and run it again. -->"
+
+API = """What callers of `apollo_compiler` and `leafcheck` can name, each with its comment and its contract. A contract is proved of
+every call. Its clauses are logic; the comment above says the same in words. How to read them:
+
+- `ensures` says what holds once the call answers, `requires` what its caller owes.
+- `result` is what the call answers. `x.now` is what a borrowed `x` is, `x.old` what it was before the call.
+- `IfOk result (λ x. P)`: if the answer is `Ok x`, then `P`. `IfErr` says so of an `Err`. `OnOk` and `OnErr` leave out what is in it.
+- `≡` is equality, `×` and, `⊎` or, `→` implies or a function, `∷` the front of a list, `++` one list behind another.
+- The line of words below a contract leads to their [definitions](../definitions/README.md)."""
+
+LAWS = """What is proved beyond single calls. A law is an empty function: a proof cites it by a call, and finds its clauses there. The
+premises of each stand in it, behind `→`. What holds across calls, and what isn't promised, is in [PROMISES.md](../PROMISES.md)."""
+
+DEFINITIONS = """Contracts say what a call answers in words. Each word is defined in the `specs/` folder of a crate. Here stands each with the
+comment at its definition, and its type. What it is equal to is in the source."""
+
+
+def slug(heading):
+    """The anchor of a heading."""
+    return re.sub(r"[^\w\- ]", "", heading.lower()).replace(" ", "-")
+
+
+def joined(text):
+    return re.sub(r"\s+", " ", text).strip()
+
+
+def cell(text):
+    return text.replace("|", "\\|")
+
+
+def relative(path, folder):
+    """A path below `docs/`, from a page of this folder of it."""
+    return os.path.relpath(path, folder)
+
+
+def source(path, folder):
+    """A link to a source."""
+    shown = path.relative_to(TOP)
+    return f"[Source]({os.path.relpath(path, TOP / 'docs' / folder)}): `{shown}`."
+
+
+def fenced(lines, language):
+    return [f"```{language}", *lines, "```", ""]
+
+
+def depths(text):
+    """How many brackets are open at each sign of a text."""
+    depth = 0
+    for sign in text:
+        depth -= sign in ")}]"
+        yield depth
+        depth += sign in "({["
+
+
+def cut(text, sign):
+    """A text cut before each such sign that stands in no bracket."""
+    ends = [at for at, depth in enumerate(depths(text)) if depth == 0 and text.startswith(f" {sign} ", at)]
+    return [text[start + (start > 0) : end] for start, end in zip([0, *ends], [*ends, len(text)])]
+
+
+def inside(text):
+    """A text up to its last bracket, if that ends with it, and what stands in there; the name that it has there stays before."""
+    at = next((at for at, depth in enumerate(depths(text)) if depth == 0 and text[at] == "(" and closes(text, at)), -1)
+    found = at >= 0 and re.match(r"\(λ [^.]+\. ?", text[at:])
+    return (text[: at + found.end()].rstrip(), text[at + found.end() :]) if found else None
+
+
+def closes(text, at):
+    """Whether the bracket that opens at this sign closes at the end."""
+    return text.endswith(")") and next((to for to, depth in enumerate(depths(text)) if to > at and depth == 0), -1) == len(text) - 1
+
+
+def wrapped(text, indent):
+    """A clause, on as few lines as it wants: broken where it is joined outermost, and else at a blank."""
+    if len(indent) + len(text) <= WIDTH:
+        return [indent + text]
+    for sign in "→", "×", "≡":
+        first, *others = cut(text, sign)
+        if others:
+            return [*wrapped(first, indent), *(line for other in others for line in wrapped(other, indent + "  "))]
+    if inner := inside(text):
+        begin, body = inner
+        *lines, last = wrapped(body[:-1], indent + "  ")
+        return [indent + begin, *lines, last + ")"]
+    at = text.rfind(" ", 0, WIDTH - len(indent))
+    if at <= 0:
+        return [indent + text]
+    return [indent + text[:at], *wrapped(text[at + 1 :], indent if indent.endswith("      ") else indent + "  ")]
