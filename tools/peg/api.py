@@ -158,6 +158,16 @@ def title(home):
     return home.name if len(same) == 1 else "::".join(paths[0].split("::")[-2:])
 
 
+def heading(home):
+    """The heading of an item: a type has its kind before its name."""
+    kind = exports.declared_at(home).kind
+    return f"`{title(home)}`" if kind == "fn" else f"{kind.capitalize()} `{title(home)}`"
+
+
+def anchor(home):
+    return layout.slug(heading(home))
+
+
 @functools.cache
 def anchors():
     """Where each item and method stands: by its last two names, and by its last one."""
@@ -166,11 +176,11 @@ def anchors():
         item = exports.declared_at(home)
         at = f"{folder}/{page.name}.md"
         members = [method for _, _, method in methods(home)] if item.kind in ("struct", "enum", "type") else item.members
-        found.setdefault(home.name, []).append((home, f"{at}#{layout.slug(title(home))}"))
+        found.setdefault(home.name, []).append((home, f"{at}#{anchor(home)}"))
         for name in (f"{home.name}::{member.name}" for member in members if member.kind == "fn"):
             found.setdefault(name, []).append((home, f"{at}#{layout.slug(name)}"))
         for name in (f"{home.name}::{member.name}" for member in item.members if member.kind == "part"):
-            found.setdefault(name, []).append((home, f"{at}#{layout.slug(home.name)}"))
+            found.setdefault(name, []).append((home, f"{at}#{anchor(home)}"))
     return found
 
 
@@ -223,9 +233,9 @@ def known_words(path):
     return found
 
 
-def function(item, heading, path, folder, crate, block="", level="###"):
+def function(item, name, path, folder, crate, block="", level="###"):
     """A function as it is to be read."""
-    yield from (f"{level} `{heading}`", "")
+    yield from (f"{level} `{name}`", "")
     yield from layout.fenced([*([f"// {block}"] if "<" in block else []), item.head], "rust")
     if item.comment:
         yield from (linked(item.comment, folder, crate), "")
@@ -261,7 +271,7 @@ def parts(item, folder, crate):
 def type_page(home, paths, folder):
     """A type, a trait or a constant as it is to be read, with its methods."""
     item, path = exports.declared_at(home), exports.file_of(home)
-    yield from (f"## `{title(home)}`", "")
+    yield from (f"## {heading(home)}", "")
     if item.comment:
         yield from (linked(item.comment, folder, home.crate), "")
     yield from layout.fenced(shape(item), "rust")
@@ -301,7 +311,7 @@ def page_lines(page, folder):
 def contents(kinds):
     yield from ("| name | what it is |", "|---|---|")
     for item, home, _ in sorted(kinds, key=lambda it: it[0].kind != "fn"):
-        yield f"| [`{title(home)}`](#{layout.slug(title(home))}) | {layout.cell(first_sentence(item.comment))} |"
+        yield f"| [`{title(home)}`](#{anchor(home)}) | {layout.cell(first_sentence(item.comment))} |"
     yield ""
 
 
@@ -326,16 +336,16 @@ def law_lines(page, folder):
                 yield from (f"Path: `{paths[home][0]}`.", "")
 
 
-def index(folder, heading, pages, said):
+def index(folder, name, pages, said):
     """The first page of a folder: each page by its title, with what stands on it."""
-    yield from (f"# {heading}", "", layout.MADE, "", said, "")
+    yield from (f"# {name}", "", layout.MADE, "", said, "")
     for page in pages:
         its = [home for home, (at, its_page, _) in placed().items() if (at, its_page) == (folder, page)]
         yield from (f"## [{page.title}]({page.name}.md)", "", "| name | what it is |", "|---|---|")
         for home in its:
             item = exports.declared_at(home)
             yield (
-                f"| [`{title(home)}`]({page.name}.md#{layout.slug(title(home))}) "
+                f"| [`{title(home)}`]({page.name}.md#{anchor(home)}) "
                 f"| {layout.cell(first_sentence(item.comment))} |"
             )
         yield ""

@@ -22,6 +22,10 @@ premises of each stand in it, behind `→`. What holds across calls, and what is
 DEFINITIONS = """Contracts say what a call answers in words. Each word is defined in the `specs/` folder of a crate. Here stands each with the
 comment at its definition, and its type. What it is equal to is in the source."""
 
+FAULTS = """What `peglinden` reports, with GraphQL that gives it, what is left out, and how to mend it. What stands in braces in a heading is
+a name. With `--json` the member `kind` of a fault is the name of its variant. Each report here is of a run: the cases are in
+[tools/cases](../tools/cases)."""
+
 
 def slug(heading):
     """The anchor of a heading."""

@@ -1,0 +1,209 @@
+"""The page `docs/FAULTS.md`: each fault and each refusal, from the cases of `tools/cases` and the sentences of its file `mends`."""
+import functools
+import re
+from typing import NamedTuple
+
+from peg import CRATES, TOP, api, declared, layout
+
+CASES = TOP / "tools/cases"
+WIDTH = 150
+PLACE = re.compile(r"^ *--> (.+):(\d+):\d+$", re.MULTILINE)
+
+
+# What the names of fields are called in headings.
+CALLED = {
+    "0": "name",
+    "describe": "what it is",
+    "describe_def": "another kind",
+    "describe_ext": "an extension of a kind",
+    "field_name": "field",
+    "fragment_name": "fragment",
+    "name_at_previous_location": "name",
+    "operation_type": "operation",
+    "shown": "character",
+    "type_name": "type",
+}
+
+
+class Kind(NamedTuple):
+    """A section of the page: its heading, what is said below it, and the enum whose variants stand there, with its file."""
+
+    heading: str
+    said: str
+    enum: str
+    file: str
+
+
+KINDS = [
+    Kind(
+        "Faults of a schema",
+        "`peglinden schema` and `check` report them. What is left out is not in the schema; all else is.",
+        "BuildError",
+        "apollo_meaning/src/build_error.rt",
+    ),
+    Kind(
+        "Faults of a document",
+        "`peglinden check`, `typed` and `fields` report them. What is left out is not in the typed document; all else is.",
+        "BuildError",
+        "apollo_document/src/build_error.rt",
+    ),
+    Kind("Faults of leaf fields", "`peglinden check` reports them.", "LeafKind", "leafcheck/src/leaf_fault.rt"),
+    Kind(
+        "Text that is refused",
+        "Reading stops at the first thing that is wrong. Nothing is then known of the file, and the program ends with status 2.",
+        "ParseErrorKind",
+        "graphql_text/src/parse_error.rt",
+    ),
+    Kind(
+        "Coordinates that point to nothing",
+        "`peglinden lookup` reports them.",
+        "SchemaLookupError",
+        "apollo_coordinate/src/lookup_answers.rt",
+    ),
+]
+
+
+class Report(NamedTuple):
+    """What a case reports of one thing: the case, its first line without `error: `, and all its lines."""
+
+    case: str
+    sentence: str
+    text: str
+
+    @property
+    def folder(self):
+        return CASES / self.case
+
+
+def rank(report):
+    """Which report of a fault is shown: one of whole lines, with an earlier place of its own, the shortest."""
+    pieces, places = shown(report), PLACE.findall(report.text)
+    is_plain = all(piece.strip() and piece == visible(piece) for piece in pieces)
+    return not is_plain, len(places) > len({*places}), sum(map(len, pieces)), report.case
+
+
+@functools.cache
+def reports():
+    """The reports of all cases, those first that are good to read."""
+    found = []
+    for file in sorted(CASES.glob("*/errors")):
+        for text in re.split(r"\n\n(?=error: |\d+ faults?\n)", file.read_text(errors="replace").rstrip("\n") + "\n"):
+            if text.startswith("error: "):
+                sentence, _, _ = text.removeprefix("error: ").partition("\n")
+                found.append(Report(file.parent.name, sentence, text.rstrip("\n")))
+    return sorted(found, key=rank)
+
+
+@functools.cache
+def mends():
+    """The entries of the file `mends`: of each the parts, by their names."""
+    text = re.sub(r"^#.*\n", "", (CASES / "mends").read_text(), flags=re.MULTILINE)
+    entries = (entry.split("\n") for entry in text.strip().split("\n\n"))
+    return {name: dict(line.split(": ", 1) for line in lines) for name, *lines in entries}
+
+
+def shown(report):
+    """The pieces of GraphQL that a report is about: those lines around each of its places that no empty line divides."""
+    found = {}
+    for name, number in PLACE.findall(report.text):
+        lines = (report.folder / ("input" if name == "-" else name)).read_bytes().decode(errors="replace").split("\n")
+        at = min(int(number), len(lines)) - 1
+        while at > 0 and not lines[at].strip():
+            at -= 1
+        first = last = at
+        while first > 0 and lines[first - 1].strip():
+            first -= 1
+        while last + 1 < len(lines) and lines[last + 1].strip():
+            last += 1
+        found.setdefault((name, first), "\n".join(lines[first : last + 1]))
+    return [text for _, text in sorted(found.items())]
+
+
+def visible(text):
+    """A text with its control characters as pictures, and long lines cut."""
+    text = re.sub(r"[\x00-\x08\x0b-\x1f]", lambda it: chr(0x2400 + ord(it[0])), text)
+    return "\n".join(line if len(line) <= WIDTH else f"{line[:WIDTH]} .." for line in text.split("\n"))
+
+
+def variants(kind):
+    """The variants of an enum that say something, with the sentence of each."""
+    item = next(it for it in declared.items(CRATES / kind.file) if it.name == kind.enum)
+    for part in item.members:
+        said = re.search(r'#\[error\("((?:[^"\\]|\\.)*)"', " ".join(part.attributes))
+        if said:
+            yield part, said[1]
+
+
+def called(sentence):
+    return re.sub(r"\{(\w+)\}", lambda it: f"{{{CALLED.get(it[1], it[1])}}}", sentence)
+
+
+def pattern(sentence):
+    """What a report of this sentence says: anything where a name stands, and what it is said of before."""
+    return re.compile("(?:`.*`:? (?:points to nothing: )?)?" + re.sub(r"\\\{[^}]*\\\}", ".+", re.escape(sentence)))
+
+
+def report_of(sentence):
+    like = pattern(sentence)
+    return next((report for report in reports() if like.fullmatch(report.sentence)), None)
+
+
+def example(report):
+    """A report with the GraphQL that it is about, or else with the words that it answers to."""
+    pieces = shown(report)
+    if pieces:
+        yield from layout.fenced([visible("\n\n".join(pieces))], "graphql")
+    else:
+        words = (report.folder / "words").read_text().split()
+        yield from layout.fenced([f"peglinden {' '.join(words)}"], "text")
+    yield from layout.fenced([visible(report.text)], "text")
+    schemas = re.findall(r"^--schema\n(.*)$", (report.folder / "words").read_text(), re.MULTILINE)
+    paths = [(report.folder / path).resolve().relative_to(TOP) for path in schemas]
+    over = " and ".join(f"[{path.name}](../{path})" for path in paths)
+    yield from (f"The case: [{report.case}](../tools/cases/{report.case}){f', over {over}' if over else ''}.", "")
+
+
+def sentences(entry):
+    yield from (f"{name}: {said}\n" for name, said in entry.items())
+
+
+def pages():
+    """The page, by its path below `docs/`."""
+    yield "FAULTS.md", page()
+
+
+def page():
+    yield from ("# Faults and refusals", "", layout.MADE, "", layout.FAULTS, "")
+    for kind in KINDS:
+        yield from (f"## {kind.heading}", "", kind.said, "")
+        crate = kind.file.split("/")[0]
+        for part, sentence in variants(kind):
+            name = f"{kind.enum}::{part.name}"
+            yield from (f"### {called(sentence)}", "", f"{api.linked(f'[`{name}`]', '.', crate)}. {api.linked(part.comment, '.', crate)}", "")
+            if report := report_of(sentence):
+                yield from example(report)
+            yield from sentences(mends().get(name, {}))
+    yield from ("## What else is refused", "")
+    for name, entry in mends().items():
+        if name.startswith("case "):
+            report = next(it for it in reports() if it.case == name.removeprefix("case "))
+            yield from (f"### {report.sentence}", "")
+            yield from example(report)
+            yield from sentences(entry)
+
+
+def findings():
+    """None for each variant that has an entry, and a case or a reason why there is none, and else what is wanting."""
+    known = set()
+    for kind in KINDS:
+        for part, sentence in variants(kind):
+            name = f"{kind.enum}::{part.name}"
+            known.add(name)
+            entry = mends().get(name)
+            if entry is None:
+                yield f"tools/cases/mends: no entry for {name}"
+            elif (report_of(sentence) is None) != ("Not shown" in entry):
+                yield f"tools/cases: {name} is to have a case, or else a line `Not shown` in mends, and not both"
+            else:
+                yield None
+    yield from (f"tools/cases/mends: nothing is called {name}" for name in mends() if name not in known and name[:5] != "case ")
