@@ -353,7 +353,7 @@ def index(folder, name, pages, said):
 
 def pages():
     """The pages of both folders, by their paths below `docs/`."""
-    yield "api/README.md", index("api", "The API", PAGES, layout.API)
-    yield "laws/README.md", index("laws", "The laws", LAWS, layout.LAWS)
+    yield "api/README.md", index("api", "The API", PAGES, layout.head("api"))
+    yield "laws/README.md", index("laws", "The laws", LAWS, layout.head("laws"))
     yield from ((f"api/{page.name}.md", page_lines(page, "api")) for page in PAGES)
     yield from ((f"laws/{page.name}.md", law_lines(page, "laws")) for page in LAWS)

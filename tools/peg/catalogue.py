@@ -173,7 +173,7 @@ def pages():
 
 
 def page():
-    yield from ("# Faults and refusals", "", layout.MADE, "", layout.FAULTS, "")
+    yield from ("# Faults and refusals", "", layout.MADE, "", layout.head("faults"), "")
     for kind in KINDS:
         yield from (f"## {kind.heading}", "", kind.said, "")
         crate = kind.file.split("/")[0]

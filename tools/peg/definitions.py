@@ -57,7 +57,7 @@ def page(crate):
 
 def index():
     """The first page: each crate and its modules, and an index of all words."""
-    yield from ("# Definitions", "", layout.MADE, "", layout.DEFINITIONS, "")
+    yield from ("# Definitions", "", layout.MADE, "", layout.head("definitions"), "")
     for crate in crates():
         yield from (f"## [{crate}]({crate}.md)", "", f"{about().get(crate, '')}", "", "| module | what it defines |", "|---|---|")
         for name, path, _ in modules(crate):

@@ -7,24 +7,10 @@ from peg import TOP
 WIDTH = 100
 MADE = "<!-- Made by tools/pages from the sources. Change those, and run it again. -->"
 
-API = """What callers of `apollo_compiler` and `leafcheck` can name, each with its comment and its contract. A contract is proved of
-every call. Its clauses are logic; the comment above says the same in words. How to read them:
 
-- `ensures` says what holds once the call answers, `requires` what its caller owes.
-- `result` is what the call answers. `x.now` is what a borrowed `x` is, `x.old` what it was before the call.
-- `IfOk result (λ x. P)`: if the answer is `Ok x`, then `P`. `IfErr` says so of an `Err`. `OnOk` and `OnErr` leave out what is in it.
-- `≡` is equality, `×` and, `⊎` or, `→` implies or a function, `∷` the front of a list, `++` one list behind another.
-- The line of words below a contract leads to their [definitions](../definitions/README.md)."""
-
-LAWS = """What is proved beyond single calls. A law is an empty function: a proof cites it by a call, and finds its clauses there. The
-premises of each stand in it, behind `→`. What holds across calls, and what isn't promised, is in [PROMISES.md](../PROMISES.md)."""
-
-DEFINITIONS = """Contracts say what a call answers in words. Each word is defined in the `specs/` folder of a crate. Here stands each with the
-comment at its definition, and its type. What it is equal to is in the source."""
-
-FAULTS = """What `peglinden` reports, with GraphQL that gives it, what is left out, and how to mend it. What stands in braces in a heading is
-a name. With `--json` the member `kind` of a fault is the name of its variant. Each report here is of a run: the cases are in
-[tools/cases](../tools/cases)."""
+def head(name):
+    """What is said by hand at the head of a page or of the first page of a folder."""
+    return (TOP / "tools/heads" / f"{name}.md").read_text().rstrip("\n")
 
 
 def slug(heading):
