@@ -143,12 +143,11 @@ def head_comment(path, sign="//!"):
 
 
 def imports(text):
-    """The words that a source takes from the `specs/` of crates, with the crate and the module of each."""
-    found = {}
-    for crate, module, words in re.findall(r"\buse Rattle\.(\w+)\.specs\.([\w.]+)\.\{([^}]*)\}", text):
-        for word in words.split(","):
-            found[word.split(" as ")[-1].strip()] = (crate, module, word.split(" as ")[0].strip())
-    return found
+    """The words that a source takes from the `specs/` of crates by name, with the crate and the module of each."""
+    found = re.findall(r"\buse Rattle\.(\w+)\.specs\.([\w.]+)\.\{([^}]*)\}", text)
+    return {
+        word.split(" as ")[-1].strip(): (crate, module) for crate, module, words in found for word in words.split(",")
+    }
 
 
 def opened(text):
