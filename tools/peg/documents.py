@@ -1,11 +1,22 @@
 """The documents."""
 import re
 
-from peg import TOP
+from peg import TOP, layout
+
+
+def is_made(path):
+    return layout.MADE in path.read_text()
 
 
 def pages():
-    return [TOP / "README.md", TOP / "CONTRIBUTING.md", *sorted(TOP.glob("docs/*.md")), TOP / "tools/README.md"]
+    """Those that are kept by hand."""
+    kept = [path for path in sorted(TOP.glob("docs/*.md")) if not is_made(path)]
+    return [TOP / "README.md", TOP / "CONTRIBUTING.md", *kept, TOP / "tools/README.md"]
+
+
+def made():
+    """Those that tools/pages makes."""
+    return [path for path in sorted(TOP.glob("docs/**/*.md")) if is_made(path)]
 
 
 def without_pieces(text):

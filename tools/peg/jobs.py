@@ -64,5 +64,6 @@ def of_both(*words):
         command("tools/fuzz", "--texts", "100", "1"),
         command("tools/fuzz", "--files", "100", "1"),
         command("tools/checked_examples", *words),
+        command("tools/pages", "--check"),
         *(command(f"tools/{check}") for check in checks),
     ]

@@ -1,4 +1,8 @@
 -- What a grammar is made of. A piece says which words spell a value, and how it is read.
+--
+-- Pieces are made of pieces: one after the other (`seq`), one or none (`optional`), any number (`many`), one or
+-- more (`some`), by the kind of the first word (`branch`), between signs that may nest so deep (`nested`), with
+-- where the words stand (`located`). `read_all` reads a piece and nothing behind it.
 use Rattle.std.specs.Prelude.{◌≡◌, ℕ, zero, suc, List, [], ◌∷◌, ◌++◌, length, Bool, true, false, ◌&&◌, if◌then◌else◌, Option, Some, None, Result, Ok, Err}
 use Rattle.graphql_grammar.specs.Kinds.{Kinds, either_of, none, only}
 use Rattle.graphql_grammar.specs.Spelling.{Parts, spells_by, spells_many, spells_optional}
@@ -12,18 +16,23 @@ use Rattle.graphql_grammar.specs.declared.kind.Kind.{Kind}
 
 -- where reading stands: the end of the last word that was taken, and the words that are left
 pub record State : Type 0 where
+  -- the end of the last word that was taken
   pub last : ℕ
+  -- the words that are left
   pub left : List WordView
 
 -- what is wrong, and the words that are left from the one on that it is wrong at
 pub record Refusal : Type 0 where
+  -- what is wrong
   pub kind : FaultKind
+  -- the words from there on
   pub left : List WordView
 
 -- what is read, and where reading stands then
 abbrev pub Reading : Type 0 → Type 0
 Reading A = Result (A × State) Refusal
 
+-- what is read from where reading stands
 abbrev pub Reader : Type 0 → Type 0
 Reader A = State → Result (A × State) Refusal
 
@@ -31,14 +40,17 @@ Reader A = State → Result (A × State) Refusal
 abbrev pub Wrong : Type 0
 Wrong = List WordView → FaultKind
 
+-- reading goes on with what was read; a refusal stays
 infixl 10 ◌>>=◌
 abbrev pub ◌>>=◌ : {A B : Type 0} → Result A Refusal → (A → Result B Refusal) → Result B Refusal
 (Ok x) >>= f = f x
 (Err e) >>= f = Err e
 
+-- a refusal at the first of these words
 abbrev pub refused : {A : Type 0} → FaultKind → List WordView → Result A Refusal
 refused kind left = Err (record { kind = kind; left = left })
 
+-- a piece of a grammar: which words spell a value, and how that is read
 pub record Piece (A : Type 0) : Type 1 where
   -- which words spell a value
   pub spells : A → List WordView → Type 0
@@ -48,6 +60,7 @@ pub record Piece (A : Type 0) : Type 1 where
   pub first : Kinds
   -- what may go on with it behind what spells a value
   pub more : Kinds
+  -- whether no word at all may spell a value
   pub may_be_empty : Bool
 
 -- ---- one word
@@ -67,6 +80,7 @@ word kinds wrong = record {
   may_be_empty = false;
 }
 
+-- what a word is picked as, with the words behind it; where it is picked as nothing, it is refused
 abbrev pub picked_at : {A : Type 0} → WordView → List WordView → Option A → FaultKind → Reading A
 picked_at w ws None fault = refused fault (w ∷ ws)
 picked_at w ws (Some x) fault = Ok (x, record { last = w.end; left = ws })
@@ -118,9 +132,11 @@ nothing wrong = record {
 
 -- ---- one after the other
 
+-- one thing is read, and then another
 abbrev pub read_both : {A B : Type 0} → Reader A → Reader B → Reader (A × B)
 read_both p q s = p s >>= λ x. q x.1 >>= λ y. Ok ((x.0, y.0), y.1)
 
+-- one piece, and then another
 abbrev pub seq : {A B : Type 0} → Piece A → Piece B → Piece (A × B)
 seq p q = record {
   spells = λ x front. Parts (p.spells x.0) (q.spells x.1) front;
@@ -132,9 +148,11 @@ seq p q = record {
 
 -- ---- the same, said otherwise
 
+-- what is read, made into something else
 abbrev pub read_as : {A B : Type 0} → (A → B) → Reader A → Reader B
 read_as f p s = p s >>= λ x. Ok (f x.0, x.1)
 
+-- a piece whose value is made into another
 abbrev pub mapped : {A B : Type 0} → (A → B) → Piece A → Piece B
 mapped {A} f p = record {
   spells = λ b front. (a : A) × (b ≡ f a) × p.spells a front;
@@ -146,9 +164,11 @@ mapped {A} f p = record {
 
 -- ---- only what passes a test, which is made behind it
 
+-- what was read, if it passes the test; else what stands behind it is refused
 abbrev pub tested : {A : Type 0} → (A → Bool) → Wrong → A × State → Reading A
 tested test wrong x = if test x.0 then Ok x else refused (wrong x.1.left) x.1.left
 
+-- a piece whose value passes a test
 abbrev pub filtered : {A : Type 0} → (A → Bool) → Wrong → Piece A → Piece A
 filtered test wrong p = record {
   spells = λ x front. p.spells x front × (test x ≡ true);
@@ -160,9 +180,11 @@ filtered test wrong p = record {
 
 -- ---- one or none
 
+-- one thing, where such a word comes next, and else none
 abbrev pub read_optional : {A : Type 0} → Kinds → Reader A → Reader (Option A)
 read_optional first p s = if begins first s.left then (p s >>= λ x. Ok (Some x.0, x.1)) else Ok (None, s)
 
+-- a piece, or nothing
 abbrev pub optional : {A : Type 0} → Piece A → Piece (Option A)
 optional p = record {
   spells = spells_optional p.spells;
@@ -174,10 +196,12 @@ optional p = record {
 
 -- ---- any number
 
+-- as many things as come one behind the other, and at most so many
 abbrev pub many_at : {A : Type 0} → Kinds → Reader A → ℕ → Reader (List A)
 many_at first p zero s = Ok ([], s)
 many_at first p (suc n) s = if begins first s.left then (p s >>= λ x. many_at first p n x.1 >>= λ y. Ok (x.0 ∷ y.0, y.1)) else Ok ([], s)
 
+-- a piece any number of times
 abbrev pub many : {A : Type 0} → Piece A → Piece (List A)
 many p = record {
   spells = spells_many p.spells;
@@ -187,6 +211,7 @@ many p = record {
   may_be_empty = true;
 }
 
+-- the first and the others as one list
 abbrev pub listed : {A : Type 0} → A × List A → List A
 listed x = x.0 ∷ x.1
 
@@ -196,6 +221,7 @@ some p = mapped listed (seq p (many p))
 
 -- ---- one of several, by the kind of the first word
 
+-- what is read by the piece of the next word; where there is none, that is refused
 abbrev pub read_first : {A : Type 0} → (Kind → Piece A) → Wrong → State → List WordView → Reading A
 read_first pick wrong s [] = refused (wrong []) []
 read_first pick wrong s (w ∷ ws) = (pick w.kind).read s
@@ -217,6 +243,7 @@ branch first more pick wrong = record {
 
 -- ---- with where it stands, from the start of its first word to the end of its last
 
+-- a piece with its place: from the start of its first word to the end of its last one
 abbrev pub located : {A : Type 0} → Piece A → Piece (A × (ℕ × ℕ))
 located p = record {
   spells = λ x front. p.spells x.0 front × (x.1 ≡ (starting front, ended 0 front));
@@ -228,6 +255,7 @@ located p = record {
 
 -- ---- what begins with one of these, as is said here, and is never gone on with
 
+-- a piece that is known to begin with one of these, and is never gone on with
 abbrev pub headed : {A : Type 0} → Kinds → Piece A → Piece A
 headed kinds p = record {
   spells = p.spells;
@@ -239,6 +267,7 @@ headed kinds p = record {
 
 -- ---- an item, which begins with one of these; what is wrong where it doesn't is said
 
+-- a piece that begins with one of these; where it does not, that is what is wrong
 abbrev pub item : {A : Type 0} → Kinds → Wrong → Piece A → Piece A
 item kinds wrong p = record {
   spells = p.spells;
@@ -252,9 +281,11 @@ item kinds wrong p = record {
 abbrev pub separated_of : {A : Type 0} → Option (Unit {0}) × (A × List A) → List A
 separated_of x = x.1.0 ∷ x.1.1
 
+-- what stands behind a sign
 abbrev pub behind_sign : {A : Type 0} → Unit {0} × A → A
 behind_sign x = x.1
 
+-- one or more of a piece with a sign between each two; the sign may stand before the first, too
 abbrev pub separated : {A : Type 0} → Kind → Piece A → Piece (List A)
 separated kind p = mapped separated_of (seq (optional (sign kind)) (seq p (many (mapped behind_sign (seq (sign kind) p)))))
 
@@ -271,6 +302,7 @@ nested (suc depth) p = p depth
 
 -- ---- what a function returns, against a reading
 
+-- what a function refused is what reading refuses; that memory ran out says nothing of it
 abbrev pub Fails : {A : Type 0} → ReadError → List WordView → Reading A → Type 0
 Fails errors.Memory left reading = Unit {0}
 Fails (errors.Fault kind) left reading = reading ≡ refused kind left
@@ -296,6 +328,7 @@ Adds (Err e) old new s reading = Fails e s.left reading
 
 -- ---- all of some words
 
+-- a value, where no word is left behind it
 abbrev pub all_read : {A : Type 0} → A → List WordView → Result A Refusal
 all_read x [] = Ok x
 all_read x (w ∷ ws) = refused (Expected i.End) (w ∷ ws)

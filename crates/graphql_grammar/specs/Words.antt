@@ -6,11 +6,16 @@ use Rattle.graphql_grammar.specs.declared.word.Word.{Word}
 
 -- a word: what it is, its bytes, and where it stands
 pub record WordView : Type 0 where
+  -- what it is
   pub kind : Kind
+  -- its bytes
   pub text : List ℕ
+  -- where it begins
   pub start : ℕ
+  -- where it ends
   pub end : ℕ
 
+-- a word of the code, as contracts see it
 abbrev pub word_view : Word → WordView
 word_view w = record { kind = w.kind; text = w.text.now; start = w.start; end = w.end }
 

@@ -1,4 +1,8 @@
 -- What block strings say: GraphQL specification of October 2021, section 2.9.4, "Block Strings".
+--
+-- `\"""` says `"""`. The lines of what is said are cut at LF, CR LF and CR. All but the first lose their common
+-- indent, the least of those that are not blank. Blank lines are dropped at the beginning and at the end. The rest
+-- is joined by line feeds.
 use Rattle.std.specs.Prelude.{ℕ, Bool, ◌||◌, ◌&&◌, not, List, [], ◌∷◌, ◌++◌, drop, length, map, min, nat_eq, take, if◌then◌else◌, Option, None, Some}
 use Rattle.std.specs.Borrow.{Bor}
 use Rattle.std.specs.List.{prefix_len}

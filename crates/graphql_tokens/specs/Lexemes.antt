@@ -17,9 +17,11 @@ use Rattle.graphql_tokens.specs.declared.token.TokenErrorKind.TheVariants as e
 abbrev pub Reading : Type 0
 Reading = Result Lexeme TokenError
 
+-- a token of this kind, of so many bytes
 abbrev pub token : TokenKind → ℕ → Reading
 token kind size = Ok (record { kind = kind; size = size })
 
+-- what is wrong, so many bytes behind the front
 abbrev pub wrong : TokenErrorKind → ℕ → Reading
 wrong kind at = Err (record { kind = kind; at = at })
 

@@ -27,6 +27,7 @@ unit_at _ = None
 abbrev pub is_leading : ℕ → Bool
 is_leading n = nat_le 55296 n && nat_lt n 56320
 
+-- whether a number is a trailing surrogate
 abbrev pub is_trailing : ℕ → Bool
 is_trailing n = nat_le 56320 n && nat_lt n 57344
 

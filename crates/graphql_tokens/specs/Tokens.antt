@@ -1,4 +1,7 @@
 -- The tokens of a text: GraphQL specification of October 2021, section 2.1.
+--
+-- What says nothing is passed over. Then comes the longest token that stands there, and so on, up to the end of
+-- the text or to what is wrong first.
 use Rattle.std.specs.Prelude.{ℕ, zero, suc, List, [], ◌∷◌, ◌+◌, ◌-◌, nat_eq, if◌then◌else◌, Result, Ok, Err}
 use Rattle.graphql_tokens.specs.Ignored.{one_ignored}
 use Rattle.graphql_tokens.specs.Lexemes.{Reading, lexeme}

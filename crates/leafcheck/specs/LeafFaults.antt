@@ -1,5 +1,9 @@
 -- Fields at fault as leaves: those of scalar or enum types that have subselections, and those of object, interface or union
 -- types that have none. GraphQL specification of October 2021, section 5.3.3.
+--
+-- A field is at fault over a schema value in one of two ways (`kind_over`). Its type stands under the inner name
+-- of the type of its definition. Either that is a leaf type, and the field has subselections; or it is a composite
+-- type, and the field has none. In neither, if it is an input object, or the schema has no type of the name.
 use Rattle.std.specs.Prelude.{◌==◌, ◌++◌, Bool, true, false, List, length, Option, None, Some, option_map, option_and_then, if◌then◌else◌}
 use Rattle.std.specs.List.{cons_option, filter_map, flat_map}
 use Rattle.graphql_nodes.specs.NameView.{NameView}

@@ -1,4 +1,7 @@
 -- Faults of a build that are of selections below a field: GraphQL specification of October 2021, sections 2.4 to 2.8.
+--
+-- Such a fault has a path that begins with that of the field, names compared by their texts, and has more keys.
+-- That of an inline fragment need not have more, for its path has no key of its own.
 use Rattle.std.specs.Prelude.{◌≡◌, ◌<◌, List, length, map, take}
 use Rattle.std.specs.List.{Any}
 use Rattle.graphql_nodes.specs.Comparing.{bare_name}
