@@ -1,4 +1,8 @@
 -- Documents: GraphQL specification of October 2021, section 2.2.
+--
+-- **Document.** One definition a production, each with its section. A `{` never follows a definition
+-- that `takes_braces`: behind `type T` it opens the fields of the type, behind `scalar S` it begins a
+-- query.
 use Rattle.std.specs.Prelude.{◌≡◌, ℕ, List, [], ◌∷◌, Bool, true, false, ◌||◌, ◌&&◌}
 use Rattle.graphql_nodes.specs.declared.source.FileId.{FileId}
 use Rattle.graphql_ast.specs.declared.definition.Definition.{Definition}
