@@ -1,7 +1,7 @@
 -- The faults of a list of definitions, by places of the whole list: GraphQL specification of October 2021, section 3.
 --
--- **Faults of a list.** The faults of a list (`faults_of`), with adoption or without, are exactly what
--- the entries below say; nothing else is at fault.
+-- **Faults of a list.** The faults of a list (`faults_of`), with adoption or without, are exactly what the
+-- modules of `Faults` say; nothing else is at fault.
 --
 -- **Order of discovery.** Three phases:
 --
