@@ -3,7 +3,8 @@ import functools
 import re
 from typing import NamedTuple
 
-from peg import CRATES, TOP, api, declared, layout
+from peg import CRATES, TOP, declared, layout
+from peg.contents import linked
 
 CASES = TOP / "tools/cases"
 WIDTH = 150
@@ -163,13 +164,11 @@ def example(report):
     yield from (f"The case: [{report.case}](../tools/cases/{report.case}){f', over {over}' if over else ''}.", "")
 
 
-def sentences(entry):
-    yield from (f"{name}: {said}\n" for name, said in entry.items())
-
-
-def pages():
-    """The page, by its path below `docs/`."""
-    yield "FAULTS.md", page()
+def entry(heading, said, report, mend):
+    """An entry of the page: what is said of a fault, a report of it if there is one, and the sentences of `mends`."""
+    yield from (f"### {heading}", "", *layout.listed([said] if said else []))
+    yield from example(report) if report else ()
+    yield from (f"{name}: {sentence}\n" for name, sentence in mend.items())
 
 
 def page():
@@ -179,17 +178,18 @@ def page():
         crate = kind.file.split("/")[0]
         for part, sentence in variants(kind):
             name = f"{kind.enum}::{part.name}"
-            yield from (f"### {called(sentence)}", "", f"{api.linked(f'[`{name}`]', '.', crate)}. {api.linked(part.comment, '.', crate)}", "")
-            if report := report_of(sentence):
-                yield from example(report)
-            yield from sentences(mends().get(name, {}))
+            said = linked(f"[`{name}`]. {part.comment}", ".", crate)
+            yield from entry(called(sentence), said, report_of(sentence), mends().get(name, {}))
     yield from ("## What else is refused", "")
-    for name, entry in mends().items():
+    for name, mend in mends().items():
         if name.startswith("case "):
             report = next(it for it in reports() if it.case == name.removeprefix("case "))
-            yield from (f"### {report.sentence}", "")
-            yield from example(report)
-            yield from sentences(entry)
+            yield from entry(report.sentence, "", report, mend)
+
+
+def pages():
+    """The page, by its path below `docs/`."""
+    yield "FAULTS.md", page()
 
 
 def findings():
@@ -199,11 +199,12 @@ def findings():
         for part, sentence in variants(kind):
             name = f"{kind.enum}::{part.name}"
             known.add(name)
-            entry = mends().get(name)
-            if entry is None:
+            mend = mends().get(name)
+            if mend is None:
                 yield f"tools/cases/mends: no entry for {name}"
-            elif (report_of(sentence) is None) != ("Not shown" in entry):
+            elif (report_of(sentence) is None) != ("Not shown" in mend):
                 yield f"tools/cases: {name} is to have a case, or else a line `Not shown` in mends, and not both"
             else:
                 yield None
-    yield from (f"tools/cases/mends: nothing is called {name}" for name in mends() if name not in known and name[:5] != "case ")
+    others = (name for name in mends() if name not in known and not name.startswith("case "))
+    yield from (f"tools/cases/mends: nothing is called {name}" for name in others)

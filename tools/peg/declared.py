@@ -82,10 +82,10 @@ def divided(lines, indent):
         if head[-1].endswith((" {", " {}")) and of(head[-1]) == 0:
             head[-1] = head[-1].removesuffix("}").removesuffix(" {")
             return "\n".join(head), (), lines[at:-1]
-    while at < len(lines) and lines[at].strip() not in ("{", "{}") and of(lines[at]) > indent:
+    while at < len(lines) and lines[at].strip() not in ("{", "{}"):
         if is_clause(lines[at], indent):
             clauses.append(lines[at].strip())
-        elif clauses:
+        elif clauses and not lines[at].strip().startswith("//"):
             clauses[-1] += " " + lines[at].strip()
         at += 1
     found = (CLAUSE.match(text) for text in clauses)
@@ -112,7 +112,8 @@ def member(comment, attributes, lines, indent):
 def item(comment, attributes, lines, indent):
     """The item that these lines are, or None."""
     found = HEAD.match(lines[0].strip())
-    if not found:
+    name = found and re.match(r"\w*", found[4])[0]
+    if not found or not name and found[3] not in ("impl", "use"):
         return None
     kind, is_public = found[3], bool(found[1]) and not found[2]
     if kind == "use":
@@ -122,8 +123,7 @@ def item(comment, attributes, lines, indent):
     members = ()
     if kind in ("struct", "enum", "trait", "impl"):
         members = tuple(filter(None, (member(*part, indent + 4) for part in parts(inside, indent + 4))))
-    name = "" if kind == "impl" else re.match(r"\w+", found[4])[0]
-    return Item(kind, name, is_public, comment, attributes, head.rstrip(";"), clauses, members)
+    return Item(kind, "" if kind == "impl" else name, is_public, comment, attributes, head.rstrip(";"), clauses, members)
 
 
 def items(path):
@@ -143,12 +143,11 @@ def head_comment(path, sign="//!"):
 
 
 def imports(text):
-    """The words that a source takes from the `specs/` of crates, with the crate and the module of each."""
-    found = {}
-    for crate, module, words in re.findall(r"\buse Rattle\.(\w+)\.specs\.([\w.]+)\.\{([^}]*)\}", text):
-        for word in words.split(","):
-            found[word.split(" as ")[-1].strip()] = (crate, module, word.split(" as ")[0].strip())
-    return found
+    """The words that a source takes from the `specs/` of crates by name, with the crate and the module of each."""
+    found = re.findall(r"\buse Rattle\.(\w+)\.specs\.([\w.]+)\.\{([^}]*)\}", text)
+    return {
+        word.split(" as ")[-1].strip(): (crate, module) for crate, module, words in found for word in words.split(",")
+    }
 
 
 def opened(text):

@@ -1,72 +1,77 @@
 """The pages of `docs/definitions`: the words of contracts, from the comments that stand at them in `specs/`."""
 import re
+from typing import NamedTuple
 
-from peg import CRATES, declared, layout, sources
+from peg import CRATES, TOP, declared, layout, sources
+
+
+class Module(NamedTuple):
+    """A module of `specs/`: its name, its file, what its first comment says, and its public words."""
+
+    name: str
+    file: object
+    said: str
+    words: list
+
 
 def modules(crate):
-    """The modules of a crate's `specs/` that have words or say something of others."""
-    for path in sources.files("specs", crate=crate):
-        name = ".".join(path.relative_to(CRATES / crate / "specs").with_suffix("").parts)
-        its_words = declared.words(path)
-        if its_words:
-            yield name, path, its_words
+    """The modules of a crate's `specs/` that have words."""
+    for file in sources.files("specs", crate=crate):
+        name = ".".join(file.relative_to(CRATES / crate / "specs").with_suffix("").parts)
+        module = Module(name, file, declared.head_comment(file, "--"), declared.words(file))
+        if module.words:
+            yield module
 
 
-def handed_on(path):
-    """The words that a module hands on, with the crate that each is of."""
-    for crate, words in re.findall(r"^pub use Rattle\.(\w+)\.[\w.]+\.\{([^}]*)\}", path.read_text(), re.MULTILINE):
+def handed_on(file):
+    """The words of other crates that a module hands on, by crate."""
+    for crate, words in re.findall(r"^pub use Rattle\.(\w+)\.[\w.]+\.\{([^}]*)\}", file.read_text(), re.MULTILINE):
         yield crate, ", ".join(f"`{word.strip()}`" for word in words.split(","))
 
 
 def crates():
-    """The crates that define words, bottom up, with what their line in `crates.txt` says of each."""
-    return [crate for crate in sources.crates() if (CRATES / crate / "specs").is_dir()]
-
-
-def about():
-    """What the comment above each line of `crates.txt` says."""
-    lines = (CRATES.parent / "crates.txt").read_text().split("\n")
-    return {line.split(":")[0]: above[2:] for above, line in zip(lines, lines[1:]) if above.startswith("# ")}
+    """The crates that define words, bottom up, and what the comment above its line of `crates.txt` says of each."""
+    lines = (TOP / "crates.txt").read_text().split("\n")
+    said = {line.split(":")[0]: above[2:] for above, line in zip(lines, lines[1:]) if above.startswith("# ")}
+    return {crate: said.get(crate, "") for crate in sources.crates() if (CRATES / crate / "specs").is_dir()}
 
 
 def entry(word, indent=""):
-    """A word with what it means and its type; so of the fields of a record."""
-    its_type = word.type.removeprefix(": ")
+    """A word with what it means and its type, and so the fields of a record."""
     yield f"{indent}- **`{word.name}`**{f': {word.comment}' if word.comment else ''}  "
-    yield f"{indent}  `{its_type}`"
+    yield f"{indent}  `{word.type.removeprefix(': ')}`"
     for field in word.fields:
         yield from entry(field, indent + "  ")
 
 
-def page(crate):
+def page(crate, said):
     """A page: the words of a crate, module by module."""
-    yield from (f"# {crate}", "", layout.MADE, "", f"The words of `{crate}`: {about().get(crate, '')}.", "")
     its = list(modules(crate))
-    yield from (", ".join(f"[{name}](#{layout.slug(name)})" for name, _, _ in its), "")
-    for name, path, words in its:
-        yield from (f"## {name}", "")
-        if said := declared.head_comment(path, "--"):
-            yield from (said, "")
-        yield from (layout.source(path, "definitions"), "")
-        for crate_of_words, handed in handed_on(path):
-            yield from (f"Of `{crate_of_words}`: {handed}.", "")
-        for word in words:
+    yield from (f"# {crate}", "", layout.MADE, "", f"The words of `{crate}`: {said}.", "")
+    yield from (", ".join(f"[{module.name}](#{layout.slug(module.name)})" for module in its), "")
+    for module in its:
+        yield from (f"## {module.name}", "")
+        yield from layout.listed([module.said] if module.said else [])
+        yield from (layout.source(module.file, "definitions"), "")
+        for other, words in handed_on(module.file):
+            yield from (f"Of `{other}`: {words}.", "")
+        for word in module.words:
             yield from entry(word)
         yield ""
 
 
 def index():
-    """The first page: each crate and its modules, and an index of all words."""
+    """The first page: each crate with its modules."""
     yield from ("# Definitions", "", layout.MADE, "", layout.head("definitions"), "")
-    for crate in crates():
-        yield from (f"## [{crate}]({crate}.md)", "", f"{about().get(crate, '')}", "", "| module | what it defines |", "|---|---|")
-        for name, path, _ in modules(crate):
-            said = layout.joined(declared.head_comment(path, "--").split("\n\n")[0])
-            yield f"| [{name}]({crate}.md#{layout.slug(name)}) | {layout.cell(said)} |"
+    for crate, said in crates().items():
+        yield from (f"## [{crate}]({crate}.md)", "", said, "", "| module | what it defines |", "|---|---|")
+        for module in modules(crate):
+            first = layout.cell(layout.joined(module.said.split("\n\n")[0]))
+            yield f"| [{module.name}]({crate}.md#{layout.slug(module.name)}) | {first} |"
         yield ""
 
 
 def pages():
     """All pages, by their paths below `docs/`."""
     yield "definitions/README.md", index()
-    yield from ((f"definitions/{crate}.md", page(crate)) for crate in crates())
+    yield from ((f"definitions/{crate}.md", page(crate, said)) for crate, said in crates().items())

@@ -92,16 +92,5 @@ def public(crate):
     return found
 
 
-def modules(crate):
-    """The public modules that callers of a crate can name, with the path of each."""
-    found, waiting = {}, [(Home(crate, ()), crate)]
-    for home, path in waiting:
-        for name, its in names_of(home.crate, home.module).items():
-            if not its.name and its not in found:
-                found[its] = f"{path}::{name}"
-                waiting.append((its, f"{path}::{name}"))
-    return found
-
-
 def declared_at(home):
     return next(item for item in items_of(home.crate, home.module) if item.name == home.name and item.kind != "use")

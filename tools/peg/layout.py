@@ -41,6 +41,12 @@ def fenced(lines, language):
     return [f"```{language}", *lines, "```", ""]
 
 
+def listed(lines):
+    """Lines and an empty one behind them, where there are any."""
+    lines = list(lines)
+    return [*lines, ""] if lines else []
+
+
 def depths(text):
     """How many brackets are open at each sign of a text."""
     depth = 0
@@ -65,7 +71,8 @@ def inside(text):
 
 def closes(text, at):
     """Whether the bracket that opens at this sign closes at the end."""
-    return text.endswith(")") and next((to for to, depth in enumerate(depths(text)) if to > at and depth == 0), -1) == len(text) - 1
+    ends = (to for to, depth in enumerate(depths(text)) if to > at and depth == 0)
+    return text.endswith(")") and next(ends, -1) == len(text) - 1
 
 
 def wrapped(text, indent):
