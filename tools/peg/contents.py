@@ -46,8 +46,15 @@ PAGES = [
         "apollo_schema::schema_builder apollo_schema::build_failure apollo_schema::orphan_names apollo_folding apollo_meaning",
     ),
     Page("types", "The types of a schema", "apollo_types"),
+    Page(
+        "kinds",
+        "The types of a schema, kind by kind",
+        " ".join(f"apollo_types::{kind}_type" for kind in ("scalar", "object", "interface", "union", "enum", "input_object")),
+        "apollo_types",
+    ),
     Page("components", "Components: what types are made of, with origins", "apollo_component"),
     Page("executable", "Typed documents", "apollo_executable", "apollo_compiler::executable"),
+    Page("selections", "Typed selections", "apollo_executable::selection apollo_executable::new_field_error"),
     Page("walks", "Walks over the fields of an operation", "apollo_executable::walks"),
     Page(
         "document_builder",
@@ -62,8 +69,16 @@ PAGES = [
     Page("ast", "Syntax trees: documents, operations, values", "graphql_ast"),
     Page("type_system", "Syntax trees: the type system", "graphql_ast::type_system"),
     Page("nodes", "Names, nodes and source files", "graphql_nodes"),
-    Page("tables", "Tables and sets", "graphql_nodes::collections", "apollo_compiler::collections"),
+    Page("collections", "Texts, and values that are shared or owned", "graphql_nodes::collections"),
     Page("lists", "Lists", "graphql_nodes::collections::items"),
+    Page(
+        "tables",
+        "Tables and sets",
+        " ".join(f"graphql_nodes::collections::{name}" for name in ("table", "key_set", "hash_keys")),
+        "apollo_compiler::collections",
+    ),
+    Page("peglinden", "The run of peglinden", "peglinden_run::running", library="peglinden_run"),
+    Page("gqltool", "The run of gqltool", "gqltool_run::running", library="gqltool_run"),
 ]
 LAWS = [
     Page("headline", "The headline", "apollo_compiler::laws"),
@@ -115,7 +130,7 @@ def pages_of(home):
 def places():
     """Where each public item is shown. What a library hands on of one that has its own pages is shown there alone."""
     found = {}
-    for library in ("apollo_compiler", "leafcheck"):
+    for library in dict.fromkeys(page.library for page in (*PAGES, *LAWS)):
         for home, paths in exports.public(library).items():
             for folder, page in pages_of(home)[-1:]:
                 if page.library == library:
