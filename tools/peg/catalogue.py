@@ -144,9 +144,11 @@ def pattern(sentence):
     return re.compile("(?:`.*`:? (?:points to nothing: )?)?" + re.sub(r"\\\{[^}]*\\\}", ".+", re.escape(sentence)))
 
 
-def report_of(sentence):
+def report_of(sentence, case=""):
+    """The report that is shown of a fault, in this case if one is named."""
     like = pattern(sentence)
-    return next((report for report in reports() if like.fullmatch(report.sentence)), None)
+    its = (report for report in reports() if like.fullmatch(report.sentence))
+    return next((report for report in its if not case or report.case == case), None)
 
 
 def example(report):
@@ -168,7 +170,7 @@ def entry(heading, said, report, mend):
     """An entry of the page: what is said of a fault, a report of it if there is one, and the sentences of `mends`."""
     yield from (f"### {heading}", "", *layout.listed([said] if said else []))
     yield from example(report) if report else ()
-    yield from (f"{name}: {sentence}\n" for name, sentence in mend.items())
+    yield from (f"{name}: {sentence}\n" for name, sentence in mend.items() if name != "Case")
 
 
 def page():
@@ -179,7 +181,8 @@ def page():
         for part, sentence in variants(kind):
             name = f"{kind.enum}::{part.name}"
             said = linked(f"[`{name}`]. {part.comment}", ".", crate)
-            yield from entry(called(sentence), said, report_of(sentence), mends().get(name, {}))
+            mend = mends().get(name, {})
+            yield from entry(called(sentence), said, report_of(sentence, mend.get("Case", "")), mend)
     yield from ("## What else is refused", "")
     for name, mend in mends().items():
         if name.startswith("case "):
@@ -202,7 +205,7 @@ def findings():
             mend = mends().get(name)
             if mend is None:
                 yield f"tools/cases/mends: no entry for {name}"
-            elif (report_of(sentence) is None) != ("Not shown" in mend):
+            elif (report_of(sentence, mend.get("Case", "")) is None) != ("Not shown" in mend):
                 yield f"tools/cases: {name} is to have a case, or else a line `Not shown` in mends, and not both"
             else:
                 yield None
