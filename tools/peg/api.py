@@ -1,5 +1,6 @@
 """The pages of `docs/api` and `docs/laws`: what callers of the libraries can name, with its comment and its contract."""
 import functools
+import itertools
 import re
 
 from peg import CRATES, contents, declared, exports, layout, sources
@@ -171,9 +172,28 @@ def index(folder, name):
         yield from rows(contents.of_page(folder, page), f"{page.name}.md")
 
 
+def names():
+    """All items and calls from A to Z, by the last part of their names, each with a link to it."""
+    found = []
+    for home, place in contents.places().items():
+        if place.folder == "api":
+            found.append((contents.title(home), f"{place.page.name}.md#{anchor(home)}"))
+            its = (f"{home.name}::{it.name}" for _, _, it in contents.calls(home))
+            found += [(name, f"{place.page.name}.md#{layout.slug(name)}") for name in its]
+    yield from ("# Names from A to Z", "", layout.MADE, "")
+    for letter, its in itertools.groupby(sorted(found, key=last_part), lambda it: last_part(it)[0][0]):
+        yield from (f"## {letter.upper()}", "", *(f"- [`{name}`]({link})" for name, link in its), "")
+
+
+def last_part(named):
+    name = named[0].split("::")[-1].lower()
+    return name, named[0]
+
+
 def pages():
     """The pages of both folders, by their paths below `docs/`."""
     yield "api/README.md", index("api", "The API")
+    yield "api/names.md", names()
     yield "laws/README.md", index("laws", "The laws")
     yield from ((f"api/{page.name}.md", of_calls(page)) for page in contents.FOLDERS["api"])
     yield from ((f"laws/{page.name}.md", of_laws(page)) for page in contents.FOLDERS["laws"])

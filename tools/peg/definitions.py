@@ -71,7 +71,16 @@ def index():
         yield ""
 
 
+def all_words():
+    """All words from A to Z, each with a link to its module."""
+    yield from ("# Words from A to Z", "", layout.MADE, "")
+    found = [(word.name, crate, module.name) for crate in crates() for module in modules(crate) for word in module.words]
+    for word, crate, module in sorted(found, key=lambda it: (it[0].lower(), it)):
+        yield f"- `{word}`: [{crate}, {module}]({crate}.md#{layout.slug(module)})"
+
+
 def pages():
     """All pages, by their paths below `docs/`."""
     yield "definitions/README.md", index()
+    yield "definitions/words.md", all_words()
     yield from ((f"definitions/{crate}.md", page(crate, said)) for crate, said in crates().items())
