@@ -31,15 +31,15 @@ def known_words(file):
     return {word: home for word, home in found.items() if (CRATES / home[0]).is_dir() and not home[1].startswith("declared")}
 
 
-def words(clauses, file, folder):
-    """Links to the words of our own that clauses say, each to its module."""
-    text, known = " ".join(clause.text for clause in clauses), known_words(file)
+def words(text, file, folder):
+    """Links to the words of our own that a text says, each to its module."""
+    known = known_words(file)
     said = [*re.findall(r"[^\s(){},;.⟦⟧]+", text), *re.findall(r"\b\w+\.\w+", text)]
     links = []
     for word in dict.fromkeys(word for word in said if word in known):
         crate, module = known[word]
         links.append(f"[`{word}`]({layout.relative(f'definitions/{crate}.md', folder)}#{layout.slug(module)})")
-    return [f"Words: {', '.join(links)}.", ""] if links else []
+    return f"Words: {', '.join(links)}." if links else ""
 
 
 def call(item, name, file, folder, block="", level="###"):
@@ -50,7 +50,7 @@ def call(item, name, file, folder, block="", level="###"):
         yield from (linked(item.comment, folder, sources.crate_of(file)), "")
     if item.clauses:
         yield from contract(item.clauses)
-        yield from words(item.clauses, file, folder)
+        yield from layout.listed(filter(None, [words(" ".join(it.text for it in item.clauses), file, folder)]))
 
 
 def shown_parts(item):
@@ -88,6 +88,15 @@ def traits(home, item):
     return {name: comment for name, comment in found.items() if name not in UNSAID}
 
 
+def model(home, folder):
+    """As what contracts see a type that they don't see as its fields."""
+    for file, block in contents.impls(home.crate).get(home.name, ()):
+        for member in block.members:
+            if (block.trait, member.kind, member.name) == ("Model", "ghost", "Value"):
+                seen = "nothing" if member.head.startswith("Unit") else f"`{member.head}`"
+                yield f"Contracts see it as {seen}. {words(member.head, file, folder)}".rstrip()
+
+
 def of_type(home, folder):
     """A type or a trait as it is to be read, with its calls."""
     item, file = exports.declared_at(home), exports.file_of(home)
@@ -98,6 +107,7 @@ def of_type(home, folder):
     yield from (f"## {contents.heading(home)}", "", linked(item.comment, folder, home.crate), "")
     yield from layout.fenced(shape(item), "rust")
     yield from layout.listed(parts(item, said))
+    yield from layout.listed(model(home, folder))
     if its_traits := traits(home, item):
         yield from (f"Traits: {', '.join(f'`{name}`' for name in its_traits)}.", "")
     yield from layout.listed(f"- `{name}`: {said(comment)}" for name, comment in its_traits.items() if comment)

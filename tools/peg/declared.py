@@ -17,7 +17,8 @@ class Clause(NamedTuple):
 
 
 class Item(NamedTuple):
-    """An item of a `.rt` file or a member of one. `head` is what stands before its clauses, its members or its body."""
+    """An item of a `.rt` file or a member of one. `head` is what stands before its clauses, its members or its body, and of a member
+    that is `ghost` what it is equal to."""
 
     kind: str
     name: str
@@ -102,11 +103,13 @@ def member(comment, attributes, lines, indent):
     if HEAD.match(lines[0].strip()):
         return item(comment, attributes, lines, indent)
     text = "\n".join(line[indent:] for line in lines)
-    found = re.match(r"(pub(?:\(\w+\))? )?(ghost )?(\w+)", text)
-    if not found or found[2] or text.startswith("ghost"):
+    if said := re.match(r"ghost (\w+) = \{ (.*?) \};?$", text, re.DOTALL):
+        return Item("ghost", said[1], False, comment, attributes, said[2], (), ())
+    found = re.match(r"(pub(?:\(\w+\))? )?(\w+)", text)
+    if not found or text.startswith("ghost"):
         return None
     fields = [member(*part, indent + 4) for part in parts(lines[1:-1], indent + 4)] if lines[0].endswith("{") else []
-    return Item("part", found[3], found[1] == "pub ", comment, attributes, text.rstrip(","), (), tuple(filter(None, fields)))
+    return Item("part", found[2], found[1] == "pub ", comment, attributes, text.rstrip(","), (), tuple(filter(None, fields)))
 
 
 def item(comment, attributes, lines, indent):
