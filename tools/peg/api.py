@@ -1,4 +1,5 @@
-"""The pages of `docs/api` and `docs/laws`: what callers of the libraries can name, with its comment and its contract."""
+"""The pages of `docs/api` and `docs/laws`: what callers of the libraries can name, with its comment and its
+contract."""
 import functools
 import itertools
 import re
@@ -21,14 +22,19 @@ def contract(clauses):
 
 @functools.cache
 def known_words(file):
-    """The words that the clauses of a file may say, with the crate and the module of each: those that it takes by name, and those
-    of modules that it calls something else."""
+    """The words that the clauses of a file may say, with the crate and the module of each: those that it
+    takes by name, and those of modules that it calls something else."""
     text = file.read_text()
     found = declared.imports(text)
     for crate, module, other in re.findall(r"\bghost use Rattle\.(\w+)\.specs\.([\w.]+) as (\w+);", text):
         path = CRATES / crate / "specs" / f"{module.replace('.', '/')}.antt"
-        found.update((f"{other}.{word.name}", (crate, module)) for word in (declared.words(path) if path.exists() else ()))
-    return {word: home for word, home in found.items() if (CRATES / home[0]).is_dir() and not home[1].startswith("declared")}
+        its_words = declared.words(path) if path.exists() else []
+        found.update((f"{other}.{word.name}", (crate, module)) for word in its_words)
+
+    def is_own(crate, module):
+        return (CRATES / crate).is_dir() and not module.startswith("declared")
+
+    return {word: home for word, home in found.items() if is_own(*home)}
 
 
 def words(text, file, folder):
@@ -38,7 +44,8 @@ def words(text, file, folder):
     links = []
     for word in dict.fromkeys(word for word in said if word in known):
         crate, module = known[word]
-        links.append(f"[`{word}`]({layout.relative(f'definitions/{crate}.md', folder)}#{layout.slug(module)})")
+        page = layout.relative(f"definitions/{crate}.md", folder)
+        links.append(f"[`{word}`]({page}#{layout.slug(module)})")
     return f"Words: {', '.join(links)}." if links else ""
 
 
@@ -50,12 +57,14 @@ def call(item, name, file, folder, block="", level="###"):
         yield from (linked(item.comment, folder, sources.crate_of(file)), "")
     if item.clauses:
         yield from contract(item.clauses)
-        yield from layout.listed(filter(None, [words(" ".join(it.text for it in item.clauses), file, folder)]))
+        said = words(" ".join(clause.text for clause in item.clauses), file, folder)
+        yield from layout.listed([said] if said else [])
 
 
 def shown_parts(item):
     """The fields of a struct that callers see, or the variants of an enum."""
-    return [part for part in item.members if part.kind == "part" and (item.kind != "struct" or part.is_public)]
+    its = [part for part in item.members if part.kind == "part"]
+    return [part for part in its if part.is_public] if item.kind == "struct" else its
 
 
 def shape(item):
@@ -79,10 +88,11 @@ def parts(item, said):
 
 def traits(home, item):
     """The traits that a type has, with what is said of their calls there."""
-    found = {name.strip(): "" for text in item.attributes for it in DERIVED.findall(text) for name in it.split(",")}
+    derived = ",".join(names for text in item.attributes for names in DERIVED.findall(text))
+    found = {name.strip(): "" for name in derived.split(",") if name}
     for _, block in contents.impls(home.crate).get(home.name, ()):
         if block.trait:
-            comments = " ".join(member.comment for member in block.members if member.kind == "fn" and member.comment)
+            comments = " ".join(it.comment for it in block.members if it.kind == "fn" and it.comment)
             shown = re.sub(r"^impl(<.*?>)? | for .*$", "", block.head.split("\n")[0]).split("::")[-1]
             found[shown] = found.get(shown) or comments
     return {name: comment for name, comment in found.items() if name not in UNSAID}
@@ -110,11 +120,13 @@ def of_type(home, folder):
     yield from layout.listed(model(home, folder))
     if its_traits := traits(home, item):
         yield from (f"Traits: {', '.join(f'`{name}`' for name in its_traits)}.", "")
-    yield from layout.listed(f"- `{name}`: {said(comment)}" for name, comment in its_traits.items() if comment)
+    comments = {name: comment for name, comment in its_traits.items() if comment}
+    yield from layout.listed(f"- `{name}`: {said(comment)}" for name, comment in comments.items())
     yield from (*path_of(home, folder), "")
     calls = [(f"{home.name}::{it.name}", path, block, it) for path, block, it in contents.calls(home)]
     if calls:
-        yield from (f"Calls: {', '.join(f'[`{it.name}`](#{layout.slug(name)})' for name, _, _, it in calls)}.", "")
+        links = ", ".join(f"[`{it.name}`](#{layout.slug(name)})" for name, _, _, it in calls)
+        yield from (f"Calls: {links}.", "")
     for name, path, block, it in calls:
         yield from call(it, name, path, folder, block)
 
@@ -170,7 +182,8 @@ def of_laws(page):
         its = [home for home in homes if (home.crate, home.module) == (module.crate, module.module)]
         yield from rows(its)
         for home in its:
-            yield from call(exports.declared_at(home), contents.title(home), exports.file_of(home), "laws", level="##")
+            item, file = exports.declared_at(home), exports.file_of(home)
+            yield from call(item, contents.title(home), file, "laws", level="##")
             yield from (*path_of(home, "laws"), "")
 
 

@@ -1,4 +1,5 @@
-"""The page `docs/FAULTS.md`: each fault and each refusal, from the cases of `tools/cases` and the sentences of its file `mends`."""
+"""The page `docs/FAULTS.md`: each fault and each refusal, from the cases of `tools/cases` and the sentences
+of its file `mends`."""
 import functools
 import re
 from typing import NamedTuple
@@ -27,7 +28,8 @@ CALLED = {
 
 
 class Kind(NamedTuple):
-    """A section of the page: its heading, what is said below it, and the enum whose variants stand there, with its file."""
+    """A section of the page: its heading, what is said below it, and the enum whose variants stand there,
+    with its file."""
 
     heading: str
     said: str
@@ -44,14 +46,18 @@ KINDS = [
     ),
     Kind(
         "Faults of a document",
-        "`peglinden check`, `typed` and `fields` report them. What is left out is not in the typed document; all else is.",
+        "`peglinden check`, `typed` and `fields` report them. What is left out is not in the typed document; all"
+        " else is.",
         "BuildError",
         "apollo_document/src/build_error.rt",
     ),
-    Kind("Faults of leaf fields", "`peglinden check` reports them.", "LeafKind", "leafcheck/src/leaf_fault.rt"),
+    Kind(
+        "Faults of leaf fields", "`peglinden check` reports them.", "LeafKind", "leafcheck/src/leaf_fault.rt"
+    ),
     Kind(
         "Text that is refused",
-        "Reading stops at the first thing that is wrong. Nothing is then known of the file, and the program ends with status 2.",
+        "Reading stops at the first thing that is wrong. Nothing is then known of the file, and the program ends"
+        " with status 2.",
         "ParseErrorKind",
         "graphql_text/src/parse_error.rt",
     ),
@@ -77,7 +83,7 @@ class Report(NamedTuple):
 
 
 def rank(report):
-    """Which report of a fault is shown: one of whole lines, with an earlier place of its own, the shortest."""
+    """Which report of a fault is shown: one of whole lines, with an earlier place of its own, and short."""
     pieces, places = shown(report), PLACE.findall(report.text)
     is_plain = all(piece.strip() and piece == visible(piece) for piece in pieces)
     return not is_plain, len(places) > len({*places}), sum(map(len, pieces)), report.case
@@ -88,7 +94,8 @@ def reports():
     """The reports of all cases, those first that are good to read."""
     found = []
     for file in sorted(CASES.glob("*/errors")):
-        for text in re.split(r"\n\n(?=error: |\d+ faults?\n)", file.read_text(errors="replace").rstrip("\n") + "\n"):
+        whole = file.read_text(errors="replace").rstrip("\n") + "\n"
+        for text in re.split(r"\n\n(?=error: |\d+ faults?\n)", whole):
             if text.startswith("error: "):
                 sentence, _, _ = text.removeprefix("error: ").partition("\n")
                 found.append(Report(file.parent.name, sentence, text.rstrip("\n")))
@@ -104,10 +111,12 @@ def mends():
 
 
 def shown(report):
-    """The pieces of GraphQL that a report is about: those lines around each of its places that no empty line divides."""
+    """The pieces of GraphQL that a report is about: those lines around each of its places that no empty
+    line divides."""
     found = {}
     for name, number in PLACE.findall(report.text):
-        lines = (report.folder / ("input" if name == "-" else name)).read_bytes().decode(errors="replace").split("\n")
+        file = report.folder / ("input" if name == "-" else name)
+        lines = file.read_bytes().decode(errors="replace").split("\n")
         at = min(int(number), len(lines)) - 1
         while at > 0 and not lines[at].strip():
             at -= 1
@@ -141,7 +150,8 @@ def called(sentence):
 
 def pattern(sentence):
     """What a report of this sentence says: anything where a name stands, and what it is said of before."""
-    return re.compile("(?:`.*`:? (?:points to nothing: )?)?" + re.sub(r"\\\{[^}]*\\\}", ".+", re.escape(sentence)))
+    like = re.sub(r"\\\{[^}]*\\\}", ".+", re.escape(sentence))
+    return re.compile(f"(?:`.*`:? (?:points to nothing: )?)?{like}")
 
 
 def report_of(sentence, case=""):
@@ -163,11 +173,13 @@ def example(report):
     schemas = re.findall(r"^--schema\n(.*)$", (report.folder / "words").read_text(), re.MULTILINE)
     paths = [(report.folder / path).resolve().relative_to(TOP) for path in schemas]
     over = " and ".join(f"[{path.name}](../{path})" for path in paths)
-    yield from (f"The case: [{report.case}](../tools/cases/{report.case}){f', over {over}' if over else ''}.", "")
+    case = f"[{report.case}](../tools/cases/{report.case})"
+    yield from (f"The case: {case}, over {over}." if over else f"The case: {case}.", "")
 
 
 def entry(heading, said, report, mend):
-    """An entry of the page: what is said of a fault, a report of it if there is one, and the sentences of `mends`."""
+    """An entry of the page: what is said of a fault, a report of it if there is one, and the sentences of
+    `mends`."""
     yield from (f"### {heading}", "", *layout.listed([said] if said else []))
     yield from example(report) if report else ()
     yield from (f"{name}: {sentence}\n" for name, sentence in mend.items() if name != "Case")
@@ -196,7 +208,8 @@ def pages():
 
 
 def findings():
-    """None for each variant that has an entry, and a case or a reason why there is none, and else what is wanting."""
+    """None for each variant that has an entry, and a case or a reason why there is none, and else what is
+    wanting."""
     known = set()
     for kind in KINDS:
         for part, sentence in variants(kind):
@@ -206,7 +219,7 @@ def findings():
             if mend is None:
                 yield f"tools/cases/mends: no entry for {name}"
             elif (report_of(sentence, mend.get("Case", "")) is None) != ("Not shown" in mend):
-                yield f"tools/cases: {name} is to have a case, or else a line `Not shown` in mends, and not both"
+                yield f"tools/cases: {name} has to have a case or a line `Not shown` in mends, and not both"
             else:
                 yield None
     others = (name for name in mends() if name not in known and not name.startswith("case "))

@@ -10,8 +10,8 @@ LINK = re.compile(r"\[([^\]]+)\]\(([\w:]+)\)|\[`([^`\]]+)`\](?!\()")
 
 
 class Page(NamedTuple):
-    """A page: its name, its title, where what stands on it is declared, the module whose comment comes first, or the first of the
-    former, and the library that names it all."""
+    """A page: its name, its title, where what stands on it is declared, the module whose comment comes
+    first, or the first of the former, and the library that names it all."""
 
     name: str
     title: str
@@ -21,7 +21,8 @@ class Page(NamedTuple):
 
 
 class Place(NamedTuple):
-    """Where an item is shown: the folder and the page, and the paths by which callers name it, the shortest first."""
+    """Where an item is shown: the folder and the page, and the paths by which callers name it, the shortest
+    first."""
 
     folder: str
     page: Page
@@ -38,18 +39,22 @@ class Block(NamedTuple):
 
 PAGES = [
     Page("compiling", "Documents compiled in one call", "apollo_compiler"),
-    Page("text", "GraphQL text: parsing and printing", "graphql_text graphql_printing", "apollo_compiler::text"),
+    Page(
+        "text", "GraphQL text: parsing and printing", "graphql_text graphql_printing", "apollo_compiler::text"
+    ),
     Page("schema", "Schemas", "apollo_schema", "apollo_schema::schema"),
     Page(
         "schema_builder",
         "The build of a schema, and its faults",
-        "apollo_schema::schema_builder apollo_schema::build_failure apollo_schema::orphan_names apollo_folding apollo_meaning",
+        "apollo_schema::schema_builder apollo_schema::build_failure apollo_schema::orphan_names"
+        " apollo_folding apollo_meaning",
     ),
     Page("types", "The types of a schema", "apollo_types"),
     Page(
         "kinds",
         "The types of a schema, kind by kind",
-        " ".join(f"apollo_types::{kind}_type" for kind in ("scalar", "object", "interface", "union", "enum", "input_object")),
+        "apollo_types::scalar_type apollo_types::object_type apollo_types::interface_type"
+        " apollo_types::union_type apollo_types::enum_type apollo_types::input_object_type",
         "apollo_types",
     ),
     Page("components", "Components: what types are made of, with origins", "apollo_component"),
@@ -74,7 +79,8 @@ PAGES = [
     Page(
         "tables",
         "Tables and sets",
-        " ".join(f"graphql_nodes::collections::{name}" for name in ("table", "key_set", "hash_keys")),
+        "graphql_nodes::collections::table graphql_nodes::collections::key_set"
+        " graphql_nodes::collections::hash_keys",
         "apollo_compiler::collections",
     ),
     Page("peglinden", "The run of peglinden", "peglinden_run::running", library="peglinden_run"),
@@ -93,9 +99,13 @@ LAWS = [
         "apollo_schema_laws::rearrangement apollo_schema_laws::rearranged_builds",
     ),
     Page(
-        "well_formed", "What could have come of a text", "apollo_well_formed::laws apollo_well_formed_documents::laws"
+        "well_formed",
+        "What could have come of a text",
+        "apollo_well_formed::laws apollo_well_formed_documents::laws",
     ),
-    Page("canonical_text", "From text to text", "apollo_canonical_text::laws apollo_canonical_documents::laws"),
+    Page(
+        "canonical_text", "From text to text", "apollo_canonical_text::laws apollo_canonical_documents::laws"
+    ),
     Page("coordinate", "Schema coordinates", "apollo_coordinate::laws"),
     Page("walks", "Walks over selections", "apollo_walks::laws"),
     Page("executable", "Typed documents", "apollo_executable::laws"),
@@ -106,7 +116,8 @@ LAWS = [
     Page(
         "equality",
         "What `==` compares, and clones",
-        "graphql_nodes::laws graphql_ast::laws apollo_component::laws apollo_types::laws apollo_reporting::laws",
+        "graphql_nodes::laws graphql_ast::laws apollo_component::laws apollo_types::laws"
+        " apollo_reporting::laws",
     ),
 ]
 
@@ -128,7 +139,8 @@ def pages_of(home):
 
 @functools.cache
 def places():
-    """Where each public item is shown. What a library hands on of one that has its own pages is shown there alone."""
+    """Where each public item is shown. What a library hands on of one that has its own pages is shown there
+    alone."""
     found = {}
     for library in dict.fromkeys(page.library for page in (*PAGES, *LAWS)):
         for home, paths in exports.public(library).items():
@@ -162,14 +174,15 @@ def impls(crate):
 
 
 def calls(home):
-    """The calls of a trait, or the public ones of a type, with the file and the head of the block of each: first those that stand
-    beside it."""
+    """The calls of a trait, or the public ones of a type, with the file and the head of the block of each:
+    first those that stand beside it."""
     own, item = exports.file_of(home), exports.declared_at(home)
     if item.kind == "trait":
         yield from ((own, "", member) for member in item.members if member.kind == "fn")
     for path, block in sorted(impls(home.crate).get(home.name, ()), key=lambda it: it[0] != own):
         if not block.trait:
-            yield from ((path, block.head, member) for member in block.members if member.is_public and not member.is_hidden)
+            its = (member for member in block.members if member.is_public and not member.is_hidden)
+            yield from ((path, block.head, member) for member in its)
 
 
 @functools.cache
@@ -192,7 +205,8 @@ def anchor(home):
 
 @functools.cache
 def anchors():
-    """The items that have a name, with where they are shown: a call by its type and its name, and so a field and a variant."""
+    """The items that have a name, with where they are shown: a call by its type and its name, and so a
+    field and a variant."""
     found = {}
     for home, place in places().items():
         at = f"{place.folder}/{place.page.name}.md"

@@ -1,15 +1,17 @@
-"""Reads what a source declares, with its comments: the items of a `.rt` file, and the words of a module of `specs/`."""
+"""Reads what a source declares, with its comments: the items of a `.rt` file, and the words of a module of
+`specs/`."""
 import re
 from typing import NamedTuple
 
-HEAD = re.compile(r"(pub(?:\((\w+)\))? )?(?:const (?=fn))?(fn|struct|enum|trait|type|const|mod|use|impl)\b *(.*)", re.DOTALL)
+KINDS = "fn|struct|enum|trait|type|const|mod|use|impl"
+HEAD = re.compile(rf"(pub(?:\((\w+)\))? )?(?:const (?=fn))?({KINDS})\b *(.*)", re.DOTALL)
 GOES_ON = re.compile(r"[)}\]{>]|where\b")
 CLAUSE = re.compile(r"(ensures|requires)(\*?)(?: (\w+))? (\{.*)", re.DOTALL)
 WORD = re.compile(r"(?:abbrev |unfoldable )?pub (record |data |abbrev )?(\S+)(.*)", re.DOTALL)
 
 
 class Clause(NamedTuple):
-    """A clause of a contract: `ensures` or `requires`, its name if it has one, and its text without braces."""
+    """A clause of a contract: `ensures` or `requires`, its name if it has one, its text without braces."""
 
     kind: str
     name: str
@@ -17,8 +19,8 @@ class Clause(NamedTuple):
 
 
 class Item(NamedTuple):
-    """An item of a `.rt` file or a member of one. `head` is what stands before its clauses, its members or its body, and of a member
-    that is `ghost` what it is equal to."""
+    """An item of a `.rt` file or a member of one. `head` is what stands before its clauses, its members or
+    its body, and of a member that is `ghost` what it is equal to."""
 
     kind: str
     name: str
@@ -108,8 +110,12 @@ def member(comment, attributes, lines, indent):
     found = re.match(r"(pub(?:\(\w+\))? )?(\w+)", text)
     if not found or text.startswith("ghost"):
         return None
-    fields = [member(*part, indent + 4) for part in parts(lines[1:-1], indent + 4)] if lines[0].endswith("{") else []
-    return Item("part", found[2], found[1] == "pub ", comment, attributes, text.rstrip(","), (), tuple(filter(None, fields)))
+    fields = members_of(lines[1:-1], indent + 4) if lines[0].endswith("{") else ()
+    return Item("part", found[2], found[1] == "pub ", comment, attributes, text.rstrip(","), (), fields)
+
+
+def members_of(lines, indent):
+    return tuple(filter(None, (member(*part, indent) for part in parts(lines, indent))))
 
 
 def item(comment, attributes, lines, indent):
@@ -123,10 +129,9 @@ def item(comment, attributes, lines, indent):
         whole = " ".join(line.strip() for line in lines)
         return Item("use", "", is_public, comment, attributes, re.sub(r"^(pub )?use |;$", "", whole), (), ())
     head, clauses, inside = divided(lines, indent)
-    members = ()
-    if kind in ("struct", "enum", "trait", "impl"):
-        members = tuple(filter(None, (member(*part, indent + 4) for part in parts(inside, indent + 4))))
-    return Item(kind, "" if kind == "impl" else name, is_public, comment, attributes, head.rstrip(";"), clauses, members)
+    members = members_of(inside, indent + 4) if kind in ("struct", "enum", "trait", "impl") else ()
+    name = "" if kind == "impl" else name
+    return Item(kind, name, is_public, comment, attributes, head.rstrip(";"), clauses, members)
 
 
 def items(path):
@@ -146,15 +151,16 @@ def head_comment(path, sign="//!"):
 
 
 def imports(text):
-    """The words that a source takes from the `specs/` of crates by name, with the crate and the module of each."""
+    """The words that a source takes from the `specs/` of crates by name, with the crate and the module of
+    each."""
     found = re.findall(r"\buse Rattle\.(\w+)\.specs\.([\w.]+)\.\{([^}]*)\}", text)
-    return {
-        word.split(" as ")[-1].strip(): (crate, module) for crate, module, words in found for word in words.split(",")
-    }
+    homes = ((word, (crate, module)) for crate, module, words in found for word in words.split(","))
+    return {word.split(" as ")[-1].strip(): home for word, home in homes}
 
 
 def opened(text):
-    """The lines of a module of `specs/`, those of modules in it no further in, with the parameters that hold at each."""
+    """The lines of a module of `specs/`, those of modules in it no further in, with the parameters that
+    hold at each."""
     around = []
     for line in text.split("\n"):
         while around and line.strip() and of(line) <= around[-1][0]:
@@ -192,7 +198,7 @@ def word(comment, lines, parameters):
     if is_record:
         at = next((at for at, line in enumerate(lines) if line.rstrip().endswith(" where")), len(lines) - 1)
         head = lines[: at + 1]
-    whole = re.sub(r"\s+", " ", " ".join(line.split(" --")[0].strip() for line in head)).removesuffix(" where")
+    whole = " ".join(" ".join(line.split(" --")[0] for line in head).split()).removesuffix(" where")
     found = WORD.match(whole)
     fields = tuple(fields_of(lines[len(head) :])) if is_record else ()
     its_type = found[3].strip()

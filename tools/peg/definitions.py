@@ -1,4 +1,5 @@
-"""The pages of `docs/definitions`: the words of contracts, from the comments that stand at them in `specs/`."""
+"""The pages of `docs/definitions`: the words of contracts, from the comments that stand at them in
+`specs/`."""
 import re
 from typing import NamedTuple
 
@@ -25,12 +26,14 @@ def modules(crate):
 
 def handed_on(file):
     """The words of other crates that a module hands on, by crate."""
-    for crate, words in re.findall(r"^pub use Rattle\.(\w+)\.[\w.]+\.\{([^}]*)\}", file.read_text(), re.MULTILINE):
+    pattern = re.compile(r"^pub use Rattle\.(\w+)\.[\w.]+\.\{([^}]*)\}", re.MULTILINE)
+    for crate, words in pattern.findall(file.read_text()):
         yield crate, ", ".join(f"`{word.strip()}`" for word in words.split(","))
 
 
 def crates():
-    """The crates that define words, bottom up, and what the comment above its line of `crates.txt` says of each."""
+    """The crates that define words, bottom up, and what the comment above its line of `crates.txt` says of
+    each."""
     lines = (TOP / "crates.txt").read_text().split("\n")
     said = {line.split(":")[0]: above[2:] for above, line in zip(lines, lines[1:]) if above.startswith("# ")}
     return {crate: said.get(crate, "") for crate in sources.crates() if (CRATES / crate / "specs").is_dir()}
@@ -74,7 +77,8 @@ def index():
 def all_words():
     """All words from A to Z, each with a link to its module."""
     yield from ("# Words from A to Z", "", layout.MADE, "")
-    found = [(word.name, crate, module.name) for crate in crates() for module in modules(crate) for word in module.words]
+    its_modules = [(crate, module) for crate in crates() for module in modules(crate)]
+    found = [(word.name, crate, module.name) for crate, module in its_modules for word in module.words]
     for word, crate, module in sorted(found, key=lambda it: (it[0].lower(), it)):
         yield f"- `{word}`: [{crate}, {module}]({crate}.md#{layout.slug(module)})"
 

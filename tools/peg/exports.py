@@ -64,7 +64,8 @@ def names_of(crate, module):
 
 
 def resolved(crate, path):
-    """Where what this path names is declared, in a source of a crate, or None where that is no crate of ours."""
+    """Where what this path names is declared, in a source of a crate, or None where that is no crate of
+    ours."""
     first, *rest = path.split("::")
     home = Home(crate if first == "crate" else first, ())
     if not (CRATES / home.crate / "src").is_dir():
@@ -93,4 +94,5 @@ def public(crate):
 
 
 def declared_at(home):
-    return next(item for item in items_of(home.crate, home.module) if item.name == home.name and item.kind != "use")
+    its = items_of(home.crate, home.module)
+    return next(item for item in its if item.name == home.name and item.kind != "use")

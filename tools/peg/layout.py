@@ -63,8 +63,10 @@ def cut(text, sign):
 
 
 def inside(text):
-    """A text up to its last bracket, if that ends with it, and what stands in there; the name that it has there stays before."""
-    at = next((at for at, depth in enumerate(depths(text)) if depth == 0 and text[at] == "(" and closes(text, at)), -1)
+    """A text up to its last bracket, if that ends with it, and what stands in there; the name that it has
+    there stays before."""
+    outer = (at for at, depth in enumerate(depths(text)) if depth == 0 and text[at] == "(")
+    at = next((at for at in outer if closes(text, at)), -1)
     found = at >= 0 and re.match(r"\(λ [^.]+\. ?", text[at:])
     return (text[: at + found.end()].rstrip(), text[at + found.end() :]) if found else None
 
@@ -82,7 +84,8 @@ def wrapped(text, indent):
     for sign in "→", "×", "≡":
         first, *others = cut(text, sign)
         if others:
-            return [*wrapped(first, indent), *(line for other in others for line in wrapped(other, indent + "  "))]
+            below = (line for other in others for line in wrapped(other, indent + "  "))
+            return [*wrapped(first, indent), *below]
     if inner := inside(text):
         begin, body = inner
         *lines, last = wrapped(body[:-1], indent + "  ")
@@ -90,4 +93,5 @@ def wrapped(text, indent):
     at = text.rfind(" ", 0, WIDTH - len(indent))
     if at <= 0:
         return [indent + text]
-    return [indent + text[:at], *wrapped(text[at + 1 :], indent if indent.endswith("      ") else indent + "  ")]
+    below = indent if indent.endswith("      ") else indent + "  "
+    return [indent + text[:at], *wrapped(text[at + 1 :], below)]
