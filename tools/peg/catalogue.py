@@ -40,14 +40,13 @@ class Kind(NamedTuple):
 KINDS = [
     Kind(
         "Faults of a schema",
-        "`peglinden schema` and `check` report them. What is left out is not in the schema; all else is.",
+        "`peglinden schema` and `check` report them. The schema has all but what is left out.",
         "BuildError",
         "apollo_meaning/src/build_error.rt",
     ),
     Kind(
         "Faults of a document",
-        "`peglinden check`, `typed` and `fields` report them. What is left out is not in the typed document; all"
-        " else is.",
+        "`peglinden check`, `typed` and `fields` report them. The typed document has all but what is left out.",
         "BuildError",
         "apollo_document/src/build_error.rt",
     ),
@@ -56,8 +55,7 @@ KINDS = [
     ),
     Kind(
         "Text that is refused",
-        "Reading stops at the first thing that is wrong. Nothing is then known of the file, and the program ends"
-        " with status 2.",
+        "Reading stops at the first thing that is wrong, and the program ends with status 2.",
         "ParseErrorKind",
         "graphql_text/src/parse_error.rt",
     ),
