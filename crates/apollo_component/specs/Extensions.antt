@@ -1,4 +1,9 @@
 -- Identities of extensions: GraphQL specification of October 2021, sections 3.3.2 and 3.4.3.
+--
+-- **Identity.** An identity of an extension is a number and the location of the extension. Two
+-- identities are the same if their numbers are. The bare value of an identity is its number. The
+-- identities *drawn from* a number on have that number, the next, and so on, each with the location of
+-- its extension.
 use Rattle.std.specs.Prelude.{ℕ, ◌+◌, List, [], ◌∷◌, Option, None, Some, Bool, true, false, ◌==◌}
 use Rattle.graphql_nodes.specs.declared.source.SourceSpan.{SourceSpan}
 use Rattle.apollo_component.specs.declared.extension.ExtensionSource.{ExtensionSource}

@@ -1,4 +1,8 @@
 -- The first of each name, and the later ones.
+--
+-- **First of each.** `first_of_each same list` keeps the elements that are the same as no earlier one,
+-- in order. For fields the test compares keys, for interfaces the names' texts, for identities their
+-- numbers.
 use Rattle.std.specs.Prelude.{ℕ, Bool, not, List, [], ◌∷◌, take, map, filter, unwrap_or}
 use Rattle.std.specs.List.{enumerate_from, find, list_any}
 

@@ -1,5 +1,11 @@
 -- What types and the schema's definition are written out as: the identities of their extensions, and what is of one
 -- origin. GraphQL specification of October 2021, sections 3.3 and 3.4.3.
+--
+-- **Identities of a type.** The identities of a type are the distinct ones among its *origins*, in order
+-- of first appearance. Of equal identities the first gives the location.
+--
+-- **Components of one origin.** The components of one origin (`of_origin`) are exactly those of that
+-- origin, each sort in the type's own order.
 use Rattle.std.specs.Prelude.{List, [], ◌∷◌, ◌++◌, map, filter, Bool, Option, if◌then◌else◌}
 use Rattle.std.specs.List.{filter_map}
 use Rattle.graphql_nodes.specs.NameView.{NameView}

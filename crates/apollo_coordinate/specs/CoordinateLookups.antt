@@ -1,5 +1,9 @@
 -- What the lookups of coordinates answer, over the maps of any schema value alone: Schema Coordinates RFC, and the GraphQL
 -- specification of October 2021, sections 3.5 to 3.10, 3.13, 4.1 and 4.2.
+--
+-- **Attribute.** The attribute a of a name T, over any schema value: the enum value or input field a
+-- that the type of T declares, or else the *field* a of T, which may be a meta-field. (So a value
+-- `__schema` of an enum that is the query root is found before the meta-field.)
 use Rattle.std.specs.Prelude.{◌≡◌, ◌⊎◌, Bool, true, false, Option, None, Some, option_map, IsSome}
 use Rattle.std.specs.Option.{option_map_or}
 use Rattle.graphql_nodes.specs.NameView.{NameView}

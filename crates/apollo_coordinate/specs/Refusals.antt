@@ -1,5 +1,20 @@
 -- Why a text is no coordinate. A text is read from the left: at the marks first, and then part by part.
 -- Schema Coordinates RFC.
+--
+-- **Refusal.** A text is read from the left: at its marks, and then name by name. The refusal of a text
+-- in the order of reading:
+--
+-- | form | `InvalidFormat` | `InvalidName`, of what is no name |
+-- |---|---|---|
+-- | `T` | never | the text is no name |
+-- | `T.a` | there is no `.` | what stands before the first `.`; or else what stands after it |
+-- | `@d` | the text doesn't begin with `@` | what follows the `@` |
+-- | `T.f(a:)`, `@d(a:)` | there is no `(` | |
+-- | then, of what stands before the first `(` | as `T.a` or `@d` | as `T.a` or `@d` |
+-- | then, of what stands after it | something else than `)` alone follows the first `:`, or there is none | what stands before the first `:` |
+--
+-- A text of none of these forms, read as a coordinate of any form, is refused as `InvalidName` of the
+-- whole text, without the `@` that it may begin with.
 use Rattle.std.specs.Prelude.{◌≡◌, ◌≢◌, ◌⊎◌, ◌++◌, ◌==◌, ℕ, List, [], ◌∷◌, None, All, codes, if◌then◌else◌}
 use Rattle.graphql_nodes.specs.NameSyntax.{IsName}
 use Rattle.graphql_nodes.specs.declared.name.NameError.{NameError}

@@ -1,6 +1,11 @@
 -- The faults of an untyped list in a type, in order: for each typable selection those of its subselections in its child type,
 -- for each other one what is wrong with it; of a field, the path of both is longer by its response key. GraphQL specification
 -- of October 2021, sections 2.4 to 2.8.
+--
+-- **Faults of selections.** `faults_of_selections` goes by the selections in order. A typable one has
+-- the faults of its subselections, in its child type. Any other one has what is wrong with it: of a
+-- field nothing, where the schema lacks the type that it is selected from. If the selection is a field,
+-- the path of these faults is longer by its response key.
 use Rattle.std.specs.Prelude.{List, [], ◌∷◌, ◌++◌, Option, Result, Ok, Err}
 use Rattle.std.specs.List.{flat_map}
 use Rattle.graphql_nodes.specs.NameView.{NameView}

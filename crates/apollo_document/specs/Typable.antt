@@ -1,5 +1,18 @@
 -- Which untyped selections are typable in a type, over a schema value or without a schema, and what is wrong with the others:
 -- GraphQL specification of October 2021, sections 2.4 to 2.8. The leaf types are those of sections 3.5 and 3.9.
+--
+-- **Typable.** Of a selection in a type, which is given by its name, over a schema value:
+--
+-- - A field is typable (`typable_field`) if the schema gives a definition for its name there, and it has
+--   no subselections or the definition's inner name is that of no scalar and no enum.
+-- - An inline fragment is typable (`typable_fragment`) if it has no condition, or one that names a type
+--   of the schema.
+-- - A spread is always typable.
+--
+-- Without a schema all are typable, and a field has the definition of its name whose type is `UNKNOWN`.
+--
+-- **Child type.** The child type of a typable field is its definition's inner name. That of a typable
+-- inline fragment is its condition, or without one the type that the fragment is in.
 use Rattle.std.specs.Prelude.{◌==◌, Bool, true, false, List, [], ◌∷◌, length, Option, None, Some, is_some, Result, Ok, Err, codes}
 use Rattle.graphql_nodes.specs.NameView.{NameView, plain_name}
 use Rattle.graphql_nodes.specs.NodeView.{NodeView}

@@ -1,4 +1,10 @@
 -- What the constructors of typed selections make: GraphQL specification of October 2021, sections 2.4 to 2.8.
+--
+-- **New field.** A new field (`new_field`) has a name and a definition, no alias, arguments and
+-- directives, and a set without selections that selects from the inner name of the definition's type.
+--
+-- **New inline fragment.** A new inline fragment selects from its condition, or from the type of the set
+-- that it is made for.
 use Rattle.std.specs.Prelude.{◌≡◌, [], Option, None, Some, IsSome}
 use Rattle.graphql_nodes.specs.NameView.{NameView}
 use Rattle.graphql_nodes.specs.NodeView.{NodeView}

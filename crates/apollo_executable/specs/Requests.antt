@@ -1,4 +1,7 @@
 -- The operation that a request asks for: GraphQL specification of October 2021, section 6.1.
+--
+-- **Requested operation.** Of a name, the one that stands under the name's text. Without a name, the
+-- only operation of the document: where there is none, or more than one, none is requested.
 use Rattle.std.specs.Prelude.{◌≡◌, Option, None, Some}
 use Rattle.std.specs.Borrow.{Bor}
 use Rattle.graphql_nodes.specs.NameView.{NameView}

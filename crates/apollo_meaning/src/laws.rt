@@ -179,8 +179,8 @@ pub fn later_components_are_at_fault()
     ensures joined { (c : Collection) (ty : NameView) (es more : List Entry) → collisions c ty [] (es ++ more) ≡ collisions c ty [] es ++ collisions c ty (map (λ e. e.0) es) more }
 {}
 
-/// It is so with a whole type, whose parts, its definition and then its extensions, join one after another: the components
-/// that are dropped are those that are the same as an earlier one in the joined list of all, in order. Each fault has the
+/// The parts of a whole type, its definition and then its extensions, join one after another: the components that are
+/// dropped are those that are the same as an earlier one in the joined list of all, in order. Each fault has the
 /// type's name as the part has it that the component stands in. So it is for each type of a list, with its name's first
 /// definition and the extensions of that one's kind. GraphQL specification of October 2021, sections 3.4.3 and 3.6 to
 /// 3.10.
@@ -233,9 +233,9 @@ pub fn extensions_alone_adopted()
     ensures faults { faults_of true (added false extensions_alone) ≡ adopted_faults }
 {}
 
-/// The same list where extensions are not adopted, computed: nothing is folded, there is no schema definition, and each
-/// extension is a fault, those of types first and those of the schema last. GraphQL specification of October 2021,
-/// sections 3.3.2 and 3.4.3.
+/// The list of [`extensions_alone_adopted`] where extensions are not adopted, computed: nothing is folded, there is no
+/// schema definition, and each extension is a fault, those of types first and those of the schema last. GraphQL
+/// specification of October 2021, sections 3.3.2 and 3.4.3.
 pub fn extensions_alone_orphaned()
     ensures order { folding_order (whole false (added false extensions_alone)) ≡ [] }
     ensures definition { schema_of 0 (folding_order (whole false (added false extensions_alone))) (whole false (added false extensions_alone)) ≡ None }

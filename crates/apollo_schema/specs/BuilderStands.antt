@@ -1,4 +1,21 @@
 -- The list of definitions that a builder stands for: GraphQL specification of October 2021, section 3.
+--
+-- **What a builder stands for.** `StandsFor start list builder` relates a builder to a list and a first
+-- number. Callers need nothing of what is in it: the contracts of `new`, `with_source`, `add_ast`,
+-- `build`, `build_with_source`, `iter_orphan_extension_types`, `clone` and the two options say all that
+-- is known of it. The list is of definitions with their settings; `added ignores definitions` gives all
+-- of a document the same. A new builder stands for the built-in definitions and the first number 0, or
+-- that of the source that it was given. A builder keeps its **first number** (`first_number`), and
+-- stands for a list with no other. `adopts` and `ignores` of a builder are the settings of its two
+-- options. Adoption is settled at the end: the setting at `build` counts, for the whole list. Whether
+-- further definitions of built-in types are ignored counts when a definition is added.
+--
+-- `HasFailed builder` says that a call was refused, and `IsLeftWith source builder` that this source is
+-- then left. `HasBuilt` says of an answer of `build` that it is a schema or faults, and `WasRefused`
+-- that it is neither. `types_held` and `waiting_held` are the types that a builder has so far, under
+-- their names, and what waits for a definition. Of an iterator over orphan names `names_left` are the
+-- names that it has still to give, and `IsExtendedUnder held name` says that what waits under a name is
+-- an extension that has this very name, and further extensions of types alone.
 use Rattle.std.specs.Prelude.{◌≡◌, ℕ, Bool, List, []}
 use Rattle.apollo_component.specs.declared.extension.ExtensionSource.{ExtensionSource}
 use Rattle.apollo_schema.specs.declared.schema_builder.SchemaBuilder.{SchemaBuilder}

@@ -1,5 +1,16 @@
 -- What lookups in a schema answer, over the maps of any schema value alone: GraphQL specification of October 2021, sections
 -- 2, 3.6 to 3.8, 4.1 and 4.2.
+--
+-- **Type of a name.** The one that stands under the name's text, whatever name the type has itself.
+--
+-- **Field.** The field f of a name T (`field_at` of `apollo_schema`): the type of T has one if it is an
+-- object or an interface that declares f, and that is the field; or else if one of its meta-fields is
+-- called f.
+--
+-- **Subtype.** A type **declares** an interface if it is an object or an interface and lists the
+-- interface's name. A name t is a subtype of a name a (`is_subtype`) if the type of a is an interface
+-- which the type of t declares, or if the type of a is a union that lists t, whether t has a type or
+-- not. Nothing is a subtype through something else, and of itself only what lists its own name.
 use Rattle.std.specs.Prelude.{◌≡◌, Bool, false, List, [], ◌∷◌, ◌++◌, Option, None, Some, if◌then◌else◌}
 use Rattle.std.specs.List.{find}
 use Rattle.std.specs.Option.{option_map_or, option_or}

@@ -1,5 +1,10 @@
 -- The fields that types have without declaring them: GraphQL specification of October 2021, sections 4.1 and 4.2. They have
 -- no description and no directive, and have no location.
+--
+-- **Meta-fields.** `__typename: String!`, `__schema: __Schema!` and `__type(name: String!): __Type`,
+-- without descriptions and directives, of the origin "definition" and without locations. A type has
+-- `__typename` if it is an object, an interface or a union. If the name that it is looked up by is that
+-- of the query root it has the other two, whatever its kind.
 use Rattle.std.specs.Prelude.{ℕ, List, [], ◌∷◌, None, codes}
 use Rattle.graphql_nodes.specs.NameView.{plain_name}
 use Rattle.graphql_nodes.specs.NodeView.{NodeView}

@@ -69,8 +69,9 @@ pub fn implementers()
         → IsTrue (is_subtype types i t) ↔ IsTrue (is_implementer types i t) }
 {}
 
-/// It is so of the types of each schema, whatever made it: its table has no two of one name. Contracts see a table as the list of
-/// its entries, which doesn't say so, but the table itself does.
+/// A type of a schema, whatever made it, is a subtype of an interface exactly where it is among the interface's
+/// implementers: its table has no two types of one name. Contracts see a table as the list of its entries, which doesn't
+/// say so, but the table itself does.
 pub fn implementers_in_a_schema(schema: &Schema)
     ensures { (i t : NameView) → IsSome (interface_node (type_at schema.now.types i))
         → IsTrue (is_subtype schema.now.types i t) ↔ IsTrue (is_implementer schema.now.types i t) }

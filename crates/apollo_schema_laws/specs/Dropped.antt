@@ -38,10 +38,11 @@ first_before f xs n i = option_and_then (λ d. if nat_lt d.0 i then Some d else 
 abbrev pub after_first : {P : Type 0} → Family P → List ListItem → List (Placed P) → List (Dropped P)
 after_first f xs es = filter_map (λ e. option_map (λ d. (d, e)) (first_before f xs (f.key e.1) e.0)) es
 
--- the further definitions of the schema, and of types
+-- the further definitions of the schema, each with the first one
 abbrev pub further_schemas : List ListItem → List (Dropped SchemaPart)
 further_schemas xs = after_first schemas xs (definition_places schemas xs)
 
+-- the further definitions of types, each with the first one of its name
 abbrev pub further_types : List ListItem → List (Dropped TypePart)
 further_types xs = after_first types xs (definition_places types xs)
 

@@ -1,4 +1,23 @@
 -- The faults of a list by their sorts: GraphQL specification of October 2021, sections 2.2, 3, 3.3, 3.4.3, 3.5 to 3.10 and 3.13.
+--
+-- **Reported.** The **sort** of a fault is what it is that is dropped (`sort_of`): an operation or a
+-- fragment; a further definition of the schema, of a directive or of a type; an extension of a type or
+-- of the schema that has no definition; an extension of the type of a name that is of another kind; a
+-- component that is given to the type of a name a second time; a root that is given a second time.
+-- `reported sort adopts list` are the faults of a list that are of this sort, in order of discovery, and
+-- `reported_sorts` the sorts that it has faults of.
+--
+-- What is dropped as a whole is said by places of the whole list:
+--
+-- - a further definition (`further_schemas`, `further_types`) stands after the first one of its key, and
+--   is seen with that one; a further definition of a directive (`further_directives`) stands after the
+--   first one of its name that was handed in, not marked built-in
+-- - a further definition of a type is passed over (`is_passed_over`) where it may be ignored and the
+--   first one is built-in
+-- - an extension has no definition (`undefined_places`) if its key has none; those of types stand by
+--   name, in order of first extension (`orphans_by_name`)
+-- - an extension is of another kind (`of_another_kind`) if its name's first definition has not its kind,
+--   so that it is not *folded*
 use Rattle.std.specs.Prelude.{ℕ, Bool, true, false, List, filter, map}
 use Rattle.graphql_nodes.specs.SameText.{same}
 use Rattle.apollo_component.specs.FirstOfEach.{first_of_each}

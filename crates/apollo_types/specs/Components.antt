@@ -1,5 +1,12 @@
 -- The components of types and of a schema's definition, each with its origin, in order: GraphQL specification of October
 -- 2021, sections 3.3 and 3.5 to 3.10.
+--
+-- **Origins.** The origins of the components of a type or schema definition stand in the order of the
+-- components. Each component counts, so one origin may come more than once.
+--
+-- **Components in order.** The components of a type are one list, each with its origin: directives,
+-- interfaces, fields; or directives, then members, values or input fields; of a schema definition
+-- directives, then the roots of query, mutation and subscription.
 use Rattle.std.specs.Prelude.{List, [], map}
 use Rattle.std.specs.Map.Iter.{ShowsInOrder, deref}
 use Rattle.std.specs.Slice.Iter.{iter_rest}

@@ -1,4 +1,10 @@
 -- Selections as a walk sees them: GraphQL specification of October 2021, sections 2.4 to 2.8.
+--
+-- **Selections as a walk sees them.** A plain list: a field with the selections below it, a spread with
+-- the text of its name, an inline fragment with its selections. A walk over root fields sees nothing
+-- below a field (`plain`, with `deep` false). The fragments of a document stand under the texts of the
+-- keys of its table (`fragments_of`), whatever names they have themselves. A walk looks at no directive
+-- (`@skip`, `@include`) and no type condition, and merges no fields.
 use Rattle.std.specs.Prelude.{ℕ, Bool, false, ◌||◌, cond, List, [], ◌∷◌, ◌++◌, Option, None, Some}
 use Rattle.graphql_nodes.specs.SameText.{same}
 

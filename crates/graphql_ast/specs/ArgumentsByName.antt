@@ -1,4 +1,11 @@
 -- Arguments by their names: GraphQL specification of October 2021, sections 2.6 and 3.6.1.
+--
+-- **Specified value.** The specified value of a name is the value of the first argument of that name. An
+-- explicit null is a specified value like any other.
+--
+-- **Value of an argument.** The value of an argument is the specified one, if there is one. Else,
+-- without a definition: `NoSuchArgument`. Else the definition's default value, if there is one. Else, if
+-- the definition's type is non-null: `RequiredArgumentNotSpecified`. Else none.
 use Rattle.std.specs.Prelude.{List, Option, None, Some, Bool, true, false, find, Result, Ok, Err, option_map}
 use Rattle.graphql_nodes.specs.NameView.{NameView}
 use Rattle.graphql_nodes.specs.NodeView.{NodeView}

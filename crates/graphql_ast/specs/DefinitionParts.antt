@@ -1,5 +1,9 @@
 -- What definitions and extensions of the type system are made of, whatever their kind: GraphQL specification of October
 -- 2021, sections 3.3 and 3.5 to 3.10.
+--
+-- **Components that a definition is made of.** What the code calls `DefinitionParts`: directives,
+-- interfaces, fields, members, values, input fields and roots, sort by sort, from which a definition or
+-- extension of a kind is made. Those of a sort that the kind hasn't are left out.
 use Rattle.std.specs.Prelude.{List, [], ◌∷◌, ◌++◌, filter_map, Option, None, Some}
 use Rattle.graphql_nodes.specs.NameView.{NameView}
 use Rattle.graphql_nodes.specs.NodeView.{NodeView}

@@ -1,4 +1,8 @@
 -- Names as contracts see them: GraphQL specification of October 2021, section 2.1.9.
+--
+-- **What a contract sees.** A name is its text and its location. A node is its value and its location.
+-- Lists, texts, tables and sets are lists. So "the two are the same" in a contract always includes
+-- locations.
 use Rattle.std.specs.Prelude.{ℕ, List, Option, None, refl}
 use Rattle.std.specs.Coded.{Coded, code_by, coded×, coded_option, coded_list, coded_ℕ}
 use Rattle.graphql_nodes.specs.declared.source.SourceSpan.{SourceSpan}

@@ -1,4 +1,9 @@
 -- The text of definitions and documents: GraphQL specification of October 2021, section 2.2.
+--
+-- **The text of a tree.** The layout is that of `print` of `graphql-js` 16.6. Lists are `separated` by
+-- bytes, and `enclosed` by them too, or `on_lines`, further in. `type_shape` is the one shape of the six
+-- kinds, defined or extended. `definition_text` has a flag: a query without name, variables and
+-- directives keeps its keyword behind a definition that `takes_braces`.
 use Rattle.std.specs.Prelude.{ℕ, Bool, false, List, [], ◌∷◌, ◌++◌, if◌then◌else◌, codes}
 use Rattle.graphql_nodes.specs.declared.type_kind.TypeKind.TheVariants as t
 use Rattle.graphql_ast.specs.DefinitionParts.{no_parts}

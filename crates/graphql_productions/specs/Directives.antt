@@ -15,6 +15,7 @@ use Rattle.graphql_grammar.specs.Pieces.{Piece, Wrong, item, many, mapped, optio
 use Rattle.graphql_productions.specs.Nodes.{enclosed, name, node, or_none}
 use Rattle.graphql_productions.specs.Values.{value_node}
 
+-- an argument of its name and its value
 abbrev pub argument_of : NameView × (Unit {0} × NodeView Value) → Argument
 argument_of x = record { name = x.0; value = x.1.1 }
 
@@ -26,9 +27,11 @@ no_argument = λ _. Expected i.Argument
 unfoldable pub argument_node : FileId → Bool → ℕ → Piece (NodeView Argument)
 argument_node file constant depth = node file (mapped argument_of (seq (name file) (seq (sign k.Colon) (value_node file constant depth))))
 
+-- Argument, which begins with a name: section 2.6
 abbrev pub argument : FileId → Bool → ℕ → Piece (NodeView Argument)
 argument file constant depth = item is_name no_argument (argument_node file constant depth)
 
+-- Arguments, in parentheses, one at least: section 2.6
 abbrev pub argument_list : FileId → Bool → ℕ → Piece (List (NodeView Argument))
 argument_list file constant depth = enclosed k.LeftParen k.RightParen no_argument depth (λ inside. some (argument file constant inside))
 
@@ -36,6 +39,7 @@ argument_list file constant depth = enclosed k.LeftParen k.RightParen no_argumen
 unfoldable pub arguments : FileId → Bool → ℕ → Piece (List (NodeView Argument))
 arguments file constant depth = mapped or_none (optional (argument_list file constant depth))
 
+-- a directive of its name and its arguments
 abbrev pub directive_of : Unit {0} × (NameView × List (NodeView Argument)) → Directive
 directive_of x = record { name = x.1.0; arguments = x.1.1 }
 
@@ -47,6 +51,7 @@ no_directive = λ _. Expected (i.Word k.At)
 unfoldable pub directive_node : FileId → Bool → ℕ → Piece (NodeView Directive)
 directive_node file constant depth = node file (mapped directive_of (seq (sign k.At) (seq (name file) (arguments file constant depth))))
 
+-- Directive, which begins with `@`: section 2.12
 abbrev pub directive : FileId → Bool → ℕ → Piece (NodeView Directive)
 directive file constant depth = item (only k.At) no_directive (directive_node file constant depth)
 

@@ -1,4 +1,8 @@
 -- Documents: GraphQL specification of October 2021, section 2.2.
+--
+-- **Document.** One definition a production, each with its section. A `{` never follows a definition
+-- that `takes_braces`: behind `type T` it opens the fields of the type, behind `scalar S` it begins a
+-- query.
 use Rattle.std.specs.Prelude.{◌≡◌, ℕ, List, [], ◌∷◌, Bool, true, false, ◌||◌, ◌&&◌}
 use Rattle.graphql_nodes.specs.declared.source.FileId.{FileId}
 use Rattle.graphql_ast.specs.declared.definition.Definition.{Definition}
@@ -16,15 +20,19 @@ use Rattle.graphql_productions.specs.Operations.{fragment_definition, is_operati
 use Rattle.graphql_productions.specs.Selections.{bare_selections, no_selection, selection_set}
 use Rattle.graphql_productions.specs.TypeSystem.{expecting, extension, goes_on_type, is_described, is_description, is_none, system_definition}
 
+-- OperationDefinition with its keyword: section 2.3
 unfoldable pub operation_definition : FileId → ℕ → Piece Definition
 operation_definition file depth = mapped (λ x. d.OperationDefinition x) (node file (operation file depth))
 
+-- OperationDefinition as a selection set alone, a query: section 2.3
 unfoldable pub shorthand_definition : FileId → ℕ → Piece Definition
 shorthand_definition file depth = mapped (λ x. d.OperationDefinition x) (node file (shorthand file depth))
 
+-- FragmentDefinition: section 2.8
 unfoldable pub fragment : FileId → ℕ → Piece Definition
 fragment file depth = mapped (λ x. d.FragmentDefinition x) (node file (fragment_definition file depth))
 
+-- the definition that begins with a word of this kind
 abbrev pub definition_pick : FileId → ℕ → Kind → Piece Definition
 definition_pick file depth kind =
     choose (only k.LeftBrace kind) (shorthand_definition file depth) (
@@ -75,6 +83,7 @@ abbrev pub spells_document : FileId → ℕ → List Definition → List WordVie
 spells_document file depth [] words = ⊥
 spells_document file depth (x ∷ xs) words = spells_in_turn file depth (x ∷ xs) words
 
+-- selections in braces, where one stands in front, or without them
 abbrev pub selections_pick : FileId → ℕ → Kind → Piece (List Selection)
 selections_pick file depth kind = choose (only k.LeftBrace kind) (selection_set file depth) (bare_selections file depth)
 

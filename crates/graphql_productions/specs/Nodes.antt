@@ -15,6 +15,7 @@ use Rattle.graphql_grammar.specs.Words.{WordView}
 abbrev pub span_at : FileId → ℕ × ℕ → Option SourceSpan
 span_at file at = Some (record { file = file; start = at.0; end = at.1 })
 
+-- a node of a value, at its place in the file
 abbrev pub node_of : {A : Type 0} → FileId → A × (ℕ × ℕ) → NodeView A
 node_of file x = record { value = x.0; location = span_at file x.1 }
 
@@ -22,6 +23,7 @@ node_of file x = record { value = x.0; location = span_at file x.1 }
 abbrev pub node : {A : Type 0} → FileId → Piece A → Piece (NodeView A)
 node file p = mapped (node_of file) (located p)
 
+-- a name, at the place of its word in the file
 abbrev pub name_of : FileId → WordView → NameView
 name_of file w = record { text = w.text; location = span_at file (w.start, w.end) }
 
@@ -29,6 +31,7 @@ name_of file w = record { text = w.text; location = span_at file (w.start, w.end
 unfoldable pub name : FileId → Piece NameView
 name file = mapped (name_of file) (word is_name (λ _. Expected i.Name))
 
+-- what stands between two signs
 abbrev pub inner : {A : Type 0} → Unit {0} × (A × Unit {0}) → A
 inner x = x.1.0
 
@@ -45,5 +48,6 @@ abbrev pub or_none : {A : Type 0} → Option (List A) → List A
 or_none None = []
 or_none (Some xs) = xs
 
+-- what stands behind a sign
 abbrev pub behind : {A : Type 0} → Unit {0} × A → A
 behind x = x.1

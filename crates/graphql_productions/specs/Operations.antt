@@ -28,9 +28,11 @@ use Rattle.graphql_productions.specs.Values.{value_node, variable}
 abbrev pub is_operation_type : Kinds
 is_operation_type kind = only k.Query kind || (only k.Mutation kind || only k.Subscription kind)
 
+-- a root of an operation was expected
 abbrev pub no_root : Wrong
 no_root = λ _. Expected i.RootOperation
 
+-- the type of operation that begins with a word of this kind
 abbrev pub operation_type_pick : Kind → Piece OperationType
 operation_type_pick kind =
     choose (only k.Query kind) (mapped (λ _. o.Query) (sign k.Query)) (
@@ -42,6 +44,7 @@ operation_type_pick kind =
 abbrev pub operation_type : Piece OperationType
 operation_type = branch is_operation_type none operation_type_pick no_root
 
+-- DefaultValue: `=` and a constant value: section 2.10
 unfoldable pub default_body : FileId → ℕ → Piece (NodeView Value)
 default_body file depth = mapped behind (seq (sign k.Equals) (value_node file true depth))
 
@@ -49,9 +52,11 @@ default_body file depth = mapped behind (seq (sign k.Equals) (value_node file tr
 abbrev pub default_value : FileId → ℕ → Piece (NodeView Value)
 default_value file depth = headed (only k.Equals) (default_body file depth)
 
+-- the definition of a variable was expected
 abbrev pub no_variable : Wrong
 no_variable = λ _. Expected i.VariableDefinition
 
+-- the definition of a variable of its name, type, default value and directives
 abbrev pub variable_of : NameView × (Unit {0} × (NodeView TypeReference × (Option (NodeView Value) × DirectiveList))) → VariableDefinition
 variable_of x = record { name = x.0; ty = x.1.1.0; default_value = x.1.1.1.0; directives = x.1.1.1.1 }
 
@@ -63,6 +68,7 @@ typed file depth = seq (sign k.Colon) (seq (node file (type file depth)) (seq (o
 unfoldable pub variable_node : FileId → ℕ → Piece (NodeView VariableDefinition)
 variable_node file depth = node file (mapped variable_of (seq (variable file) (typed file depth)))
 
+-- VariableDefinition, which begins with `$`: section 2.10
 abbrev pub variable_definition : FileId → ℕ → Piece (NodeView VariableDefinition)
 variable_definition file depth = item (only k.Dollar) no_variable (variable_node file depth)
 
@@ -70,6 +76,7 @@ variable_definition file depth = item (only k.Dollar) no_variable (variable_node
 unfoldable pub variables : FileId → ℕ → Piece (List (NodeView VariableDefinition))
 variables file depth = mapped or_none (optional (enclosed k.LeftParen k.RightParen no_variable depth (λ inside. some (variable_definition file inside))))
 
+-- an operation of its parts
 abbrev pub operation_of : OperationType × (Option NameView × (List (NodeView VariableDefinition) × (DirectiveList × List Selection))) → OperationDefinition
 operation_of x = record { operation_type = x.0; name = x.1.0; variables = x.1.1.0; directives = x.1.1.1.0; selection_set = x.1.1.1.1 }
 
@@ -82,6 +89,7 @@ unfoldable pub operation : FileId → ℕ → Piece OperationDefinition
 operation file depth =
     mapped operation_of (seq operation_type (seq (optional (operation_name file)) (seq (variables file depth) (seq (directives file false depth) (selection_set file depth)))))
 
+-- a query of selections alone
 abbrev pub shorthand_of : List Selection → OperationDefinition
 shorthand_of selections = record { operation_type = o.Query; name = None; variables = []; directives = record { 0 = [] }; selection_set = selections }
 
@@ -89,6 +97,7 @@ shorthand_of selections = record { operation_type = o.Query; name = None; variab
 unfoldable pub shorthand : FileId → ℕ → Piece OperationDefinition
 shorthand file depth = mapped shorthand_of (selection_set file depth)
 
+-- a fragment of its name, condition, directives and selections
 abbrev pub fragment_of : Unit {0} × (NameView × (NameView × (DirectiveList × List Selection))) → FragmentDefinition
 fragment_of x = record { name = x.1.0; type_condition = x.1.1.0; directives = x.1.1.1.0; selection_set = x.1.1.1.1 }
 

@@ -29,6 +29,7 @@ no_selection = λ _. Expected i.Selection
 abbrev pub is_selection : Kinds
 is_selection kind = is_name kind || only k.Spread kind
 
+-- what stands behind an alias: `:` and the name of the field: section 2.7
 unfoldable pub alias_body : FileId → Piece NameView
 alias_body file = mapped behind (seq (sign k.Colon) (name file))
 
@@ -41,6 +42,7 @@ abbrev pub field_of : NameView → Option NameView → List (NodeView Argument) 
 field_of first None arguments directives selections = roll-Field (record { alias = None; name = first; arguments = arguments; directives = directives; selection_set = selections })
 field_of first (Some second) arguments directives selections = roll-Field (record { alias = Some first; name = second; arguments = arguments; directives = directives; selection_set = selections })
 
+-- a field of its alias, name, arguments, directives and selections
 abbrev pub field_made : NameView × (Option NameView × (List (NodeView Argument) × (DirectiveList × Option (List Selection)))) → Field
 field_made x = field_of x.0 x.1.0 x.1.1.0 x.1.1.1.0 (or_none x.1.1.1.1)
 
@@ -53,9 +55,11 @@ field file depth selections =
 abbrev pub no_fragment_name : Wrong
 no_fragment_name left = if begins (only k.On) left then ReservedName else Expected i.Name
 
+-- FragmentName: a name but `on`: section 2.8
 unfoldable pub fragment_name : FileId → Piece NameView
 fragment_name file = mapped (name_of file) (word (names_of names.Fragment) no_fragment_name)
 
+-- a spread of its name and directives
 abbrev pub spread_of : NameView × DirectiveList → FragmentSpread
 spread_of x = record { fragment_name = x.0; directives = x.1 }
 
@@ -63,6 +67,7 @@ spread_of x = record { fragment_name = x.0; directives = x.1 }
 unfoldable pub spread_body : FileId → ℕ → Piece FragmentSpread
 spread_body file depth = mapped spread_of (seq (fragment_name file) (directives file false depth))
 
+-- TypeCondition: `on` and the name of a type: section 2.8.1
 unfoldable pub condition_body : FileId → Piece NameView
 condition_body file = mapped behind (seq (sign k.On) (name file))
 
@@ -70,6 +75,7 @@ condition_body file = mapped behind (seq (sign k.On) (name file))
 abbrev pub type_condition : FileId → Piece NameView
 type_condition file = headed (only k.On) (condition_body file)
 
+-- an inline fragment of its condition, directives and selections
 abbrev pub inline_of : Option NameView × (DirectiveList × List Selection) → InlineFragment
 inline_of x = roll-InlineFragment (record { type_condition = x.0; directives = x.1.0; selection_set = x.1.1 })
 
@@ -81,9 +87,11 @@ inline_body file depth selections = mapped inline_of (seq (optional (type_condit
 abbrev pub spread_at : FileId → FragmentSpread → ℕ × ℕ → Selection
 spread_at file spread at = s.FragmentSpread (record { value = spread; location = span_at file at })
 
+-- an inline fragment as a selection, at its place in the file
 abbrev pub inline_at : FileId → InlineFragment → ℕ × ℕ → Selection
 inline_at file fragment at = s.InlineFragment (record { value = fragment; location = span_at file at })
 
+-- what stands behind `...` and begins with a word of this kind: an inline fragment or a spread
 abbrev pub fragment_pick : FileId → ℕ → Piece (List Selection) → Kind → Piece (ℕ × ℕ → Selection)
 fragment_pick file depth selections kind =
     choose (only k.On kind || (only k.At kind || only k.LeftBrace kind)) (mapped (inline_at file) (inline_body file depth selections)) (
@@ -102,6 +110,7 @@ is_of_directives kind = only k.At kind || only k.LeftParen kind
 abbrev pub fragment_body : FileId → ℕ → Piece (List Selection) → Piece (ℕ × ℕ → Selection)
 fragment_body file depth selections = branch is_fragment is_of_directives (fragment_pick file depth selections) no_selection
 
+-- a spread or an inline fragment, at its place
 abbrev pub placed_fragment : (Unit {0} × (ℕ × ℕ → Selection)) × (ℕ × ℕ) → Selection
 placed_fragment x = x.0.1 x.1
 
@@ -109,9 +118,11 @@ placed_fragment x = x.0.1 x.1
 unfoldable pub fragment : FileId → ℕ → Piece (List Selection) → Piece Selection
 fragment file depth selections = mapped placed_fragment (located (seq (sign k.Spread) (fragment_body file depth selections)))
 
+-- a field as a selection: section 2.5
 unfoldable pub field_selection : FileId → ℕ → Piece (List Selection) → Piece Selection
 field_selection file depth selections = mapped (λ x. s.Field x) (node file (field file depth selections))
 
+-- the selection that begins with a word of this kind
 abbrev pub selection_pick : FileId → ℕ → Piece (List Selection) → Kind → Piece Selection
 selection_pick file depth selections kind =
     choose (only k.Spread kind) (fragment file depth selections) (
@@ -126,6 +137,7 @@ goes_on_selection kind = only k.Colon kind || (only k.LeftParen kind || (only k.
 abbrev pub selection : FileId → ℕ → Piece (List Selection) → Piece Selection
 selection file depth selections = branch is_selection goes_on_selection (selection_pick file depth selections) no_selection
 
+-- SelectionSet: selections in braces, one at least: section 2.4
 unfoldable pub selections_of : Piece Selection → Piece (List Selection)
 selections_of p = between k.LeftBrace k.RightBrace no_selection (some p)
 

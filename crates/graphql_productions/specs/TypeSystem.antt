@@ -41,9 +41,11 @@ use Rattle.graphql_productions.specs.Types.{type}
 abbrev pub description_of : FileId → WordView → NameView
 description_of file w = record { text = (if only k.BlockString w.kind then block_string_value w.text else string_value w.text); location = span_at file (w.start, w.end) }
 
+-- a string or a block string: section 3.2
 abbrev pub is_description : Kinds
 is_description kind = only k.String kind || only k.BlockString kind
 
+-- Description: section 3.2
 unfoldable pub description_body : FileId → Piece NameView
 description_body file = mapped (description_of file) (word is_description (λ _. Expected i.Definition))
 
@@ -57,9 +59,11 @@ is_described_name kind = is_name kind || is_description kind
 
 -- ---- input values: sections 3.6.1 and 3.10
 
+-- this item was expected
 abbrev pub expecting : Item → Wrong
 expecting wanted = λ _. Expected wanted
 
+-- an argument or input field of its parts
 abbrev pub input_of : Option NameView × (NameView × (Unit {0} × (NodeView TypeReference × (Option (NodeView Value) × DirectiveList)))) → InputValueDefinition
 input_of x = record { description = x.0; name = x.1.0; ty = x.1.1.1.0; default_value = x.1.1.1.1.0; directives = x.1.1.1.1.1 }
 
@@ -67,6 +71,7 @@ input_of x = record { description = x.0; name = x.1.0; ty = x.1.1.1.0; default_v
 unfoldable pub input_node : FileId → ℕ → Piece (NodeView InputValueDefinition)
 input_node file depth = node file (mapped input_of (seq (optional (description file)) (seq (name file) (typed file depth))))
 
+-- InputValueDefinition: section 3.6.1
 abbrev pub input_value : FileId → ℕ → Piece (NodeView InputValueDefinition)
 input_value file depth = item is_described_name (expecting i.InputValue) (input_node file depth)
 
@@ -76,6 +81,7 @@ input_values file opening closing depth = mapped or_none (optional (enclosed ope
 
 -- ---- fields: section 3.6
 
+-- a field of its parts
 abbrev pub field_of : Option NameView × (NameView × (List (NodeView InputValueDefinition) × (Unit {0} × (TypeReference × DirectiveList)))) → FieldDefinition
 field_of x = record { description = x.0; name = x.1.0; arguments = x.1.1.0; ty = x.1.1.1.1.0; directives = x.1.1.1.1.1 }
 
@@ -85,6 +91,7 @@ field_node file depth =
     node file (mapped field_of
     (seq (optional (description file)) (seq (name file) (seq (input_values file k.LeftParen k.RightParen depth) (seq (sign k.Colon) (seq (type file depth) (directives file true depth)))))))
 
+-- FieldDefinition: section 3.6
 abbrev pub field_definition : FileId → ℕ → Piece (NodeView FieldDefinition)
 field_definition file depth = item is_described_name (expecting i.FieldDefinition) (field_node file depth)
 
@@ -94,6 +101,7 @@ fields file depth = mapped or_none (optional (enclosed k.LeftBrace k.RightBrace 
 
 -- ---- interfaces and members: sections 3.6 and 3.8
 
+-- names behind a sign, with a sign between each two
 abbrev pub names_body : FileId → Kind → Kind → Piece (List NameView)
 names_body file opening between = mapped behind (seq (sign opening) (separated between (name file)))
 
@@ -103,6 +111,7 @@ names_behind file opening between = mapped or_none (optional (names_body file op
 
 -- ---- enum values: section 3.9
 
+-- `true`, `false` or `null`, which no enum value is called: section 3.9
 abbrev pub is_reserved : Kinds
 is_reserved kind = only k.True kind || (only k.False kind || only k.Null kind)
 
@@ -110,9 +119,11 @@ is_reserved kind = only k.True kind || (only k.False kind || only k.Null kind)
 abbrev pub no_enum_value : Wrong
 no_enum_value left = if begins is_reserved left then ReservedName else Expected i.EnumValue
 
+-- what an enum value may begin with
 abbrev pub is_enum_value : Kinds
 is_enum_value kind = names_of names.EnumValue kind || is_description kind
 
+-- an enum value of its description, name and directives
 abbrev pub enum_value_of : Option NameView × (NameView × DirectiveList) → EnumValueDefinition
 enum_value_of x = record { description = x.0; value = x.1.0; directives = x.1.1 }
 
@@ -120,9 +131,11 @@ enum_value_of x = record { description = x.0; value = x.1.0; directives = x.1.1 
 unfoldable pub enum_value_name : FileId → Piece NameView
 enum_value_name file = mapped (name_of file) (word (names_of names.EnumValue) no_enum_value)
 
+-- an enum value with its location: section 3.9
 unfoldable pub enum_value_node : FileId → ℕ → Piece (NodeView EnumValueDefinition)
 enum_value_node file depth = node file (mapped enum_value_of (seq (optional (description file)) (seq (enum_value_name file) (directives file true depth))))
 
+-- EnumValueDefinition: section 3.9
 abbrev pub enum_value_definition : FileId → ℕ → Piece (NodeView EnumValueDefinition)
 enum_value_definition file depth = item is_enum_value no_enum_value (enum_value_node file depth)
 
@@ -132,6 +145,7 @@ enum_values file depth = mapped or_none (optional (enclosed k.LeftBrace k.RightB
 
 -- ---- roots: section 3.3
 
+-- a root of its operation and the name of its type
 abbrev pub root_of : OperationType × (Unit {0} × NameView) → OperationType × NameView
 root_of x = (x.0, x.1.1)
 
@@ -139,6 +153,7 @@ root_of x = (x.0, x.1.1)
 unfoldable pub root_node : FileId → Piece (NodeView (OperationType × NameView))
 root_node file = node file (mapped root_of (seq operation_type (seq (sign k.Colon) (name file))))
 
+-- RootOperationTypeDefinition: section 3.3.1
 abbrev pub root : FileId → Piece (NodeView (OperationType × NameView))
 root file = item is_operation_type no_root (root_node file)
 
@@ -148,24 +163,31 @@ roots file depth = enclosed k.LeftBrace k.RightBrace no_root depth (λ inside. s
 
 -- ---- what a definition or extension of a kind holds behind its name
 
+-- what a scalar type has: section 3.5
 abbrev pub scalar_parts : DirectiveList → DefinitionParts
 scalar_parts directives = record no_parts { directives = directives }
 
+-- what an object or interface type has: sections 3.6 and 3.7
 abbrev pub fielded_parts : List NameView × (DirectiveList × List (NodeView FieldDefinition)) → DefinitionParts
 fielded_parts x = record no_parts { names = x.0; directives = x.1.0; fields = x.1.1 }
 
+-- what a union type has: section 3.8
 abbrev pub union_parts : DirectiveList × List NameView → DefinitionParts
 union_parts x = record no_parts { directives = x.0; names = x.1 }
 
+-- what an enum type has: section 3.9
 abbrev pub enum_parts : DirectiveList × List (NodeView EnumValueDefinition) → DefinitionParts
 enum_parts x = record no_parts { directives = x.0; values = x.1 }
 
+-- what an input object type has: section 3.10
 abbrev pub input_parts : DirectiveList × List (NodeView InputValueDefinition) → DefinitionParts
 input_parts x = record no_parts { directives = x.0; input_fields = x.1 }
 
+-- what the schema has: section 3.3
 abbrev pub schema_parts : DirectiveList × List (NodeView (OperationType × NameView)) → DefinitionParts
 schema_parts x = record no_parts { directives = x.0; roots = x.1 }
 
+-- the interfaces, directives and fields of an object or interface type: sections 3.6 and 3.7
 unfoldable pub fielded : FileId → ℕ → Piece DefinitionParts
 fielded file depth = mapped fielded_parts (seq (names_behind file k.Implements k.Ampersand) (seq (directives file true depth) (fields file depth)))
 
@@ -193,6 +215,7 @@ keyword t.InputObject = k.Input
 abbrev pub Described : Type 0
 Described = Option NameView → Option SourceSpan → Definition
 
+-- the definition of a type of this kind, of its name and what it has
 abbrev pub type_of : TypeKind → Unit {0} × (NameView × DefinitionParts) → Described
 type_of kind x = λ description location. type_definition kind description x.1.0 x.1.1 location
 
@@ -200,6 +223,7 @@ type_of kind x = λ description location. type_definition kind description x.1.0
 unfoldable pub type_body : FileId → TypeKind → ℕ → Piece Described
 type_body file kind depth = mapped (type_of kind) (seq (sign (keyword kind)) (seq (name file) (parts file kind depth)))
 
+-- the definition of the schema, of what it has
 abbrev pub schema_of : Unit {0} × (DirectiveList × List (NodeView (OperationType × NameView))) → Described
 schema_of x = λ description location. schema_definition description (schema_parts x.1) location
 
@@ -207,6 +231,7 @@ schema_of x = λ description location. schema_definition description (schema_par
 unfoldable pub schema_body : FileId → ℕ → Piece Described
 schema_body file depth = mapped schema_of (seq (sign k.Schema) (seq (directives file true depth) (roots file depth)))
 
+-- a directive location was expected; a name that is none is unknown
 abbrev pub no_location : Wrong
 no_location left = if begins is_name left then UnknownDirectiveLocation else Expected i.DirectiveLocation
 
@@ -218,10 +243,12 @@ location_word w = if is_name w.kind then location_of w.text else None
 unfoldable pub location : Piece DirectiveLocation
 location = picked location_word is_name no_location
 
+-- whether a sign stood there
 abbrev pub is_there : Option (Unit {0}) → Bool
 is_there None = false
 is_there (Some _) = true
 
+-- the definition of a directive, of its parts: section 3.13
 abbrev pub directive_of : Unit {0} × (Unit {0} × (NameView × (List (NodeView InputValueDefinition) × (Option (Unit {0}) × (Unit {0} × List DirectiveLocation))))) → Described
 directive_of x = λ description location. d.DirectiveDefinition (record {
   value = record { description = description; name = x.1.1.0; arguments = x.1.1.1.0; repeatable = is_there x.1.1.1.1.0; locations = x.1.1.1.1.1.1 };
@@ -237,9 +264,11 @@ directive_body file depth =
 abbrev pub is_undescribed : Kinds
 is_undescribed kind = only k.LeftBrace kind || (is_operation_type kind || (only k.Fragment kind || only k.Extend kind))
 
+-- a definition was expected; one that has no description can not stand behind one
 abbrev pub no_described : Wrong
 no_described left = if begins is_undescribed left then DescriptionNotAllowed else Expected i.Definition
 
+-- the definition behind a description that begins with a word of this kind
 abbrev pub described_pick : FileId → ℕ → Kind → Piece Described
 described_pick file depth kind =
     choose (only k.Schema kind) (schema_body file depth) (
@@ -260,9 +289,11 @@ is_described kind = only k.Schema kind || (only k.Scalar kind || (only k.Type ki
 abbrev pub goes_on_type : Kinds
 goes_on_type kind = only k.At kind || (only k.LeftParen kind || (only k.LeftBrace kind || (only k.Implements kind || (only k.Ampersand kind || (only k.Equals kind || only k.Pipe kind)))))
 
+-- a definition of the type system without its description: section 3
 abbrev pub described : FileId → ℕ → Piece Described
 described file depth = branch is_described goes_on_type (described_pick file depth) no_described
 
+-- a definition with its description, at its place in the file
 abbrev pub definition_made : FileId → (Option NameView × Described) × (ℕ × ℕ) → Definition
 definition_made file x = x.0.1 x.0.0 (span_at file x.1)
 
@@ -272,6 +303,7 @@ system_definition file depth = mapped (definition_made file) (located (seq (opti
 
 -- ---- extensions
 
+-- whether there is nothing
 abbrev pub is_none : {A : Type 0} → List A → Bool
 is_none [] = true
 is_none (x ∷ xs) = false
@@ -280,6 +312,7 @@ is_none (x ∷ xs) = false
 abbrev pub has_part : DefinitionParts → Bool
 has_part p = not (is_none p.directives.0 && (is_none p.names && (is_none p.fields && (is_none p.values && (is_none p.input_fields && is_none p.roots)))))
 
+-- the extension of a type of this kind, of its name and what it adds
 abbrev pub extension_of : TypeKind → Unit {0} × (NameView × DefinitionParts) → Option SourceSpan → Definition
 extension_of kind x location = type_extension kind x.1.0 x.1.1 location
 
@@ -292,6 +325,7 @@ extension_body file kind depth =
 abbrev pub optional_roots : FileId → ℕ → Piece (List (NodeView (OperationType × NameView)))
 optional_roots file depth = mapped or_none (optional (roots file depth))
 
+-- the extension of the schema, of what it adds
 abbrev pub schema_extension_of : Unit {0} × DefinitionParts → Option SourceSpan → Definition
 schema_extension_of x location = schema_extension x.1 location
 
@@ -300,6 +334,7 @@ unfoldable pub schema_extension_body : FileId → ℕ → Piece (Option SourceSp
 schema_extension_body file depth =
     mapped schema_extension_of (seq (sign k.Schema) (filtered has_part (expecting i.ExtensionPart) (mapped schema_parts (seq (directives file true depth) (optional_roots file depth)))))
 
+-- the extension that goes on with a word of this kind behind `extend`
 abbrev pub extended_pick : FileId → ℕ → Kind → Piece (Option SourceSpan → Definition)
 extended_pick file depth kind =
     choose (only k.Schema kind) (schema_extension_body file depth) (
@@ -311,12 +346,15 @@ extended_pick file depth kind =
     choose (only k.Input kind) (extension_body file t.InputObject depth) (
     nothing (expecting i.Extended))))))))
 
+-- the words that say what is extended
 abbrev pub is_extended : Kinds
 is_extended kind = only k.Schema kind || (only k.Scalar kind || (only k.Type kind || (only k.Interface kind || (only k.Union kind || (only k.Enum kind || only k.Input kind)))))
 
+-- an extension without its `extend`: section 3.4.3
 abbrev pub extended : FileId → ℕ → Piece (Option SourceSpan → Definition)
 extended file depth = branch is_extended goes_on_type (extended_pick file depth) (expecting i.Extended)
 
+-- an extension at its place in the file
 abbrev pub extension_made : FileId → (Unit {0} × (Option SourceSpan → Definition)) × (ℕ × ℕ) → Definition
 extension_made file x = x.0.1 (span_at file x.1)
 

@@ -28,6 +28,7 @@ named_type file = mapped Named (name file)
 unfoldable pub list_type_of : Piece TypeReference → Piece TypeReference
 list_type_of item = mapped ListOf (between k.LeftBracket k.RightBracket (λ _. Expected (i.Word k.RightBracket)) item)
 
+-- the type that begins with a word of this kind: a list, or a name
 abbrev pub type_pick : FileId → Piece TypeReference → Kind → Piece TypeReference
 type_pick file list kind =
     choose (only k.LeftBracket kind) list (

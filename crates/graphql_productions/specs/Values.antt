@@ -35,6 +35,7 @@ float_value = mapped (λ w. roll-Value (Value-F.Float w.text)) (word (only k.Flo
 unfoldable pub quoted_value : Piece Value
 quoted_value = mapped (λ w. roll-Value (Value-F.String (value_of_string w.text))) (word (only k.String) no_value)
 
+-- StringValue as a block string: section 2.9.4
 unfoldable pub block_value : Piece Value
 block_value = mapped (λ w. roll-Value (Value-F.String (block_string_value w.text))) (word (only k.BlockString) no_value)
 
@@ -42,6 +43,7 @@ block_value = mapped (λ w. roll-Value (Value-F.String (block_string_value w.tex
 unfoldable pub true_value : Piece Value
 true_value = mapped (λ _. roll-Value (Value-F.Boolean true)) (sign k.True)
 
+-- BooleanValue `false`: section 2.9.3
 unfoldable pub false_value : Piece Value
 false_value = mapped (λ _. roll-Value (Value-F.Boolean false)) (sign k.False)
 
@@ -57,10 +59,12 @@ enum_value file = mapped (λ n. roll-Value (Value-F.Enum n)) (name file)
 unfoldable pub variable : FileId → Piece NameView
 variable file = mapped behind (seq (sign k.Dollar) (name file))
 
+-- a variable, which a constant value has none of: section 2.10
 unfoldable pub variable_or_none : FileId → Bool → Piece Value
 variable_or_none file constant =
     choose constant (nothing (λ _. VariableInConstant)) (mapped (λ n. roll-Value (Value-F.Variable n)) (variable file))
 
+-- a variable as a value, which begins with `$`: section 2.10
 abbrev pub variable_value : FileId → Bool → Piece Value
 variable_value file constant = headed (only k.Dollar) (variable_or_none file constant)
 
@@ -68,6 +72,7 @@ variable_value file constant = headed (only k.Dollar) (variable_or_none file con
 unfoldable pub list_of : Piece (NodeView Value) → Piece Value
 list_of item = mapped (λ items. roll-Value (Value-F.List items)) (between k.LeftBracket k.RightBracket no_value (many item))
 
+-- a field of an input object, of its name and its value
 abbrev pub member_of : NameView × (Unit {0} × NodeView Value) → NameView × NodeView Value
 member_of x = (x.0, x.1.1)
 
@@ -75,9 +80,11 @@ member_of x = (x.0, x.1.1)
 unfoldable pub member_body : FileId → Piece (NodeView Value) → Piece (NameView × NodeView Value)
 member_body file item = mapped member_of (seq (name file) (seq (sign k.Colon) item))
 
+-- ObjectField, which begins with a name: section 2.9.8
 abbrev pub member : FileId → Piece (NodeView Value) → Piece (NameView × NodeView Value)
 member file item = headed is_name (member_body file item)
 
+-- a field of an input object was expected
 abbrev pub no_member : Wrong
 no_member = λ _. Expected i.ObjectField
 
@@ -85,9 +92,11 @@ no_member = λ _. Expected i.ObjectField
 unfoldable pub object_of : FileId → Piece (NodeView Value) → Piece Value
 object_of file item = mapped (λ members. roll-Value (Value-F.Object members)) (between k.LeftBrace k.RightBrace no_member (many (member file item)))
 
+-- `[` or `{`
 abbrev pub is_group : Kinds
 is_group kind = only k.LeftBracket kind || only k.LeftBrace kind
 
+-- the list or input object that begins with a word of this kind
 abbrev pub group_pick : FileId → Piece (NodeView Value) → Kind → Piece Value
 group_pick file item kind =
     choose (only k.LeftBracket kind) (list_of item) (
@@ -113,6 +122,7 @@ value_pick file constant grouped kind =
     choose (is_name kind) (enum_value file) (
     nothing no_value))))))))))
 
+-- Value, where lists and input objects are read so: section 2.9
 abbrev pub value_by : FileId → Bool → Piece Value → Piece Value
 value_by file constant grouped = branch is_value none (value_pick file constant grouped) no_value
 
@@ -125,5 +135,6 @@ nested_group file constant (suc depth) = group file (node file (value_by file co
 abbrev pub value : FileId → Bool → ℕ → Piece Value
 value file constant depth = value_by file constant (headed is_group (nested_group file constant depth))
 
+-- a value with its location: section 2.9
 abbrev pub value_node : FileId → Bool → ℕ → Piece (NodeView Value)
 value_node file constant depth = node file (value file constant depth)

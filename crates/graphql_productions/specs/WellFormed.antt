@@ -1,4 +1,8 @@
 -- Trees that could have come of a text: GraphQL specification of October 2021, sections 2.1.9, 2.8, 2.9, 2.10 and 3.9, and appendix B.
+--
+-- **What holds of a tree.** The parts of a tree (`document_parts` and its like) are one list: nodes,
+-- names, numbers, and what the grammar wants at least one of. A tree is well-formed if each part could
+-- have come of a text.
 use Rattle.std.specs.Prelude.{◌≡◌, ◌≢◌, false, true, List, codes}
 use Rattle.std.specs.List.{AllByRecursion}
 use Rattle.graphql_nodes.specs.NameSyntax.{IsName}

@@ -45,6 +45,7 @@ value_level (Value-F.List items) = suc (deepest (λ (item : NodeView ℕ). item.
 value_level (Value-F.Object members) = suc (greatest (map (λ m. m.1.value) members))
 value_level _ = 0
 
+-- of a value
 abbrev pub value_nesting : Value → ℕ
 value_nesting = fold-Value ℕ value_level
 
@@ -55,6 +56,7 @@ type_level (Type-F.NonNullNamed n) = 0
 type_level (Type-F.List inner) = suc inner
 type_level (Type-F.NonNullList inner) = suc inner
 
+-- of a type
 abbrev pub type_nesting : TypeReference → ℕ
 type_nesting = fold-Type ℕ type_level
 
@@ -62,6 +64,7 @@ type_nesting = fold-Type ℕ type_level
 abbrev pub argument_nesting : NodeView Argument → ℕ
 argument_nesting a = value_nesting a.value.value.value
 
+-- of arguments, in their parentheses
 abbrev pub arguments_nesting : List (NodeView Argument) → ℕ
 arguments_nesting arguments = between argument_nesting arguments
 
@@ -69,6 +72,7 @@ arguments_nesting arguments = between argument_nesting arguments
 abbrev pub directive_nesting : NodeView Directive → ℕ
 directive_nesting d = arguments_nesting d.value.arguments
 
+-- of directives, one after the other
 abbrev pub directives_nesting : DirectiveList → ℕ
 directives_nesting l = deepest directive_nesting l.0
 
@@ -76,14 +80,17 @@ directives_nesting l = deepest directive_nesting l.0
 abbrev pub field_level : Field-F ℕ ℕ ℕ → ℕ
 field_level f = greatest (arguments_nesting f.arguments ∷ directives_nesting f.directives ∷ between (λ n. n) f.selection_set ∷ [])
 
+-- of an inline fragment, where that of its selections is known
 abbrev pub inline_level : InlineFragment-F ℕ ℕ ℕ → ℕ
 inline_level f = greatest (directives_nesting f.directives ∷ between (λ n. n) f.selection_set ∷ [])
 
+-- of a selection, where those of what is in it are known
 abbrev pub selection_level : Selection-F ℕ ℕ ℕ → ℕ
 selection_level (Selection-F.Field n) = n.value
 selection_level (Selection-F.FragmentSpread n) = directives_nesting n.value.directives
 selection_level (Selection-F.InlineFragment n) = n.value
 
+-- of a selection
 abbrev pub selection_nesting : Selection → ℕ
 selection_nesting = fold-Selection ℕ ℕ ℕ selection_level field_level inline_level
 

@@ -70,6 +70,7 @@ abbrev pub of_variable : List WordView → List WordView → ParseErrorKind
 of_variable words [] = unexpected i.Value words
 of_variable words (w ∷ ws) = if is_name w.kind then e.VariableInConstant w.text else unexpected i.Value words
 
+-- all of these but the first
 abbrev pub behind_first : List WordView → List WordView
 behind_first [] = []
 behind_first (w ∷ ws) = ws

@@ -1,5 +1,13 @@
 -- The definitions of types that a list is completed with where those that are extended only are adopted: GraphQL
 -- specification of October 2021, section 3.4.3.
+--
+-- **Completed list.** The list, then what is adopted, then the implied schema definition. All that
+-- follows (types, numbers, places, faults) is said of the completed list, so neither needs a case of its
+-- own.
+--
+-- **Adopted.** Only with adoption: for each name that has extensions and no definition, in the order of
+-- first extension, an empty definition. It is of the kind of the name's first extension, with its name
+-- and its location, without description and components.
 use Rattle.std.specs.Prelude.{ℕ, Bool, false, List, [], ◌∷◌, ◌++◌, None, map, if◌then◌else◌}
 use Rattle.std.specs.List.{filter_map, flat_map}
 use Rattle.std.specs.Option.{option_map_or}

@@ -1,4 +1,18 @@
 -- The faults of a list of definitions, by places of the whole list: GraphQL specification of October 2021, section 3.
+--
+-- **Faults of a list.** The faults of a list (`faults_of`), with adoption or without, are exactly what the
+-- modules of `Faults` say; nothing else is at fault.
+--
+-- **Order of discovery.** Three phases:
+--
+-- 1. What is found at the moments of the list with what is adopted, by moment. At a moment come first
+--    the faults of the definition that stands there, and then those of the extensions that are met at
+--    this moment, by place: a kind mismatch, the collisions of the extension's components, or its
+--    repeated roots. Of one definition or extension the interfaces come before the fields, each in
+--    order.
+-- 2. The orphans, by name, names in the order of first extension, and of one name by place.
+-- 3. What is found at the implied schema definition: the repeated roots of the schema's extensions, by
+--    place. Where there is no schema definition, the orphans of the schema, by place.
 use Rattle.std.specs.Prelude.{ℕ, Bool, List, [], ◌∷◌, ◌++◌, map, if◌then◌else◌, filter, slice_get, ◌&&◌, ◌==◌, length, take}
 use Rattle.std.specs.List.{flat_map, range_with_len}
 use Rattle.std.specs.Option.{option_map_or}

@@ -1,5 +1,12 @@
 -- What is wrong with definitions that are of no type and not of the schema: GraphQL specification of October 2021,
 -- sections 2.2, 3, 3.3 and 3.13.
+--
+-- **Repeated directive definition.** `directive_faults`: a definition is at fault if a definition of its
+-- name that is handed in stands before it. `DirectiveDefinitionCollision`, at its name, with its name
+-- and the location of the name of the first such one.
+--
+-- **Executable definition.** `other_faults`: an operation or a fragment. `ExecutableDefinition`, at the
+-- node, with the text of what it is (as `an operation definition`).
 use Rattle.std.specs.Prelude.{List, [], ◌∷◌, ◌&&◌}
 use Rattle.std.specs.Option.{option_map_or}
 use Rattle.std.specs.List.{find}

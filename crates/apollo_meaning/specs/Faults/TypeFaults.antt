@@ -1,5 +1,21 @@
 -- What is wrong with the definitions and extensions of one type: GraphQL specification of October 2021, sections 3.3 and
 -- 3.4.3, and the type validation of sections 3.5 to 3.10.
+--
+-- **Further definition.** `further_definition`: a definition of a type's name that isn't the first one.
+-- If the first one is built-in, and the further one was added while further definitions of built-in
+-- types were ignored: no fault, whatever its kind. Else, if the first one is built-in and the further
+-- one is a scalar definition: `BuiltInScalarTypeRedefinition`, at the definition's node. Else:
+-- `TypeDefinitionCollision`, at the definition's name, with the name and the location of the first
+-- definition's name. The components of a further definition are not looked at. It is the first
+-- definition's location that counts as built-in or not, never that of the further one.
+--
+-- **Kind mismatch.** `kind_mismatch`: an extension whose name has a first definition of another kind.
+-- `TypeExtensionKindMismatch`, at the extension's name, with that name, the texts of both kinds (as `an
+-- enum type extension` and `an object type`), and the location of the first definition's name. The
+-- components of the extension are not looked at.
+--
+-- **Orphan.** `orphan`: an extension whose name has no definition in the whole list.
+-- `OrphanTypeExtension`, at the extension's name, with that name. With adoption there is none.
 use Rattle.std.specs.Prelude.{List, [], ◌∷◌, ◌++◌, map, if◌then◌else◌, codes}
 use Rattle.std.specs.List.{flat_map}
 use Rattle.graphql_nodes.specs.NameView.{NameView}

@@ -1,5 +1,15 @@
 -- What a list of definitions says of types and of the schema: GraphQL specification of October 2021, sections 3, 3.3
 -- and 3.4.
+--
+-- **The list.** The built-in definitions, and after them the definitions of all documents, in the order
+-- in which these were added. Where one document ends and the next begins makes no difference. Each
+-- definition is in the list with the setting under which it was added (`Added`): whether further
+-- definitions of built-in types were ignored then. The built-in ones are added without it.
+--
+-- **Item.** Each definition of the list is one item: a type is defined (`Defined`) or extended
+-- (`Extended`), the schema is defined (`SchemaDefined`) or extended (`SchemaExtended`), or something
+-- else stands there (`Other`): a directive definition, an operation, a fragment. Each has its place;
+-- every definition counts.
 use Rattle.std.specs.Prelude.{Bool, List, [], None, map, Option, Some, ℕ, ◌∷◌}
 use Rattle.std.specs.List.{filter_map}
 use Rattle.std.specs.Option.{option_map_or}

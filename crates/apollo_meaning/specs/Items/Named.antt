@@ -1,5 +1,11 @@
 -- Definitions and extensions of a name, and of the schema, in a list: GraphQL specification of October 2021, sections 3,
 -- 3.3.2 and 3.4.3.
+--
+-- **First definition.** The first definition of a name (a text) is the defining item of that name with
+-- the least place. Later ones are not used.
+--
+-- **Kind of a name.** The kind of a name is that of its first definition. A name without a definition
+-- has no kind and no type.
 use Rattle.std.specs.Prelude.{ℕ, List, map, Option, filter, slice_get}
 use Rattle.std.specs.List.{filter_map}
 use Rattle.std.specs.Map.{lookup}

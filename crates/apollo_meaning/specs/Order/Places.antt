@@ -1,5 +1,20 @@
 -- The order in which extensions of types and of the schema (GraphQL specification of October 2021, sections 3.4.3 and
 -- 3.3.2) are folded, by places of the whole list.
+--
+-- **Folded.** An extension is folded if its name has a definition and the first one has the extension's
+-- kind. An extension of the schema is folded if the schema has a definition.
+--
+-- **Moment.** The moment of a folded extension is its own place or that of its name's first definition,
+-- whichever is later: the earliest point of the list at which both are there. For an extension of the
+-- schema it is the same with the schema's first definition. An extension of another kind whose name has
+-- a definition has a moment as well.
+--
+-- **Met.** An extension is met at its moment. One of another kind than its name's first definition is
+-- met, but not folded.
+--
+-- **Folding order.** The folding order is by moment, and at one moment by place; extensions of types and
+-- of the schema stand in one order. So the extensions of adopted types come after all whose definition
+-- was handed in, and those of a schema whose definition is implied come last.
 use Rattle.std.specs.Prelude.{ℕ, Bool, false, List, [], ◌++◌, map, Option, filter, ◌==◌, max, length}
 use Rattle.std.specs.List.{filter_map, flat_map, enumerate_from, range_with_len}
 use Rattle.std.specs.Option.{option_map_or, option_map}

@@ -1,5 +1,35 @@
 -- A list of definitions with its faults, computed. GraphQL specification of October 2021, sections 3.4.3 and
 -- 3.6.
+--
+-- **Example `faulty_list`.** A list with eight faults (the line after `ext enum T` is empty). The law
+-- `faulty_list` computes them, without the built-in definitions before the list:
+--
+--     ext object T        line 1
+--     implements I        line 2
+--     field a Int         line 3
+--     ext enum T          line 4
+--                         line 5
+--     def object T        line 6
+--     implements I        line 7
+--     implements I        line 8
+--     field a Int         line 9
+--     field a Int         line 10
+--     def interface T     line 11
+--     ext object T        line 12
+--     field a Int         line 13
+--     ext union U         line 14
+--     member T            line 15
+--
+-- | fault | at line | found |
+-- |---|---|---|
+-- | `DuplicateImplementsInterfaceInObject`, kept: line 7 | 8 | at the definition of line 6, which comes first, interfaces before fields |
+-- | `ObjectFieldNameCollision`, kept: line 9 | 10 | at the same definition |
+-- | `DuplicateImplementsInterfaceInObject`, kept: line 7 | 2 | at the extension of line 1, met at the moment of the definition |
+-- | `ObjectFieldNameCollision`, kept: line 9 | 3 | at the same extension |
+-- | `TypeExtensionKindMismatch`, definition: line 6 | 4 | at the extension of line 4, met at that moment as well |
+-- | `TypeDefinitionCollision`, previous: line 6 | 11 | at the further definition |
+-- | `ObjectFieldNameCollision`, kept: line 9 | 13 | at the extension of line 12, met at its own place |
+-- | `OrphanTypeExtension` | 14 | last: no definition of `U` is in the list |
 use Rattle.std.specs.Prelude.{List, [], ◌∷◌, None, codes}
 use Rattle.graphql_ast.specs.declared.definition.Definition.{Definition}
 use Rattle.graphql_ast.specs.declared.definition.Definition.TheVariants.{InterfaceTypeDefinition, EnumTypeExtension, UnionTypeExtension}

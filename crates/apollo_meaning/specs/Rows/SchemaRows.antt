@@ -1,5 +1,42 @@
 -- Lists with definitions and extensions of the schema, with what they mean, computed. GraphQL specification
 -- of October 2021, sections 3.3.1 and 3.3.2.
+--
+-- **Example `schema_extensions_that_wait`.**
+--
+--     ext-schema               line 1
+--     root query Q             line 2
+--     ext-schema               line 3
+--     root subscription S      line 4
+--     schema                   line 5
+--     root mutation M          line 6
+--     root query A             line 7
+--
+-- With the first number 0 the roots are: query `A` and mutation `M` of the definition, and subscription
+-- `S` of the extension of line 3, which has the number 1. `Q` is dropped: its extension was there first,
+-- but the definition's roots are taken first. The fault is `DuplicateRootOperation` at line 2, kept:
+-- line 7. The law of the same name computes it.
+--
+-- **Example `extensions_alone`.**
+--
+--     ext-schema               line 1
+--     @ d                      line 2
+--     root query A             line 3
+--     ext-schema               line 4
+--     root query B             line 5
+--     ext interface B          line 6
+--     field x Int              line 7
+--     ext object A             line 8
+--     field y Int              line 9
+--
+-- With adoption the types are `B` and `A`, the extensions are folded in the order of the lines 6, 8, 1,
+-- 4, and the schema definition has no location, the directive `d` and the query root `A`, both of the
+-- extension of line 1 with the number 2. The second query root, at line 5, is the only fault. Without
+-- adoption there is neither of the types and no schema definition, and each extension is a fault, in the
+-- order of the lines 6, 8, 1, 4. The laws `extensions_alone_adopted` and `extensions_alone_orphaned`
+-- compute this.
+--
+-- **Example `query_type_alone`.** The object type `Query` alone is the query root of an implied
+-- definition: the law `query_type_alone`.
 use Rattle.std.specs.Prelude.{ℕ, List, [], ◌∷◌, None, Option, Some, codes}
 use Rattle.graphql_nodes.specs.declared.operation_type.OperationType.{OperationType}
 use Rattle.graphql_nodes.specs.declared.operation_type.OperationType.TheVariants.{Query, Mutation, Subscription}

@@ -1,5 +1,52 @@
 -- Lists of definitions with what they mean, computed. GraphQL specification of October 2021, sections 3.4.3
 -- and 3.6.
+--
+-- **Example `extensions_that_wait`.** With the first number 0, and places counted from the first line
+-- (the built-in definitions have no extensions, so they change no number). The law of the same name
+-- computes the folding order:
+--
+--     ext object A        place 0
+--     field x Int
+--     ext object B        place 1
+--     field y Int
+--     def object B        place 2
+--     ext object B        place 3
+--     field z Int
+--     def object A        place 4
+--     ext object C        place 5
+--     field u Int
+--     ext object A        place 6
+--     field w Int
+--
+-- | extension | moment | number |
+-- |---|---|---|
+-- | of B, place 1 | 2 (its definition) | 0 |
+-- | of B, place 3 | 3 (itself) | 1 |
+-- | of A, place 0 | 4 (its definition) | 2 |
+-- | of A, place 6 | 6 (itself) | 3 |
+-- | of C, place 5 | not folded | none |
+--
+-- **Example `extensions_around`.**
+--
+--     ext object Q        line 1
+--     field b Int         line 2
+--     def object Q        line 3
+--     field a Int         line 4
+--     ext object Q        line 5
+--     implements N        line 6
+--     field a Int         line 7
+--
+-- The extensions have the numbers 0 and 1. The type has the interface `N` (1) and the fields `a`
+-- (definition) and `b` (0): the field `a` of line 7 is a later one of a kept name. Identities by first
+-- appearance: interfaces come first, so 1, and then 0. The write-out, which the law `extensions_around`
+-- computes, is `written_around`:
+--
+--     def object Q
+--     field a Int
+--     ext object Q
+--     implements N
+--     ext object Q
+--     field b Int
 use Rattle.std.specs.Prelude.{ℕ, List, [], ◌∷◌, None, Option, Some, codes}
 use Rattle.graphql_nodes.specs.NameView.{NameView}
 use Rattle.graphql_nodes.specs.declared.source.SourceSpan.{SourceSpan}

@@ -1,5 +1,15 @@
 -- The schema definition that a list means: its first one with the schema extensions folded in. GraphQL specification of
 -- October 2021, sections 3.3 and 3.3.2.
+--
+-- **Schema definition that a list means.** The **parts of the schema** are its first definition, with
+-- the origin "definition", and then its extensions by number, each with its identity as origin. The
+-- schema definition (`schema_of`) has
+--
+-- - description and location: those of the first definition;
+-- - directives: those of all parts, joined, repeated ones kept;
+-- - for each operation the first root that the parts name for it, with the origin of its part.
+--
+-- A list whose completed form has no schema definition means none.
 use Rattle.std.specs.Prelude.{ℕ, Bool, false, List, ◌∷◌, None, map, Option, true, Some}
 use Rattle.std.specs.List.{filter_map, flat_map, find, enumerate_from}
 use Rattle.std.specs.Option.{option_map}

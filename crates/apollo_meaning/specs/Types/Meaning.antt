@@ -1,5 +1,27 @@
 -- The types that a list means: of each name its first definition, with its kind's extensions folded in. GraphQL
 -- specification of October 2021, sections 3.4.3, and 3.5 to 3.10.
+--
+-- **Number of an extension.** The builder's first number plus how many extensions stand before it in the
+-- folding order. So different extensions have different numbers, one extension has one number for all
+-- its components, and an extension that is not folded has none. An extension gets its number even if it
+-- holds nothing, or if everything it holds is dropped.
+--
+-- **Parts of a name.** The parts of a name are its first definition, with the origin "definition", and
+-- then its folded extensions by number, each with its identity as origin. The first definition comes
+-- first even if extensions stand before it.
+--
+-- **Type that a name means.** The type that a name means is of the kind of its first definition, and has
+--
+-- - description, name and location: those of the first definition;
+-- - directives: those of all parts, joined, repeated ones kept;
+-- - interfaces, fields, members, values, as its kind has them: those of all parts, joined, and of these
+--   the first of each name.
+--
+-- Each component keeps its node (value and location) and has the origin of its part.
+--
+-- **Types that a list means.** `AreTypesOf`: there is one for each name that is defined, under that name
+-- as its first definition writes it, in the order of first definition; and looking up any text gives the
+-- type that this name means, or nothing.
 use Rattle.std.specs.Prelude.{ℕ, List, ◌∷◌, None, map, ◌≡◌, Option, filter, Some}
 use Rattle.std.specs.List.{filter_map, flat_map, enumerate_from}
 use Rattle.std.specs.Option.{option_map}
