@@ -1,10 +1,15 @@
 pub mod ArgumentAnswer
 pub mod ArgumentsByName
 pub mod Bare
+pub mod BareDeclarations
 pub mod BareDocuments
 pub mod BareSelections
 pub mod BareTypeSystem
+pub mod Declarations
+pub mod DeclarationsSeen
 pub mod DefinitionParts
 pub mod DefinitionTexts
 pub mod Definitions
+pub mod Parts
+pub mod PartsSeen
 pub mod TypeReferences
