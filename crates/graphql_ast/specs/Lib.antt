@@ -2,10 +2,15 @@ pub mod AddedDefinitions
 pub mod ArgumentAnswer
 pub mod ArgumentsByName
 pub mod Bare
+pub mod BareDeclarations
 pub mod BareDocuments
 pub mod BareSelections
 pub mod BareTypeSystem
+pub mod Declarations
+pub mod DeclarationsSeen
 pub mod DefinitionParts
 pub mod DefinitionTexts
 pub mod Definitions
+pub mod Parts
+pub mod PartsSeen
 pub mod TypeReferences

@@ -3,11 +3,15 @@
 //!
 //! Each law is a function that does nothing. A proof cites it by a call, and finds a clause for each type there.
 //! That equal values have equal hashes is part of each type's `Hash`.
+ghost use Rattle.std.specs.Prelude.{◌≡◌};
 ghost use Rattle.graphql_nodes.specs.Comparing.{ComparesBy};
 ghost use Rattle.graphql_ast.specs.Bare.{bare_value, bare_type, bare_argument, bare_directive, bare_directive_list};
 ghost use Rattle.graphql_ast.specs.BareSelections.{bare_selection, bare_field, bare_inline_fragment, bare_fragment_spread};
 ghost use Rattle.graphql_ast.specs.BareTypeSystem.{bare_field_definition, bare_input_value_definition, bare_enum_value_definition, bare_directive_definition, bare_schema_definition, bare_scalar_type_definition, bare_object_type_definition, bare_interface_type_definition, bare_union_type_definition, bare_enum_type_definition, bare_input_object_type_definition, bare_schema_extension, bare_scalar_type_extension, bare_object_type_extension, bare_interface_type_extension, bare_union_type_extension, bare_enum_type_extension, bare_input_object_type_extension};
 ghost use Rattle.graphql_ast.specs.BareDocuments.{bare_variable_definition, bare_operation_definition, bare_fragment_definition, bare_definition, bare_document};
+ghost use Rattle.graphql_ast.specs.BareDeclarations.{bare_declaration};
+ghost use Rattle.graphql_ast.specs.Declarations.{Declaration, declaration_of, made, sayable};
+ghost use Rattle.graphql_ast.specs.declared.definition.Definition.{Definition};
 ghost use Rattle.graphql_nodes.specs.Clones.{IsExact};
 
 use crate::argument::ArgumentByNameError;
@@ -135,4 +139,17 @@ pub fn clones_are_exact()
     ensures hash_keys { IsExact ⟦<HashKeys as Clone>⟧.is_clone }
     ensures argument_by_name_error { IsExact ⟦<ArgumentByNameError as Clone>⟧.is_clone }
     ensures document { IsExact ⟦<Document as Clone>⟧.is_clone }
+{}
+
+/// What a definition says, made into a definition, is the definition again; and what is made of a declaration says what a
+/// definition can say of it: the parts that its kind has, and of an extension no description.
+pub fn declarations_are_definitions()
+    ensures made_again { (definition : Definition) → made (declaration_of definition) ≡ definition }
+    ensures read_again { (declaration : Declaration) → declaration_of (made declaration) ≡ sayable declaration }
+{}
+
+/// What a definition without its locations says is what the definition says, without its locations.
+pub fn bare_definitions_are_read_bare()
+    ensures { (definition : Definition) →
+        declaration_of (bare_definition definition) ≡ bare_declaration (declaration_of definition) }
 {}

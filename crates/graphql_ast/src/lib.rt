@@ -5,6 +5,8 @@
 
 pub mod added_list;
 pub mod argument;
+pub mod declaration;
+pub mod declaration_ref;
 pub mod definition;
 pub mod definition_parts;
 pub mod directive;
@@ -13,17 +15,21 @@ mod empty_definitions;
 mod from_nodes;
 pub mod laws;
 pub mod operation;
+pub mod parts;
 pub mod selection;
 pub mod type_reference;
 pub mod type_system;
 pub mod value;
 
 pub use crate::argument::ArgumentByNameError;
+pub use crate::declaration::{SchemaDeclaration, TypeDeclaration};
+pub use crate::declaration_ref::{DeclarationRef, SchemaDeclarationRef, TypeDeclarationRef};
 pub use crate::definition::Definition;
 pub use crate::definition_parts::{DefinitionPart, DefinitionParts};
 pub use crate::directive::{Argument, Directive, DirectiveList};
 pub use crate::document::Document;
 pub use crate::operation::{FragmentDefinition, OperationDefinition, VariableDefinition};
+pub use crate::parts::{Part, Parts, PartsRef};
 pub use crate::selection::{Field, FragmentSpread, InlineFragment, Selection};
 pub use crate::type_reference::Type;
 pub use crate::type_system::{
