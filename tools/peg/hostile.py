@@ -126,9 +126,17 @@ def scalars(size, between=b"\n"):
 
 
 def braces(size, run):
-    """A report of the second one, which shows the line that they are."""
-    shown = b"  --> -:1:2\n   |\n 1 | %b\n   |  ^\n" % (b"{" * size)
+    """A report of the second one, which shows the first hundred behind it of the line that they are."""
+    shown = b"  --> -:1:2\n   |\n 1 | %b...\n   |  ^\n" % (b"{" * 101)
     return run.answer == (2, b"", b"error: expected a selection, found `{`\n%b\n1 fault\n" % shown)
+
+
+def defined_again(size, run):
+    """A report of each definition but the first, which shows no long line, and how many there are."""
+    reports = run.errors.count(b"error: the type `T` is defined multiple times in the schema\n")
+    longest = max(len(line) for line in run.errors.split(b"\n"))
+    are_counted = run.errors.endswith(b"\n%d faults\n" % (size - 1))
+    return (run.status, run.output, reports) == (1, b"scalar T\n", size - 1) and are_counted and longest < 200
 
 
 IS_UNKNOWN = ends(2, errors=b"line 1: unknown line\n")
@@ -212,6 +220,8 @@ CASES = {
         "peglinden",
     ),
     "opening braces of a file": Hostile([b"format", b"-"], lines(b"{"), braces, program="peglinden"),
+    "faults of a file": Hostile([b"schema", b"-"], lines(b"scalar T\n"), defined_again, (10_000, 40_000), "peglinden"),
+    "faults of a line": Hostile([b"schema", b"-"], lines(b"scalar T "), defined_again, (10_000, 40_000), "peglinden"),
 }
 
 

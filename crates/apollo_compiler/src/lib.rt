@@ -35,6 +35,7 @@ pub use graphql_ast::definition::Definition;
 pub use graphql_ast::document::Document;
 pub use graphql_nodes::collections::hash_keys::HashKeys;
 pub use graphql_nodes::line_column::LineColumn;
+pub use graphql_nodes::line_index::LineIndex;
 pub use graphql_nodes::name::{InvalidNameError, Name, NameError, NamedType};
 pub use graphql_nodes::node::Node;
 pub use graphql_nodes::node_str::NodeStr;

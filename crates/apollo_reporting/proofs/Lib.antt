@@ -1,3 +1,4 @@
 mod Boundaries
 mod JsonLemmas
 mod SaidLemmas
+mod SourceLemmas

@@ -9,5 +9,7 @@ pub mod Places
 pub mod Reports
 pub mod Said
 pub mod SchemaFaults
+pub mod SourceLines
 pub mod TextErrors
+pub mod Windows
 pub mod WorkedExcerpts

@@ -1,5 +1,5 @@
 -- The texts of reports.
-use Rattle.std.specs.Prelude.{ℕ, List, [], ◌++◌, Option, None, Some, codes, decimal, length}
+use Rattle.std.specs.Prelude.{ℕ, Bool, List, [], ◌++◌, Option, None, Some, codes, cond, decimal, length}
 use Rattle.std.specs.List.{repeat}
 use Rattle.graphql_nodes.specs.LineColumns.{line_column_of, start_of}
 use Rattle.graphql_nodes.specs.PlaceTexts.{place_text}
@@ -13,7 +13,9 @@ use Rattle.apollo_document.specs.PathTexts.{path_text}
 use Rattle.apollo_reporting.specs.declared.about.Earlier.{Earlier}
 use Rattle.apollo_document.specs.declared.selection_path.SelectionPath.{SelectionPath}
 use Rattle.apollo_reporting.specs.Abouts.{AboutView}
-use Rattle.apollo_reporting.specs.Excerpts.{before_on_line, line_around, mark_count, marked, marks, pad}
+use Rattle.graphql_nodes.specs.VisibleTexts.{visible}
+use Rattle.apollo_reporting.specs.Excerpts.{marks, pad}
+use Rattle.apollo_reporting.specs.Windows.{Shown, shown}
 
 -- what a line without number begins with, beside numbers of so many digits
 unfoldable pub line_begin : ℕ → List ℕ
@@ -24,19 +26,30 @@ abbrev pub gutter : Option LineColumn → ℕ
 gutter None = 1
 gutter (Some at) = length (decimal at.line)
 
+-- dots where something of a line is left out
+abbrev pub dots : Bool → List ℕ
+dots cut = cond cut (codes "...") []
+
+-- blanks under the dots before a line
+abbrev pub under_dots : Bool → List ℕ
+under_dots cut = cond cut (codes "   ") []
+
+-- a line as it is shown, with dots where something of it is left out
+unfoldable pub line_text : Shown → List ℕ
+line_text it = dots it.cut_before ++ visible it.line ++ dots it.cut_behind
+
 -- an empty line, and a line behind its number, which has so many digits
-unfoldable pub numbered_line : ℕ → ℕ → List ℕ → List ℕ
-numbered_line width number line = line_begin width ++ codes " |\n " ++ decimal number ++ codes " | " ++ line ++ codes "\n"
+unfoldable pub numbered_line : ℕ → ℕ → Shown → List ℕ
+numbered_line width number it = line_begin width ++ codes " |\n " ++ decimal number ++ codes " | " ++ line_text it ++ codes "\n"
 
--- the line under it: these bytes stand before so many marks
-unfoldable pub mark_line : ℕ → List ℕ → ℕ → List ℕ
-mark_line width before count = line_begin width ++ codes " | " ++ pad before ++ marks count ++ codes "\n"
+-- the line under it, with the marks
+unfoldable pub mark_line : ℕ → Shown → List ℕ
+mark_line width it = line_begin width ++ codes " | " ++ under_dots it.cut_before ++ pad it.before ++ marks it.marks ++ codes "\n"
 
--- the line where a span starts, and the marks under it
+-- what is shown of the line where a span starts, and the marks under it
 unfoldable pub excerpt_text : LineColumn → List ℕ → SourceSpan → List ℕ
 excerpt_text at text span =
-    numbered_line (gutter (Some at)) at.line (line_around text span.start)
-    ++ mark_line (gutter (Some at)) (before_on_line text span.start) (mark_count (marked text span.start span.end))
+    numbered_line (gutter (Some at)) at.line (shown text span.start span.end) ++ mark_line (gutter (Some at)) (shown text span.start span.end)
 
 -- the same in a text that doesn't end before, or else nothing
 abbrev pub excerpt_at : Option LineColumn → List ℕ → SourceSpan → List ℕ

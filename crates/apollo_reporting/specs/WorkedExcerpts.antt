@@ -1,16 +1,17 @@
 -- Worked excerpts.
 use Rattle.std.specs.Prelude.{ℕ, List, [], ◌∷◌}
-use Rattle.apollo_reporting.specs.Excerpts.{before_on_line, line_around, mark_count, marked, marks, pad}
+use Rattle.apollo_reporting.specs.Excerpts.{marks, pad}
+use Rattle.apollo_reporting.specs.Windows.{shown}
 
--- what is shown of a text: a line, and under it what stands before the marks, and the marks
-pub record Shown : Type 0 where
+-- a line as it is drawn, and under it what stands before the marks, and the marks
+pub record Drawn : Type 0 where
   pub line : List ℕ
   pub before : List ℕ
   pub marks : List ℕ
 
--- what is shown of a text for the bytes from one offset up to another
-abbrev pub shown : List ℕ → ℕ → ℕ → Shown
-shown text start end = record { line = line_around text start; before = pad (before_on_line text start); marks = marks (mark_count (marked text start end)) }
+-- what is drawn of a text for the bytes from one offset up to another
+abbrev pub drawn : List ℕ → ℕ → ℕ → Drawn
+drawn text start end = record { line = (shown text start end).line; before = pad (shown text start end).before; marks = marks (shown text start end).marks }
 
 -- `é"√"` in UTF-8
 abbrev pub wide_text : List ℕ

@@ -8,28 +8,29 @@ use crate::about::About;
 use crate::detail::{Detail, DetailValue};
 use crate::json_values::{push_key, push_number, push_string, push_string_member, push_text};
 use crate::places::{end, start};
+use crate::sources::Sources;
 use apollo_document::selection_path::SelectionPath;
 use graphql_nodes::line_column::LineColumn;
 use graphql_nodes::name::Name;
-use graphql_nodes::source::{SourceMap, SourceSpan};
+use graphql_nodes::source::SourceSpan;
 use std::alloc::{AllocError, Global};
 
 /// The path of the file of a location, where the sources have the file.
-fn file_path<'a>(sources: &'a SourceMap, location: Option<SourceSpan>) -> Option<&'a str>
-    ensures { option_map (λ path. path.now) result ≡ path_of_file location sources.now }
+fn file_path<S: Sources>(sources: &S, location: Option<SourceSpan>) -> Option<&str>
+    ensures { option_map (λ path. path.now) result ≡ path_of_file location (S.files sources.now) }
 {
-    Some(sources.get(&location?.file)?.path.as_str())
+    Some(sources.file(location?.file)?.path.as_str())
 }
 
 /// Adds the file of a location, behind a sign.
-fn push_file(
+fn push_file<S: Sources>(
     alloc: Global,
     text: &mut String,
     sign: &str,
-    sources: &SourceMap,
+    sources: &S,
     location: Option<SourceSpan>,
 ) -> Result<(), AllocError>
-    ensures { OnOk result (string_bytes text.new ≡ string_bytes text.old ++ member_text sign.now (file_member location sources.now)) }
+    ensures { OnOk result (string_bytes text.new ≡ string_bytes text.old ++ member_text sign.now (file_member location (S.files sources.now))) }
 {
     push_key(alloc, text, sign, "file")?;
     push_text(alloc, text, file_path(sources, location))
@@ -52,13 +53,13 @@ fn push_place(
 }
 
 /// Adds where a location starts and ends.
-fn push_span(
+fn push_span<S: Sources>(
     alloc: Global,
     text: &mut String,
-    sources: &SourceMap,
+    sources: &S,
     location: Option<SourceSpan>,
 ) -> Result<(), AllocError>
-    ensures { OnOk result (string_bytes text.new ≡ string_bytes text.old ++ members_behind (span_members location sources.now)) }
+    ensures { OnOk result (string_bytes text.new ≡ string_bytes text.old ++ members_behind (span_members location (S.files sources.now))) }
 {
     push_place(alloc, text, "line", "column", start(sources, location))?;
     push_place(
@@ -71,13 +72,13 @@ fn push_span(
 }
 
 /// Adds a location as an object.
-fn push_object(
+fn push_object<S: Sources>(
     alloc: Global,
     text: &mut String,
-    sources: &SourceMap,
+    sources: &S,
     span: SourceSpan,
 ) -> Result<(), AllocError>
-    ensures { OnOk result (string_bytes text.new ≡ string_bytes text.old ++ data_text (span_data span sources.now)) }
+    ensures { OnOk result (string_bytes text.new ≡ string_bytes text.old ++ data_text (span_data span (S.files sources.now))) }
 {
     push_file(alloc, text, "{", sources, Some(span))?;
     push_span(alloc, text, sources, Some(span))?;
@@ -87,13 +88,13 @@ fn push_object(
 
 /// Adds a location as an object, or null where there is none.
 #[tactic(auto, unfolding(crate::specs::MemberTexts::data_text))]
-fn push_location(
+fn push_location<S: Sources>(
     alloc: Global,
     text: &mut String,
-    sources: &SourceMap,
+    sources: &S,
     location: Option<SourceSpan>,
 ) -> Result<(), AllocError>
-    ensures { OnOk result (string_bytes text.new ≡ string_bytes text.old ++ data_text (location_data location sources.now)) }
+    ensures { OnOk result (string_bytes text.new ≡ string_bytes text.old ++ data_text (location_data location (S.files sources.now))) }
 {
     match location {
         Some(span) => push_object(alloc, text, sources, span),
@@ -140,13 +141,13 @@ fn push_path(
 }
 
 /// Adds what stands under the name of a detail.
-fn push_value(
+fn push_value<S: Sources>(
     alloc: Global,
     text: &mut String,
-    sources: &SourceMap,
+    sources: &S,
     value: &DetailValue,
 ) -> Result<(), AllocError>
-    ensures { OnOk result (string_bytes text.new ≡ string_bytes text.old ++ data_text (value_data sources.now value.now)) }
+    ensures { OnOk result (string_bytes text.new ≡ string_bytes text.old ++ data_text (value_data (S.files sources.now) value.now)) }
 {
     match value {
         DetailValue::Words(Some(words)) => push_text(alloc, text, Some(words.as_str())),
@@ -156,13 +157,13 @@ fn push_value(
 }
 
 /// Adds details, in order.
-fn push_details(
+fn push_details<S: Sources>(
     alloc: Global,
     text: &mut String,
-    sources: &SourceMap,
+    sources: &S,
     details: &[Detail],
 ) -> Result<(), AllocError>
-    ensures { OnOk result (string_bytes text.new ≡ string_bytes text.old ++ members_behind (map (detail_member sources.now) details.now)) }
+    ensures { OnOk result (string_bytes text.new ≡ string_bytes text.old ++ members_behind (map (detail_member (S.files sources.now)) details.now)) }
 {
     for detail in details {
         push_key(alloc, text, ",", detail.name.as_str())?;
@@ -172,16 +173,16 @@ fn push_details(
 }
 
 /// Adds a fault as an object.
-pub(crate) fn push_fault(
+pub(crate) fn push_fault<S: Sources>(
     alloc: Global,
     text: &mut String,
-    sources: &SourceMap,
+    sources: &S,
     location: Option<SourceSpan>,
     about: &About<'_>,
     said: &str,
     details: &[Detail],
 ) -> Result<(), AllocError>
-    ensures { OnOk result (string_bytes text.new ≡ string_bytes text.old ++ data_text (fault_data sources.now location (about_view about.now) said.now details.now)) }
+    ensures { OnOk result (string_bytes text.new ≡ string_bytes text.old ++ data_text (fault_data (S.files sources.now) location (about_view about.now) said.now details.now)) }
 {
     push_string_member(alloc, text, "{", "kind", about.kind.as_str())?;
     push_string_member(alloc, text, ",", "message", said)?;

@@ -15,8 +15,11 @@ mod places;
 pub mod report;
 pub mod reported;
 pub mod schema_faults;
+pub mod source_lines;
+pub mod sources;
 mod span_writing;
 pub mod text_errors;
+mod window;
 mod writing;
 
 pub use crate::about::{About, Earlier};
@@ -24,3 +27,5 @@ pub use crate::counts::{FaultCount, faults_line};
 pub use crate::detail::{Detail, DetailValue};
 pub use crate::fault_json::to_json;
 pub use crate::reported::Reported;
+pub use crate::source_lines::SourceLines;
+pub use crate::sources::Sources;

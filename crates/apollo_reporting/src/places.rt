@@ -2,20 +2,22 @@
 ghost use Rattle.std.specs.Prelude.{◌≡◌};
 ghost use Rattle.apollo_reporting.specs.Places.{ends, starts};
 
+use crate::sources::Sources;
 use graphql_nodes::line_column::LineColumn;
-use graphql_nodes::source::{SourceMap, SourceSpan};
+use graphql_nodes::source::SourceSpan;
 
 /// The line and column where a fault starts, where they are known.
-pub(crate) fn start(sources: &SourceMap, location: Option<SourceSpan>) -> Option<LineColumn>
-    ensures { result ≡ starts location sources.now }
+pub(crate) fn start<S: Sources>(sources: &S, location: Option<SourceSpan>) -> Option<LineColumn>
+    ensures { result ≡ starts location (S.files sources.now) }
 {
-    location?.line_column(sources)
+    let span = location?;
+    sources.line_column(span.file, span.start)
 }
 
 /// The line and column where a fault ends, where they are known.
-pub(crate) fn end(sources: &SourceMap, location: Option<SourceSpan>) -> Option<LineColumn>
-    ensures { result ≡ ends location sources.now }
+pub(crate) fn end<S: Sources>(sources: &S, location: Option<SourceSpan>) -> Option<LineColumn>
+    ensures { result ≡ ends location (S.files sources.now) }
 {
     let span = location?;
-    sources.get(&span.file)?.get_line_column(span.end)
+    sources.line_column(span.file, span.end)
 }

@@ -9,16 +9,18 @@ ghost use Rattle.apollo_reporting.specs.Said.{IsReport};
 use crate::about::{About, Earlier};
 use crate::places::start;
 use crate::reported::Reported;
+use crate::sources::Sources;
 use crate::span_writing::{gutter, write_span};
 use crate::writing::write_line_begin;
 use apollo_document::selection_path::SelectionPath;
 use graphql_nodes::line_column::LineColumn;
-use graphql_nodes::source::{SourceMap, SourceSpan};
+use graphql_nodes::source::SourceSpan;
+use graphql_nodes::visible_text::visible;
 use std::alloc::{AllocError, Global};
 use std::fmt;
 use std::fmt::{Formatter, Write};
 
-/// A fault beside its location, and the sources that its file is one of.
+/// A fault beside its location, and the source files that its own is one of.
 ///
 /// `Display` is the report, with a line end behind its last line:
 ///
@@ -32,16 +34,20 @@ use std::fmt::{Formatter, Write};
 /// ```
 ///
 /// The marks stand under the span, one for each character, and one where it is empty; of a span of several lines they
-/// stand under the first. A tab before them stays a tab. An earlier place that the fault has to do with follows in the
-/// same form, behind `note:` and what stands there. Where the sources lack the file, or its text ends before, the line
-/// isn't shown.
-pub struct FaultReport<'a, E> {
-    pub sources: &'a SourceMap,
+/// stand under the first. A tab before them stays a tab. Of a line of more than 160 characters 60 are shown before the
+/// marks and 100 from the first mark on, with `...` where something is left out, and no marks stand under what isn't shown.
+/// An earlier place that the fault has to do with follows in the same form, behind `note:` and what stands there. Where the
+/// sources lack the file, or its text ends before, the line isn't shown.
+///
+/// Paths and lines are written as [`visible`] shows them, with no control character but tab. The sentence is written as the
+/// fault itself writes it; [`report_text`] shows it so too.
+pub struct FaultReport<'s, 'f, S, E> {
+    pub sources: &'s S,
     pub location: Option<SourceSpan>,
-    pub fault: &'a E,
+    pub fault: &'f E,
 }
 
-impl<E> Drop for FaultReport<'_, E> {
+impl<S, E> Drop for FaultReport<'_, '_, S, E> {
     fn drop(self) {
         let Self {
             sources: _,
@@ -52,11 +58,13 @@ impl<E> Drop for FaultReport<'_, E> {
 }
 
 /// A fault at a location, to be reported with these sources. It takes no memory.
-pub fn report<'a, E: Reported>(
-    sources: &'a SourceMap,
+///
+/// For many faults make [`SourceLines`](crate::source_lines::SourceLines) of the sources first.
+pub fn report<'s, 'f, S: Sources, E: Reported>(
+    sources: &'s S,
     location: Option<SourceSpan>,
-    fault: &'a E,
-) -> FaultReport<'a, E>
+    fault: &'f E,
+) -> FaultReport<'s, 'f, S, E>
     ensures sources { result.sources.now ≡ sources.now }
     ensures location { result.location ≡ location }
     ensures fault { result.fault.now ≡ fault.now }
@@ -68,8 +76,8 @@ pub fn report<'a, E: Reported>(
     }
 }
 
-impl<E: Reported> fmt::Display for FaultReport<'_, E> {
-    ghost output = { λ it. option_map (report_text it.sources.now it.location (E.said_about it.fault.now)) (E.output it.fault.now) };
+impl<S: Sources, E: Reported> fmt::Display for FaultReport<'_, '_, S, E> {
+    ghost output = { λ it. option_map (report_text (S.files it.sources.now) it.location (E.said_about it.fault.now)) (E.output it.fault.now) };
 
     fn fmt<W: Write>(&self, f: &mut Formatter<W>) -> fmt::Result {
         let about = self.fault.about();
@@ -82,15 +90,18 @@ impl<E: Reported> fmt::Display for FaultReport<'_, E> {
     }
 }
 
-/// The report of a fault, as the `Display` of [`report`] writes it. The error is out of memory.
+/// The report of a fault, as the `Display` of [`report`] writes it, with its sentence as [`visible`] shows it. The error is
+/// out of memory.
+///
+/// For many faults make [`SourceLines`](crate::source_lines::SourceLines) of the sources first.
 #[tactic(auto, using(crate::proofs::SaidLemmas::of_said))]
-pub fn report_text<E: Reported>(
+pub fn report_text<S: Sources, E: Reported>(
     alloc: Global,
-    sources: &SourceMap,
+    sources: &S,
     location: Option<SourceSpan>,
     fault: &E,
 ) -> Result<String, AllocError>
-    ensures { IfOk result (λ text. IsReport E.output E.said_about sources.now location fault.now (string_bytes text)) }
+    ensures { IfOk result (λ text. IsReport E.output E.said_about (S.files sources.now) location fault.now (string_bytes text)) }
 {
     let said = fault.to_string(alloc)?;
     let about = fault.about();
@@ -99,19 +110,28 @@ pub fn report_text<E: Reported>(
         location,
         about: &about,
     };
-    format!(in alloc; "error: {said}\n{behind}")
+    format!(in alloc; "error: {}\n{behind}", visible(said.as_str()))
 }
 
 /// What stands behind the first line of a report.
-#[derive(Clone, Copy)]
-struct LinesBehind<'s, 'b, 'p> {
-    sources: &'s SourceMap,
+struct LinesBehind<'s, 'b, 'p, S> {
+    sources: &'s S,
     location: Option<SourceSpan>,
     about: &'b About<'p>,
 }
 
-impl fmt::Display for LinesBehind<'_, '_, '_> {
-    ghost output = { λ it. Some (lines_behind it.sources.now it.location (about_view it.about.now)) };
+impl<S> Drop for LinesBehind<'_, '_, '_, S> {
+    fn drop(self) {
+        let Self {
+            sources: _,
+            location: _,
+            about: _,
+        } = self;
+    }
+}
+
+impl<S: Sources> fmt::Display for LinesBehind<'_, '_, '_, S> {
+    ghost output = { λ it. Some (lines_behind (S.files it.sources.now) it.location (about_view it.about.now)) };
 
     fn fmt<W: Write>(&self, f: &mut Formatter<W>) -> fmt::Result {
         write_lines_behind(f, self.sources, self.location, self.about)
@@ -119,13 +139,13 @@ impl fmt::Display for LinesBehind<'_, '_, '_> {
 }
 
 #[tactic(auto, unfolding(crate::specs::Reports::lines_behind))]
-fn write_lines_behind<W: Write>(
+fn write_lines_behind<W: Write, S: Sources>(
     f: &mut Formatter<W>,
-    sources: &SourceMap,
+    sources: &S,
     location: Option<SourceSpan>,
     about: &About<'_>,
 ) -> fmt::Result
-    ensures { WritesOnOk W.write_str_gives f.old result (lines_behind sources.now location (about_view about.now)) f.new }
+    ensures { WritesOnOk W.write_str_gives f.old result (lines_behind (S.files sources.now) location (about_view about.now)) f.new }
 {
     let at = start(sources, location);
     write_location(f, sources, location, at)?;
@@ -134,14 +154,14 @@ fn write_lines_behind<W: Write>(
 }
 
 /// Writes where a fault starts, and its line, where this is its line and column.
-fn write_location<W: Write>(
+fn write_location<W: Write, S: Sources>(
     f: &mut Formatter<W>,
-    sources: &SourceMap,
+    sources: &S,
     location: Option<SourceSpan>,
     at: Option<LineColumn>,
 ) -> fmt::Result
-    requires { at ≡ starts location sources.now }
-    ensures { WritesOnOk W.write_str_gives f.old result (location_text location sources.now) f.new }
+    requires { at ≡ starts location (S.files sources.now) }
+    ensures { WritesOnOk W.write_str_gives f.old result (location_text location (S.files sources.now)) f.new }
 {
     match location {
         Some(span) => write_span(f, sources, span, at),
@@ -169,17 +189,17 @@ fn write_path<W: Write>(
 
 /// Writes an earlier place, and its line, if there is one.
 #[tactic(auto, unfolding(crate::specs::Reports::note_text))]
-fn write_note<W: Write>(
+fn write_note<W: Write, S: Sources>(
     f: &mut Formatter<W>,
-    sources: &SourceMap,
+    sources: &S,
     earlier: &Option<Earlier>,
 ) -> fmt::Result
-    ensures { WritesOnOk W.write_str_gives f.old result (note_text earlier.now sources.now) f.new }
+    ensures { WritesOnOk W.write_str_gives f.old result (note_text earlier.now (S.files sources.now)) f.new }
 {
     match earlier {
         Some(earlier) => {
             write!(f, "note: {}\n", earlier.message)?;
-            let at = earlier.location.line_column(sources);
+            let at = start(sources, Some(earlier.location));
             write_span(f, sources, earlier.location, at)
         }
         None => Ok(()),

@@ -10,6 +10,8 @@ mod failures;
 #[cfg(test)]
 mod leaves;
 #[cfg(test)]
+mod long_lines;
+#[cfg(test)]
 mod made;
 #[cfg(test)]
 mod own_fault;
@@ -21,3 +23,5 @@ mod rows;
 mod schemas;
 #[cfg(test)]
 mod texts;
+#[cfg(test)]
+mod visible;

@@ -7,8 +7,10 @@ use apollo_compiler::{
     SourceMap, SourceSpan, build_executable_document, build_schema,
 };
 use apollo_reporting::fault_json::to_json;
-use apollo_reporting::report::report;
+use apollo_reporting::report::report_text;
 use apollo_reporting::reported::Reported;
+use apollo_reporting::source_lines::SourceLines;
+use apollo_reporting::sources::Sources;
 use graphql_nodes::collections::shared::Shared;
 use graphql_nodes::collections::table::Table;
 use leafcheck::{LeafFault, leaf_faults};
@@ -44,15 +46,15 @@ pub(crate) enum Form {
 
 /// What is reported of a fault.
 /// No clause: it serves tests.
-pub(crate) fn reported<E: Reported>(
+pub(crate) fn reported<S: Sources, E: Reported>(
     alloc: Global,
     form: Form,
-    sources: &SourceMap,
+    sources: &S,
     location: Option<SourceSpan>,
     fault: &E,
 ) -> Result<String, AllocError> {
     match form {
-        Form::Text => report(sources, location, fault).to_string(alloc),
+        Form::Text => report_text(alloc, sources, location, fault),
         Form::Json => to_json(alloc, sources, location, fault),
     }
 }
@@ -64,9 +66,10 @@ fn all_reported<E: Reported>(
     sources: &SourceMap,
     faults: &[(Option<SourceSpan>, E)],
 ) -> Result<String, AllocError> {
+    let lines = SourceLines::new(alloc, sources)?;
     let mut text = String::new(alloc);
     for fault in faults {
-        text.push_str(reported(alloc, form, sources, fault.0, &fault.1)?.as_str())?;
+        text.push_str(reported(alloc, form, &lines, fault.0, &fault.1)?.as_str())?;
     }
     Ok(text)
 }

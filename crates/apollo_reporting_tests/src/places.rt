@@ -30,6 +30,13 @@ const PAST_THE_END: SourceSpan = SourceSpan {
     end: 9,
 };
 
+/// A place in the file of the built-in definitions, of which there is no text.
+const BUILT_IN: SourceSpan = SourceSpan {
+    file: FileId::BUILT_IN,
+    start: 0,
+    end: 0,
+};
+
 /// A fault at a location, with an earlier place, the report of it, and its JSON, which is broken into lines here.
 struct Row {
     location: Option<SourceSpan>,
@@ -38,7 +45,7 @@ struct Row {
     json: &'static str,
 }
 
-static ROWS: [Row; 4] = [
+static ROWS: [Row; 5] = [
     Row {
         location: None,
         previous_location: None,
@@ -66,6 +73,18 @@ note: first defined here
   --> places.graphql, byte 9
 note: first defined here
   --> file 9, byte 3
+",
+        json: r#"{"kind":"SchemaDefinitionCollision","message":"must not have multiple `schema` definitions",
+"file":"places.graphql","line":null,"column":null,"end_line":null,"end_column":null,"path":null,
+"previous_location":{"file":null,"line":null,"column":null,"end_line":null,"end_column":null}}"#,
+    },
+    Row {
+        location: Some(BEHIND_THE_END),
+        previous_location: Some(BUILT_IN),
+        report: "error: must not have multiple `schema` definitions
+  --> places.graphql, byte 9
+note: first defined here
+  --> built-in
 ",
         json: r#"{"kind":"SchemaDefinitionCollision","message":"must not have multiple `schema` definitions",
 "file":"places.graphql","line":null,"column":null,"end_line":null,"end_column":null,"path":null,

@@ -4,7 +4,7 @@ use crate::rows::{Row, Sort, first_wrong};
 
 /// Each refusal of a text once: with characters of several bytes at the mark and before it, behind a tab, behind line
 /// ends of both kinds, in an empty text, and at the end of a text with and without a last line end.
-static ROWS: [Row; 15] = [
+static ROWS: [Row; 16] = [
     Row {
         text: "query {\r\n  é}",
         report: "error: unexpected character `é`
@@ -34,12 +34,24 @@ static ROWS: [Row; 15] = [
         report: "error: unexpected character U+0007
   --> refused.graphql:1:3
    |
- 1 | {\t\x07}
+ 1 | {\t\u{fffd}}
    |  \t^
 ",
         json: r#"{"kind":"UnexpectedCharacter","message":"unexpected character U+0007",
 "file":"refused.graphql","line":1,"column":3,"end_line":1,"end_column":3,"path":null,
 "character":"\u0007","shown":"U+0007"}"#,
+    },
+    Row {
+        text: "{\u{9b}}",
+        report: "error: unexpected character `\u{fffd}`
+  --> refused.graphql:1:2
+   |
+ 1 | {\u{fffd}}
+   |  ^
+",
+        json: "{\"kind\":\"UnexpectedCharacter\",\"message\":\"unexpected character `\u{9b}`\",
+\"file\":\"refused.graphql\",\"line\":1,\"column\":2,\"end_line\":1,\"end_column\":2,\"path\":null,
+\"character\":\"\u{9b}\",\"shown\":\"`\u{9b}`\"}",
     },
     Row {
         text: "",

@@ -9,6 +9,8 @@ mod hash_keys;
 #[cfg(test)]
 mod line_columns;
 #[cfg(test)]
+mod line_indexes;
+#[cfg(test)]
 mod lists;
 #[cfg(test)]
 mod names;

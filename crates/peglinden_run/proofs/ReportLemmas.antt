@@ -2,6 +2,7 @@
 use Rattle.std.proofs.Common.{◌≡◌, ℕ, ◌+◌, ◌<◌, List, [], ◌∷◌, ◌++◌, Option, None, Some, Result, Ok, Err, OnOk, is_ok, if◌then◌else◌, codes, get_or, length, take, refl, sym, ap, subst, ◌∙◌, append_assoc}
 use Rattle.std.proofs.lemmas.List.{append-nil, take_more}
 use Rattle.graphql_nodes.specs.Sources.{Files}
+use Rattle.graphql_nodes.specs.VisibleTexts.{visible}
 use Rattle.graphql_nodes.specs.declared.source.SourceSpan.{SourceSpan}
 use Rattle.serde_json.specs.Written.{compact_text}
 use Rattle.apollo_reporting.specs.Abouts.{AboutView}
@@ -26,10 +27,10 @@ behind : (old text middle new : List ℕ) → middle ≡ old ++ text → new ≡
 behind old text middle new one two = two ∙ ap (λ l. l ++ codes "\n") one ∙ append_assoc old text (codes "\n")
 
 -- a report that is added with a line end
-pub report_added : (sentence : Option (List ℕ)) (files : Files) (location : Option SourceSpan) (about : AboutView) (report old middle new : List ℕ) → OfSaid sentence (λ s. report ≡ report_text files location about s) → middle ≡ old ++ report → new ≡ middle ++ codes "\n"
+pub report_added : (sentence : Option (List ℕ)) (files : Files) (location : Option SourceSpan) (about : AboutView) (report old middle new : List ℕ) → OfSaid sentence (λ s. report ≡ report_text files location about (visible s)) → middle ≡ old ++ report → new ≡ middle ++ codes "\n"
     → Adds (IsReport files location about) old new
 report_added sentence files location about report old middle new is one two =
-    let says = some_said sentence (λ s. report ≡ report_text files location about s) is in
+    let says = some_said sentence (λ s. report ≡ report_text files location about (visible s)) is in
     (report ++ codes "\n", (behind old report middle new one two, (says.0, ap (λ l. l ++ codes "\n") says.1)))
 
 -- and a line of JSON

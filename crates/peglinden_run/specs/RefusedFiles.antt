@@ -2,6 +2,7 @@
 use Rattle.std.specs.Prelude.{◌≡◌, ◌≢◌, ◌⊎◌, ◌++◌, ℕ, suc, List, [], ◌∷◌, Option, None, Some, codes, is_some, length, string_bytes}
 use Rattle.std.specs.List.{count_by, flat_map}
 use Rattle.program_io.specs.Files.{CannotBeRead, HoldsSome}
+use Rattle.graphql_nodes.specs.VisibleTexts.{visible}
 use Rattle.graphql_ast.specs.declared.document.Document.{Document}
 use Rattle.graphql_grammar.specs.WordsOfText.{words_of}
 use Rattle.graphql_productions.specs.Documents.{document, spells_document}
@@ -19,9 +20,9 @@ use Rattle.peglinden_run.specs.Reports.{IsReport, count_line}
 abbrev pub IsErrorOf : ℕ → List ℕ → ParseError → Type 0
 IsErrorOf number text error = RefusedAt (document (file number) most_open) (spells_document (file number) most_open) (document (file number) (suc most_open)).spells (file number) (length text) (words_of most_tokens text) error
 
--- the report that the file of this path can't be read, with these words for why
+-- the report that the file of this path can't be read, with these words for why, as both are shown
 abbrev pub unread_text : List ℕ → List ℕ → List ℕ
-unread_text path why = codes "error: cannot read `" ++ (path ++ (codes "`: " ++ (why ++ codes "\n\n")))
+unread_text path why = codes "error: cannot read `" ++ (visible path ++ (codes "`: " ++ (visible why ++ codes "\n\n")))
 
 -- the text is that report, with some words for why
 abbrev pub IsUnreadReport : List ℕ → List ℕ → Type 0

@@ -1,6 +1,7 @@
 -- What is written of faults.
 use Rattle.std.specs.Prelude.{◌≡◌, ◌++◌, ℕ, zero, suc, List, [], ◌∷◌, Option, codes}
 use Rattle.graphql_nodes.specs.Sources.{Files}
+use Rattle.graphql_nodes.specs.VisibleTexts.{visible}
 use Rattle.graphql_nodes.specs.declared.source.SourceSpan.{SourceSpan}
 use Rattle.serde_json.specs.Written.{compact_text}
 use Rattle.apollo_reporting.specs.Abouts.{AboutView}
@@ -10,9 +11,10 @@ use Rattle.apollo_reporting.specs.Reports.{report_text}
 use Rattle.apollo_reporting.specs.Said.{OfSaid}
 use Rattle.apollo_reporting.specs.declared.detail.Detail.{Detail}
 
--- the text is the report of a fault at this location, by some sentence and what else reports say of it, with an empty line behind it
+-- the text is the report of a fault at this location, by some sentence, as it is shown, and what else reports say of it, with an empty line
+-- behind it
 abbrev pub IsReport : Files → Option SourceSpan → AboutView → List ℕ → Type 0
-IsReport files location about text = (sentence : List ℕ) × (text ≡ report_text files location about sentence ++ codes "\n")
+IsReport files location about text = (sentence : List ℕ) × (text ≡ report_text files location about (visible sentence) ++ codes "\n")
 
 -- the text is the JSON of a fault at this location, by some sentence, what else reports say of it and its details, as a line
 abbrev pub IsJsonLine : Files → Option SourceSpan → AboutView → Option (List Detail) → List ℕ → Type 0

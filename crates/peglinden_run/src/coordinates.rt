@@ -6,6 +6,7 @@ ghost use Rattle.peglinden_run.specs.LookupCommand.{IsCoordinateCause};
 use crate::failure::Failure;
 use apollo_coordinate::coordinates::SchemaCoordinate;
 use apollo_coordinate::parse_error::SchemaCoordinateParseError;
+use graphql_nodes::visible_text::visible;
 use std::alloc::{AllocError, Global};
 
 /// The coordinate of a text. `NoCoordinate` comes for a text of none, and `Memory` where memory ran out.
@@ -24,12 +25,11 @@ pub(crate) fn read_coordinate(alloc: Global, text: &str) -> Result<SchemaCoordin
 /// What is said of a text of no coordinate. The error is out of memory.
 /// No clause: the sentence is for people.
 fn no_coordinate(alloc: Global, text: &str) -> Result<String, AllocError> {
-    let mut said = String::new(alloc);
-    said.push_str("error: `")?;
-    said.push_str(text)?;
-    said.push_str(
-        "` is not a schema coordinate, as `Type`, `Type.field`, `Type.field(argument:)`, `@directive` or ",
+    let mut said = format!(in alloc;
+        "error: `{}` is not a schema coordinate, as ",
+        visible(text)
     )?;
+    said.push_str("`Type`, `Type.field`, `Type.field(argument:)`, `@directive` or ")?;
     said.push_str("`@directive(argument:)` are\n")?;
     Ok(said)
 }

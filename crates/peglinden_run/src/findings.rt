@@ -8,6 +8,8 @@ use crate::answer::Answer;
 use crate::reports::{push_count, push_json, push_json_lines, push_report, push_reports};
 use apollo_document::build_error as of_documents;
 use apollo_meaning::build_error as of_schemas;
+use apollo_reporting::source_lines::SourceLines;
+use apollo_reporting::sources::Sources;
 use graphql_nodes::source::SourceMap;
 use leafcheck::leaf_fault::LeafFault;
 use std::alloc::{AllocError, Global};
@@ -61,7 +63,18 @@ impl Findings {
     fn reports(&self, alloc: Global) -> Result<String, AllocError>
         ensures { IfOk result (λ reports. AreReports (found_in self.now) (string_bytes reports)) }
     {
-        let sources = &self.sources;
+        if !self.any() {
+            return Ok(String::new(alloc));
+        }
+        let lines = SourceLines::new(alloc, &self.sources)?;
+        self.reports_in(alloc, &lines)
+    }
+
+    /// The same, found in these sources, which are those of the faults.
+    fn reports_in<S: Sources>(&self, alloc: Global, sources: &S) -> Result<String, AllocError>
+        requires { S.files sources.now ≡ self.now.sources }
+        ensures { IfOk result (λ reports. AreReports (found_in self.now) (string_bytes reports)) }
+    {
         let mut reports = String::new(alloc);
         push_reports(alloc, &mut reports, sources, self.schema_faults.as_slice())?;
         push_reports(
@@ -79,7 +92,18 @@ impl Findings {
     fn json_lines(&self, alloc: Global) -> Result<String, AllocError>
         ensures { IfOk result (λ lines. AreJsonLines (found_in self.now) (string_bytes lines)) }
     {
-        let sources = &self.sources;
+        if !self.any() {
+            return Ok(String::new(alloc));
+        }
+        let lines = SourceLines::new(alloc, &self.sources)?;
+        self.json_lines_in(alloc, &lines)
+    }
+
+    /// The same, found in these sources, which are those of the faults.
+    fn json_lines_in<S: Sources>(&self, alloc: Global, sources: &S) -> Result<String, AllocError>
+        requires { S.files sources.now ≡ self.now.sources }
+        ensures { IfOk result (λ lines. AreJsonLines (found_in self.now) (string_bytes lines)) }
+    {
         let mut lines = String::new(alloc);
         push_json_lines(alloc, &mut lines, sources, self.schema_faults.as_slice())?;
         push_json_lines(alloc, &mut lines, sources, self.document_faults.as_slice())?;
@@ -109,13 +133,13 @@ impl Findings {
 }
 
 /// Adds the reports of leaf faults, in order, each with an empty line behind it. The error is out of memory.
-fn push_leaf_reports(
+fn push_leaf_reports<S: Sources>(
     alloc: Global,
     reports: &mut String,
-    sources: &SourceMap,
+    sources: &S,
     faults: &[LeafFault],
 ) -> Result<(), AllocError>
-    ensures { OnOk result (Adds (SaysEach (IsLeafReport sources.now) faults.now) (string_bytes reports.old) (string_bytes reports.new)) }
+    ensures { OnOk result (Adds (SaysEach (IsLeafReport (S.files sources.now)) faults.now) (string_bytes reports.old) (string_bytes reports.new)) }
 {
     for fault in faults {
         push_report(alloc, reports, sources, fault.location, fault)?;
@@ -124,13 +148,13 @@ fn push_leaf_reports(
 }
 
 /// Adds the JSON of leaf faults, one a line, in order. The error is out of memory.
-fn push_leaf_lines(
+fn push_leaf_lines<S: Sources>(
     alloc: Global,
     lines: &mut String,
-    sources: &SourceMap,
+    sources: &S,
     faults: &[LeafFault],
 ) -> Result<(), AllocError>
-    ensures { OnOk result (Adds (SaysEach (IsLeafLine sources.now) faults.now) (string_bytes lines.old) (string_bytes lines.new)) }
+    ensures { OnOk result (Adds (SaysEach (IsLeafLine (S.files sources.now)) faults.now) (string_bytes lines.old) (string_bytes lines.new)) }
 {
     for fault in faults {
         push_json(alloc, lines, sources, fault.location, fault)?;

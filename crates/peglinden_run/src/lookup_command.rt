@@ -56,10 +56,26 @@ fn missing_answer(
     ensures any { IfOk result (λ answer. answer.has_faults ≡ true) }
 {
     let shown = coordinate.to_string(alloc)?;
-    let why = error.to_string(alloc)?;
+    let why = why_missing(alloc, coordinate, error)?;
     Ok(Answer {
         output: String::new(alloc),
         errors: format!(in alloc; "error: `{shown}` points to nothing: {why}\n")?,
         has_faults: true,
     })
+}
+
+/// Why a coordinate points to nothing, in words. The error is out of memory.
+/// No clause: the sentence is for people.
+fn why_missing(
+    alloc: Global,
+    coordinate: &SchemaCoordinate,
+    error: &SchemaLookupError<'_, '_>,
+) -> Result<String, AllocError> {
+    match (coordinate, error) {
+        (
+            SchemaCoordinate::Directive(_) | SchemaCoordinate::DirectiveArgument(_),
+            SchemaLookupError::MissingType(name),
+        ) => format!(in alloc; "directive `@{name}` does not exist"),
+        _ => error.to_string(alloc),
+    }
 }

@@ -8,9 +8,11 @@ use apollo_reporting::counts::faults_line;
 use apollo_reporting::fault_json::to_json;
 use apollo_reporting::report::report_text;
 use apollo_reporting::reported::Reported;
+use apollo_reporting::sources::Sources;
 use graphql_nodes::collections::shared::Shared;
 use graphql_nodes::collections::table::Table;
-use graphql_nodes::source::{FileId, SourceFile, SourceMap, SourceSpan};
+use graphql_nodes::source::{FileId, SourceFile, SourceSpan};
+use graphql_nodes::visible_text::visible;
 use graphql_text::parse_error::ParseError;
 use program_io::file_error::FileError;
 use std::alloc::{AllocError, Global};
@@ -31,7 +33,11 @@ pub(crate) fn unread_report(
 fn unread_text(alloc: Global, path: &str, why: &str) -> Result<String, AllocError>
     ensures { IfOk result (λ report. string_bytes report ≡ unread_text path.now why.now) }
 {
-    format!(in alloc; "error: cannot read `{path}`: {why}\n\n")
+    format!(in alloc;
+        "error: cannot read `{}`: {}\n\n",
+        visible(path),
+        visible(why)
+    )
 }
 
 /// The report of a text that is refused, and an empty line. The error is out of memory.
@@ -52,14 +58,14 @@ pub(crate) fn parse_report(
 
 /// Adds the report of a fault, and an empty line. The error is out of memory.
 #[tactic(auto, using(crate::proofs::ReportLemmas::report_added))]
-pub(crate) fn push_report<E: Reported>(
+pub(crate) fn push_report<S: Sources, E: Reported>(
     alloc: Global,
     reports: &mut String,
-    sources: &SourceMap,
+    sources: &S,
     location: Option<SourceSpan>,
     fault: &E,
 ) -> Result<(), AllocError>
-    ensures { OnOk result (Adds (IsReport sources.now location (E.said_about fault.now)) (string_bytes reports.old) (string_bytes reports.new)) }
+    ensures { OnOk result (Adds (IsReport (S.files sources.now) location (E.said_about fault.now)) (string_bytes reports.old) (string_bytes reports.new)) }
 {
     let report = report_text(alloc, sources, location, fault)?;
     reports.push_str(report.as_str())?;
@@ -67,13 +73,13 @@ pub(crate) fn push_report<E: Reported>(
 }
 
 /// Adds the reports of faults, in order, each with an empty line behind it. The error is out of memory.
-pub(crate) fn push_reports<E: Reported>(
+pub(crate) fn push_reports<S: Sources, E: Reported>(
     alloc: Global,
     reports: &mut String,
-    sources: &SourceMap,
+    sources: &S,
     faults: &[(Option<SourceSpan>, E)],
 ) -> Result<(), AllocError>
-    ensures { OnOk result (Adds (SaysEach (λ fault. IsReport sources.now fault.0 (E.said_about fault.1)) faults.now) (string_bytes reports.old) (string_bytes reports.new)) }
+    ensures { OnOk result (Adds (SaysEach (λ fault. IsReport (S.files sources.now) fault.0 (E.said_about fault.1)) faults.now) (string_bytes reports.old) (string_bytes reports.new)) }
 {
     for fault in faults {
         push_report(alloc, reports, sources, fault.0, &fault.1)?;
@@ -98,27 +104,27 @@ pub(crate) fn push_count(
 
 /// Adds the JSON of a fault, as a line. The error is out of memory.
 #[tactic(auto, using(crate::proofs::ReportLemmas::json_added))]
-pub(crate) fn push_json<E: Reported>(
+pub(crate) fn push_json<S: Sources, E: Reported>(
     alloc: Global,
     lines: &mut String,
-    sources: &SourceMap,
+    sources: &S,
     location: Option<SourceSpan>,
     fault: &E,
 ) -> Result<(), AllocError>
-    ensures { OnOk result (Adds (IsJsonLine sources.now location (E.said_about fault.now) (E.said_details fault.now)) (string_bytes lines.old) (string_bytes lines.new)) }
+    ensures { OnOk result (Adds (IsJsonLine (S.files sources.now) location (E.said_about fault.now) (E.said_details fault.now)) (string_bytes lines.old) (string_bytes lines.new)) }
 {
     lines.push_str(to_json(alloc, sources, location, fault)?.as_str())?;
     lines.push_str("\n")
 }
 
 /// Adds the JSON of faults, one a line, in order. The error is out of memory.
-pub(crate) fn push_json_lines<E: Reported>(
+pub(crate) fn push_json_lines<S: Sources, E: Reported>(
     alloc: Global,
     lines: &mut String,
-    sources: &SourceMap,
+    sources: &S,
     faults: &[(Option<SourceSpan>, E)],
 ) -> Result<(), AllocError>
-    ensures { OnOk result (Adds (SaysEach (λ fault. IsJsonLine sources.now fault.0 (E.said_about fault.1) (E.said_details fault.1)) faults.now) (string_bytes lines.old) (string_bytes lines.new)) }
+    ensures { OnOk result (Adds (SaysEach (λ fault. IsJsonLine (S.files sources.now) fault.0 (E.said_about fault.1) (E.said_details fault.1)) faults.now) (string_bytes lines.old) (string_bytes lines.new)) }
 {
     for fault in faults {
         push_json(alloc, lines, sources, fault.0, &fault.1)?;

@@ -117,7 +117,7 @@ fn format_command<'w>(alloc: Global) -> Result<Command<'w>, AllocError>
     ensures local { IfOk result (λ command. (fields_of command).has_globals ≡ false) }
 {
     Command::new(alloc, "format")
-        .about("Print files in the usual layout")
+        .about("Print files in the usual layout, without their comments")
         .arg(flag(
             alloc,
             "check",

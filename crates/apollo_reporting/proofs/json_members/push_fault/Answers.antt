@@ -9,8 +9,8 @@ use Rattle.apollo_reporting.proofs.json_members.push_fault.Goals as goal
 
 pub returns : goal.returns
 unfolding fault_data
-returns c =
-    let files = c.args.sources.now in
+returns g c =
+    let files = g.S.Sources.files c.args.sources.now in
     let about = about_view c.args.about.now in
     let old = string_bytes c.args.text.now in
     let first : string_bytes c.push_string_member.new.text ≡ old ++ member_text (codes "{") (codes "kind", string about.kind) =

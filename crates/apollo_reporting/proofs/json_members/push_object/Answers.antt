@@ -6,8 +6,8 @@ use Rattle.apollo_reporting.proofs.JsonLemmas.{object_written}
 use Rattle.apollo_reporting.proofs.json_members.push_object.Goals as goal
 
 pub returns : goal.returns
-returns c =
-    let files = c.args.sources.now in
+returns g c =
+    let files = g.S.Sources.files c.args.sources.now in
     let location = Some c.args.span in
     c.in_ok-push_str.ensures.bytes
     ∙ ap (λ (t : List ℕ). t ++ codes "}") (c.in_ok-push_span.ensures ∙ ap (λ (t : List ℕ). t ++ members_behind (span_members location files)) c.in_ok-push_file.ensures)

@@ -5,7 +5,7 @@ use Rattle.std.specs.List.{position_or_len}
 use Rattle.std.specs.Str.{IsCharBoundary}
 use Rattle.apollo_reporting.specs.Excerpts.{begins_line_end, line_start}
 use Rattle.apollo_reporting.proofs.Boundaries.{line_end_boundary, line_start_boundary}
-use Rattle.apollo_reporting.proofs.excerpt.Excerpt.new.Goals as goal
+use Rattle.apollo_reporting.proofs.excerpt.Excerpt.of_whole_line.Goals as goal
 
 pub range-requires-clause-start_boundary : goal.range-requires-clause-start_boundary
 range-requires-clause-start_boundary c =

@@ -1,0 +1,28 @@
+-- Where nothing is at fault nothing is reported.
+use Rattle.std.proofs.Common.{◌≡◌, List, [], ◌∷◌, false, refl, arith}
+use Rattle.graphql_nodes.specs.Sources.{Files}
+use Rattle.apollo_document.specs.Typable.{Fault as DocumentFault}
+use Rattle.apollo_meaning.specs.Faults.Collisions.{Fault}
+use Rattle.leafcheck.specs.declared.leaf_fault.LeafFault.{LeafFault}
+use Rattle.peglinden_run.specs.Findings.{AreJsonLines, AreReports, Found, any_fault}
+
+abbrev found : Files → List Fault → List DocumentFault → List LeafFault → Found
+found files xs ys zs = record { sources = files; schema = xs; document = ys; leaves = zs }
+
+no_reports : (files : Files) (xs : List Fault) (ys : List DocumentFault) (zs : List LeafFault) → any_fault (found files xs ys zs) ≡ false → AreReports (found files xs ys zs) []
+no_reports files [] [] [] is = record { of_schema = []; schema = refl; of_document = []; document = refl; of_leaves = []; leaves = refl; are = refl }
+no_reports files (x ∷ xs) ys zs is = absurd (grind (arith, is))
+no_reports files [] (y ∷ ys) zs is = absurd (grind (arith, is))
+no_reports files [] [] (z ∷ zs) is = absurd (grind (arith, is))
+
+no_lines : (files : Files) (xs : List Fault) (ys : List DocumentFault) (zs : List LeafFault) → any_fault (found files xs ys zs) ≡ false → AreJsonLines (found files xs ys zs) []
+no_lines files [] [] [] is = record { of_schema = []; schema = refl; of_document = []; document = refl; of_leaves = []; leaves = refl; are = refl }
+no_lines files (x ∷ xs) ys zs is = absurd (grind (arith, is))
+no_lines files [] (y ∷ ys) zs is = absurd (grind (arith, is))
+no_lines files [] [] (z ∷ zs) is = absurd (grind (arith, is))
+
+pub nothing_reported : (it : Found) → any_fault it ≡ false → AreReports it []
+nothing_reported it is = no_reports it.sources it.schema it.document it.leaves is
+
+pub nothing_written : (it : Found) → any_fault it ≡ false → AreJsonLines it []
+nothing_written it is = no_lines it.sources it.schema it.document it.leaves is
