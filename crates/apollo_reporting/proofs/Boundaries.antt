@@ -100,10 +100,18 @@ ahead_stops left (b ∷ bs) less = by (stops_at left b) refl (ahead_stops (left_
     by true is rest less = stop_begins left b is
     by false is rest less = rest (omega (arith, less))
 
-pub ahead_boundary : (text : List ℕ) (at left : ℕ) → at ≤ length text → ahead_by left (drop at text) ≤ length (drop at text) → IsCharBoundary text (at + ahead_by left (drop at text))
-ahead_boundary text at left within short =
+ahead_short : (left : ℕ) (bs : List ℕ) → ahead_by left bs ≤ length bs
+ahead_short left [] = omega arith
+ahead_short left (b ∷ bs) = by (stops_at left b) (ahead_short (left_beside left b) bs)
+  where
+    by : (y : Bool) → ahead_by (left_beside left b) bs ≤ length bs → cond y zero (suc (ahead_by (left_beside left b) bs)) ≤ length (b ∷ bs)
+    by true short = omega arith
+    by false short = omega (arith, short)
+
+pub ahead_boundary : (text : List ℕ) (at left : ℕ) → at ≤ length text → IsCharBoundary text (at + ahead_by left (drop at text))
+ahead_boundary text at left within =
     let rest = drop at text in
-    let there : IsCharBoundary rest (ahead_by left rest) = (short, λ less high. lead (get_or rest (ahead_by left rest) 0) (ahead_stops left rest less) high) in
+    let there : IsCharBoundary rest (ahead_by left rest) = (ahead_short left rest, λ less high. lead (get_or rest (ahead_by left rest) 0) (ahead_stops left rest less) high) in
     IsCharBoundary-from_rest text at (ahead_by left rest) within there
 
 -- how many bytes are taken from an offset on, by the byte there

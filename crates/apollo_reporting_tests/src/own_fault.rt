@@ -1,5 +1,6 @@
 //! Reports of a fault of a caller's own.
 ghost use Rattle.std.specs.Prelude.{◌≡◌, ◌++◌, ◌∷◌, [], IfOk, Some, codes, decimal, string_bytes};
+ghost use Rattle.graphql_nodes.specs.VisibleTexts.{visible};
 ghost use Rattle.serde_json.specs.Written.{compact_text};
 ghost use Rattle.apollo_reporting.specs.Abouts.{of_kind};
 ghost use Rattle.apollo_reporting.specs.Details.{one_text};
@@ -55,7 +56,7 @@ fn report_of(
     fault: &TooWide,
 ) -> Result<String, AllocError>
     ensures { IfOk result (λ text. string_bytes text ≡ spec.report_text sources.now location
-        (of_kind (codes "TooWide")) (decimal fault.now.fields ++ codes " fields are too many")) }
+        (of_kind (codes "TooWide")) (visible (decimal fault.now.fields ++ codes " fields are too many"))) }
 {
     report_text(alloc, sources, location, fault)
 }

@@ -1,5 +1,5 @@
 -- Where nothing is at fault nothing is reported.
-use Rattle.std.proofs.Common.{◌≡◌, List, [], ◌∷◌, false, refl, arith}
+use Rattle.std.proofs.Common.{◌≡◌, ℕ, List, [], ◌∷◌, false, refl, sym, subst, arith}
 use Rattle.graphql_nodes.specs.Sources.{Files}
 use Rattle.apollo_document.specs.Typable.{Fault as DocumentFault}
 use Rattle.apollo_meaning.specs.Faults.Collisions.{Fault}
@@ -21,8 +21,8 @@ no_lines files (x ∷ xs) ys zs is = absurd (grind (arith, is))
 no_lines files [] (y ∷ ys) zs is = absurd (grind (arith, is))
 no_lines files [] [] (z ∷ zs) is = absurd (grind (arith, is))
 
-pub nothing_reported : (it : Found) → any_fault it ≡ false → AreReports it []
-nothing_reported it is = no_reports it.sources it.schema it.document it.leaves is
+pub nothing_reported : (it : Found) (text : List ℕ) → any_fault it ≡ false → text ≡ [] → AreReports it text
+nothing_reported it text is none = subst (AreReports it) (sym none) (no_reports it.sources it.schema it.document it.leaves is)
 
-pub nothing_written : (it : Found) → any_fault it ≡ false → AreJsonLines it []
-nothing_written it is = no_lines it.sources it.schema it.document it.leaves is
+pub nothing_written : (it : Found) (text : List ℕ) → any_fault it ≡ false → text ≡ [] → AreJsonLines it text
+nothing_written it text is none = subst (AreJsonLines it) (sym none) (no_lines it.sources it.schema it.document it.leaves is)
