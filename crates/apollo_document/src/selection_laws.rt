@@ -27,7 +27,6 @@ ghost use Rattle.apollo_document.specs.TypedSelections.{IsTypedSet};
 
 use crate::build_error::BuildError;
 use crate::selection_path::{ExecutableDefinitionName, SelectionPath};
-use apollo_executable::laws::fields_in::fields_by_kind_of_selection;
 use apollo_executable::selection::{Field, SelectionSet};
 use apollo_schema::schema::Schema;
 use graphql_ast::selection::Selection;
@@ -72,9 +71,7 @@ pub fn what_is_typable()
 /// specification of October 2021, section 5.3.3.
 pub fn leaves_of_typed_sets()
     ensures { (schema : Schema) (ty : NameView) (set : SelectionSet) → IsTypedSet (Some schema) ty set → AllByRecursion (λ (n : NodeView Field). IsBareOnLeaf schema n.value) (fields_in true set.selections) }
-{
-    fields_by_kind_of_selection();
-}
+{}
 
 /// Paths and the errors of a build are equal exactly where they are one without the locations of names. GraphQL specification of
 /// October 2021, sections 2.2 to 2.8.

@@ -9,5 +9,6 @@ pub mod OperationLending
 pub mod Operations
 pub mod Requests
 pub mod SelectionParts
+pub mod SelectionReading
 pub mod SelectionSets
 pub mod Walks

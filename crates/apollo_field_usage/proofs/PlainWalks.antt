@@ -12,13 +12,10 @@ use Rattle.apollo_executable.specs.Walks.Plain.{Plain, plain, fragments_of}
 use Rattle.apollo_executable.specs.Walks.WalkView.{AreWalked}
 use Rattle.apollo_executable.specs.declared.document.ExecutableDocument.{ExecutableDocument}
 use Rattle.apollo_executable.specs.declared.operation.Fragment.{Fragment}
-use Rattle.apollo_executable.specs.declared.selection.Selection.{Selection, roll-Selection}
-use Rattle.apollo_executable.specs.declared.selection.Selection.TheFolds as folds
-use Rattle.apollo_executable.specs.declared.selection.Selection.TheOpen as layer
-use Rattle.apollo_executable.specs.declared.selection.Selection.TheVariants as variant
-use Rattle.apollo_executable.specs.declared.selection.Field.{Field, roll-Field}
-use Rattle.apollo_executable.specs.declared.selection.InlineFragment.{InlineFragment, roll-InlineFragment}
-use Rattle.apollo_executable.specs.declared.selection.SelectionSet.{SelectionSet, roll-SelectionSet}
+use Rattle.apollo_executable.specs.declared.selection.Selection.{Selection}
+use Rattle.apollo_executable.specs.declared.selection.Field.{Field}
+use Rattle.apollo_executable.specs.declared.selection.SelectionSet.{SelectionSet}
+use Rattle.apollo_executable.proofs.Selections.Induction.{of_selections}
 use Rattle.apollo_executable.proofs.Walking.PlainLemmas.{plain-none, plain-field, plain-spread, plain-inline}
 use Rattle.apollo_field_usage.specs.Occurrences.{Occurrence}
 use Rattle.apollo_field_usage.specs.Placed.{Placed, placed, placed_set, placed_fragments}
@@ -34,69 +31,24 @@ field_of o = o.field
 abbrev bare : Placed → Plain
 bare = relabelled field_of
 
--- put before others, it is seen as it is without types
-abbrev PS : Selection → Type 0
-PS x = (ty : NameView) (ss : List Selection) → bare (placed ty ss) ≡ plain true ss
-    → bare (placed ty (x ∷ ss)) ≡ plain true (x ∷ ss)
+-- it is seen as it is without types
+abbrev IsBare : List Selection → Type 0
+IsBare ss = (ty : NameView) → bare (placed ty ss) ≡ plain true ss
 
-abbrev PF : Field → Type 0
-PF f = bare (placed_set f.selection_set) ≡ plain true f.selection_set.selections
-
-abbrev PI : InlineFragment → Type 0
-PI f = bare (placed_set f.selection_set) ≡ plain true f.selection_set.selections
-
-abbrev PL : SelectionSet → Type 0
-PL s = bare (placed_set s) ≡ plain true s.selections
-
-abbrev WS : Type 0
-WS = (x : Selection) × PS x
-
-abbrev WF : Type 0
-WF = (f : Field) × PF f
-
-abbrev WI : Type 0
-WI = (f : InlineFragment) × PI f
-
-abbrev WL : Type 0
-WL = (s : SelectionSet) × PL s
-
-list-bare : (ty : NameView) (ys : List WS) → bare (placed ty (map (λ (y : WS). y.0) ys))
-    ≡ plain true (map (λ (y : WS). y.0) ys)
-list-bare ty [] = ap bare (placed-none ty) ∙ sym (plain-none true)
-list-bare ty (y ∷ ys) = y.1 ty (map (λ (y : WS). y.0) ys) (list-bare ty ys)
-
-in_place : {A B : Type 0} → NodeView A → B → NodeView B
-in_place n b = record { value = b; location = n.location }
-
-selection-bare : (y : layer.Selection-F WS WF WI WL)
-    → PS (roll-Selection
-    (folds.map-Selection WS WF WI WL Selection Field InlineFragment SelectionSet (λ e. e.0) (λ e. e.0)
-    (λ e. e.0) (λ e. e.0) y))
-unfolding in_place
-selection-bare (layer.Selection-F.Field n) ty ss same =
-    let m = in_place n n.value.0 in
-    let below = n.value.1 in
-    subst (λ (x : Selection). bare (placed ty (x ∷ ss)) ≡ plain true (x ∷ ss)) (sym (variant.rolls-Field m))
-    (ap bare (placed-field ty m ss) ∙ (λ i. field m (below i) (same i)) ∙ sym (plain-field true m ss))
-selection-bare (layer.Selection-F.FragmentSpread n) ty ss same =
-    subst (λ (x : Selection). bare (placed ty (x ∷ ss)) ≡ plain true (x ∷ ss))
-    (sym (variant.rolls-FragmentSpread n))
-    (ap bare (placed-spread ty n ss) ∙ (λ i. spread n.value.fragment_name.text (same i))
+set-bare : (s : SelectionSet) → bare (placed_set s) ≡ plain true s.selections
+set-bare s =
+    of_selections IsBare
+    (λ ty. ap bare (placed-none ty) ∙ sym (plain-none true))
+    (λ n ss below rest ty.
+    ap bare (placed-field ty n ss) ∙ (λ i. field n (below n.value.selection_set.ty i) (rest ty i))
+    ∙ sym (plain-field true n ss))
+    (λ n ss rest ty.
+    ap bare (placed-spread ty n ss) ∙ (λ i. spread n.value.fragment_name.text (rest ty i))
     ∙ sym (plain-spread true n ss))
-selection-bare (layer.Selection-F.InlineFragment n) ty ss same =
-    let m = in_place n n.value.0 in
-    let inner = n.value.1 in
-    subst (λ (x : Selection). bare (placed ty (x ∷ ss)) ≡ plain true (x ∷ ss))
-    (sym (variant.rolls-InlineFragment m))
-    (ap bare (placed-inline ty m ss) ∙ (λ i. inline (inner i) (same i)) ∙ sym (plain-inline true m ss))
-
-set-bare : (s : SelectionSet) → PL s
-set-bare =
-    folds.ind-SelectionSet PS PF PI PL
-    (λ x y is. subst (λ z. PS (roll-Selection z)) is (selection-bare y))
-    (λ x y is. subst (λ z. PF (roll-Field z)) is y.selection_set.1)
-    (λ x y is. subst (λ z. PI (roll-InlineFragment z)) is y.selection_set.1)
-    (λ x y is. subst (λ z. PL (roll-SelectionSet z)) is (list-bare y.ty y.selections))
+    (λ n ss inner rest ty.
+    ap bare (placed-inline ty n ss) ∙ (λ i. inline (inner n.value.selection_set.ty i) (rest ty i))
+    ∙ sym (plain-inline true n ss))
+    s.selections s.ty
 
 entries-bare : (es : List (NameView × NodeView Fragment))
     → all_relabelled field_of (map (λ e. (e.0.text, placed_set e.1.value.selection_set)) es)

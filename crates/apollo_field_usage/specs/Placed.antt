@@ -3,11 +3,10 @@
 use Rattle.std.specs.Prelude.{List, [], ◌∷◌, map}
 use Rattle.graphql_nodes.specs.NameView.{NameView}
 use Rattle.apollo_walks.specs.Selections.{Selections, none, field, spread, inline, Fragments}
+use Rattle.apollo_executable.specs.SelectionReading.{WithParts, read_all}
 use Rattle.apollo_executable.specs.Walks.Plain.{node_of}
-use Rattle.apollo_executable.specs.declared.selection.Selection.{Selection, para-Selection}
+use Rattle.apollo_executable.specs.declared.selection.Selection.{Selection}
 use Rattle.apollo_executable.specs.declared.selection.Selection.TheOpen.{Selection-F}
-use Rattle.apollo_executable.specs.declared.selection.Field.{Field}
-use Rattle.apollo_executable.specs.declared.selection.InlineFragment.{InlineFragment}
 use Rattle.apollo_executable.specs.declared.selection.SelectionSet.{SelectionSet}
 use Rattle.apollo_executable.specs.declared.document.ExecutableDocument.{ExecutableDocument}
 use Rattle.apollo_field_usage.specs.Occurrences.{Occurrence}
@@ -16,42 +15,24 @@ use Rattle.apollo_field_usage.specs.Occurrences.{Occurrence}
 abbrev pub Placed : Type 0
 Placed = Selections Occurrence
 
--- a selection, and what it is in a set of some type, put before others
-abbrev pub QS : Type 0
-QS = Selection × (NameView → Placed → Placed)
-
--- a field, and what a walk sees below it
-abbrev pub QF : Type 0
-QF = Field × Placed
-
--- an inline fragment, and what a walk sees in it
-abbrev pub QI : Type 0
-QI = InlineFragment × Placed
-
--- a set, and what a walk sees of its selections
-abbrev pub QL : Type 0
-QL = SelectionSet × Placed
+-- a selection of a set of some type, as a walk sees it, put before others
+abbrev pub Before : Type 0
+Before = NameView → Placed → Placed
 
 -- one selection in a set of this type, before others
-abbrev pub place_before : Selection-F QS QF QI QL → NameView → Placed → Placed
+abbrev pub place_before : WithParts Before Placed → Before
 place_before (Selection-F.Field n) ty rest = field (record { ty = ty; field = node_of n }) n.value.1 rest
 place_before (Selection-F.FragmentSpread n) ty rest = spread n.value.fragment_name.text rest
 place_before (Selection-F.InlineFragment n) ty rest = inline n.value.1 rest
 
 -- one selection after the other, in a set of this type
-abbrev pub placed_in_order : NameView → List QS → Placed
+abbrev pub placed_in_order : NameView → List (Selection × Before) → Placed
 placed_in_order ty [] = none
 placed_in_order ty (s ∷ ss) = s.1 ty (placed_in_order ty ss)
 
--- what a walk sees of a selection in a set of some type, before others
-abbrev pub placed_selection : Selection → NameView → Placed → Placed
-placed_selection =
-    para-Selection (NameView → Placed → Placed) Placed Placed Placed place_before (λ f. f.selection_set.1)
-    (λ f. f.selection_set.1) (λ s. placed_in_order s.ty s.selections)
-
 -- some selections in a set of this type, as a walk sees them
 unfoldable pub placed : NameView → List Selection → Placed
-placed ty ss = placed_in_order ty (map (λ s. (s, placed_selection s)) ss)
+placed = read_all place_before placed_in_order
 
 -- the selections of a set
 abbrev pub placed_set : SelectionSet → Placed

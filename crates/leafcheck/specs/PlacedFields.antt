@@ -8,12 +8,11 @@ use Rattle.graphql_nodes.specs.NodeView.{NodeView}
 use Rattle.apollo_document.specs.SelectionFaults.{inside}
 use Rattle.apollo_document.specs.declared.selection_path.SelectionPath.{SelectionPath}
 use Rattle.apollo_executable.specs.SelectionParts.{response_key}
+use Rattle.apollo_executable.specs.SelectionReading.{WithParts, read_all}
 use Rattle.apollo_executable.specs.Walks.Plain.{node_of}
-use Rattle.apollo_executable.specs.declared.selection.Selection.{Selection, para-Selection}
-use Rattle.apollo_executable.specs.declared.selection.Selection.TheOpen.{Selection-F, SelectionSet-F}
+use Rattle.apollo_executable.specs.declared.selection.Selection.{Selection}
+use Rattle.apollo_executable.specs.declared.selection.Selection.TheOpen.{Selection-F}
 use Rattle.apollo_executable.specs.declared.selection.Field.{Field}
-use Rattle.apollo_executable.specs.declared.selection.InlineFragment.{InlineFragment}
-use Rattle.apollo_executable.specs.declared.selection.SelectionSet.{SelectionSet}
 
 -- a field with its place
 pub record PlacedField : Type 0 where
@@ -35,20 +34,16 @@ Standing = NameView → SelectionPath → List PlacedField
 abbrev pub Below : Type 0
 Below = SelectionPath → List PlacedField
 
--- one level of a selection: a field stands there itself, and then those of its set
-abbrev pub selection_step : Selection-F (Selection × Standing) (Field × Below) (InlineFragment × Below) (SelectionSet × Below) → Standing
-selection_step (Selection-F.Field n) ty path = placed ty path (node_of n) ∷ n.value.1 (placed ty path (node_of n)).path
-selection_step (Selection-F.FragmentSpread n) ty path = []
-selection_step (Selection-F.InlineFragment n) ty path = n.value.1 path
+-- a field stands in a selection itself, and then those of its set do
+abbrev pub fields_of_one : WithParts Standing Below → Standing
+fields_of_one (Selection-F.Field n) ty path = placed ty path (node_of n) ∷ n.value.1 (placed ty path (node_of n)).path
+fields_of_one (Selection-F.FragmentSpread n) ty path = []
+fields_of_one (Selection-F.InlineFragment n) ty path = n.value.1 path
 
--- one level of a set
-abbrev pub set_step : SelectionSet-F (Selection × Standing) (Field × Below) (InlineFragment × Below) (SelectionSet × Below) → Below
-set_step set path = flat_map (λ (s : Selection × Standing). s.1 set.ty path) set.selections
-
--- the fields of a selection
-abbrev pub placed_selection : Selection → Standing
-placed_selection = para-Selection Standing Below Below Below selection_step (λ f. f.selection_set.1) (λ f. f.selection_set.1) set_step
+-- the fields of the selections of a set from this type
+abbrev pub fields_of_all : NameView → List (Selection × Standing) → Below
+fields_of_all ty selections path = flat_map (λ (s : Selection × Standing). s.1 ty path) selections
 
 -- the fields of selections that stand in a set from this type, which has this path
 unfoldable pub placed_fields : NameView → SelectionPath → List Selection → List PlacedField
-placed_fields ty path selections = flat_map (λ (s : Selection). placed_selection s ty path) selections
+placed_fields ty path selections = read_all fields_of_one fields_of_all ty selections path

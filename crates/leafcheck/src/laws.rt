@@ -14,7 +14,6 @@ ghost use Rattle.leafcheck.specs.PlacedFields.{placed, placed_fields};
 use crate::leaf_fault::{LeafFault, LeafKind};
 use apollo_document::selection_laws::equality_of_build_errors;
 use apollo_document::selection_path::SelectionPath;
-use apollo_executable::laws::fields_in::fields_by_kind_of_selection;
 use apollo_executable::selection::{Field, FragmentSpread, InlineFragment, Selection};
 use graphql_nodes::laws::{equality_of_locations_and_kinds, equality_of_names};
 
@@ -32,9 +31,7 @@ pub fn fields_with_places()
         ≡ placed_fields n.value.selection_set.ty path n.value.selection_set.selections ++ placed_fields ty path others }
     ensures joined { (ty : NameView) (path : SelectionPath) (first others : List Selection) → placed_fields ty path (first ++ others) ≡ placed_fields ty path first ++ placed_fields ty path others }
     ensures fields { (ty : NameView) (path : SelectionPath) (selections : List Selection) → map (λ f. f.node) (placed_fields ty path selections) ≡ fields_in true selections }
-{
-    fields_by_kind_of_selection();
-}
+{}
 
 /// Kinds are equal exactly where they are one, and faults exactly where they are one without the locations of names.
 pub fn equality_of_faults()

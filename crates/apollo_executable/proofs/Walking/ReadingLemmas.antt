@@ -2,7 +2,8 @@
 use Rattle.std.proofs.Common.{◌≡◌, ℕ, Bool, List, [], ◌∷◌, ◌++◌, refl, sym, ap, ◌∙◌, append_assoc}
 use Rattle.graphql_nodes.specs.NodeView.{NodeView}
 use Rattle.apollo_walks.specs.Selections.{none, field, spread, inline, occurrences, spread_names}
-use Rattle.apollo_executable.specs.Walks.Plain.{Plain, PS, PF, PI, PL, node_of, when_deep, put_before, plain, below_of}
+use Rattle.apollo_executable.specs.SelectionReading.{WithParts}
+use Rattle.apollo_executable.specs.Walks.Plain.{Plain, node_of, when_deep, put_before, plain, below_of}
 use Rattle.apollo_executable.specs.declared.selection.Selection.{Selection, out-Selection}
 use Rattle.apollo_executable.specs.declared.selection.Selection.TheOpen.{Selection-F}
 use Rattle.apollo_executable.specs.declared.selection.Selection.TheVariants as variant
@@ -63,7 +64,7 @@ module _ {X : Type 0} (r : Reading X) (deep : Bool) where
       ap r.read (plain-inline deep n others) ∙ r.of_inline (plain deep n.value.selection_set.selections) (plain deep others)
 
   -- what comes behind the others comes behind all
-  put-joined : (z : Selection-F PS PF PI PL) (all first : Plain) (more : List X) → r.read all ≡ r.read first ++ more
+  put-joined : (z : WithParts (Plain → Plain) Plain) (all first : Plain) (more : List X) → r.read all ≡ r.read first ++ more
       → r.read (put_before deep z all) ≡ r.read (put_before deep z first) ++ more
   put-joined (Selection-F.Field n) all first more is =
       let below = when_deep deep n.value.1 in

@@ -3,32 +3,15 @@
 use Rattle.std.specs.Prelude.{Bool, List, [], ◌∷◌, map, cond}
 use Rattle.graphql_nodes.specs.NodeView.{NodeView}
 use Rattle.apollo_walks.specs.Selections.{Selections, none, field, spread, inline, Fragments}
-use Rattle.apollo_executable.specs.declared.selection.Selection.{Selection, para-Selection}
+use Rattle.apollo_executable.specs.SelectionReading.{WithParts, read_one}
+use Rattle.apollo_executable.specs.declared.selection.Selection.{Selection}
 use Rattle.apollo_executable.specs.declared.selection.Selection.TheOpen.{Selection-F}
 use Rattle.apollo_executable.specs.declared.selection.Field.{Field}
-use Rattle.apollo_executable.specs.declared.selection.InlineFragment.{InlineFragment}
-use Rattle.apollo_executable.specs.declared.selection.SelectionSet.{SelectionSet}
 use Rattle.apollo_executable.specs.declared.document.ExecutableDocument.{ExecutableDocument}
 
 -- selections as a walk sees them, with typed fields
 abbrev pub Plain : Type 0
 Plain = Selections (NodeView Field)
-
--- each with what it is as a walk sees it: a selection put before others, the selections of a field, an inline fragment, a set
-abbrev pub PS : Type 0
-PS = Selection × (Plain → Plain)
-
--- a field, and what a walk sees below it
-abbrev pub PF : Type 0
-PF = Field × Plain
-
--- an inline fragment, and what a walk sees in it
-abbrev pub PI : Type 0
-PI = InlineFragment × Plain
-
--- a set, and what a walk sees of its selections
-abbrev pub PL : Type 0
-PL = SelectionSet × Plain
 
 -- a field as a node, where its value has more with it
 abbrev pub node_of : {A : Type 0} → NodeView (Field × A) → NodeView Field
@@ -39,19 +22,19 @@ abbrev pub when_deep : Bool → Plain → Plain
 when_deep deep below = cond deep below none
 
 -- one selection before others, as a walk sees them
-abbrev pub put_before : Bool → Selection-F PS PF PI PL → Plain → Plain
+abbrev pub put_before : Bool → WithParts (Plain → Plain) Plain → Plain → Plain
 put_before deep (Selection-F.Field n) rest = field (node_of n) (when_deep deep n.value.1) rest
 put_before deep (Selection-F.FragmentSpread n) rest = spread n.value.fragment_name.text rest
 put_before deep (Selection-F.InlineFragment n) rest = inline n.value.1 rest
 
 -- one selection after the other
-abbrev pub in_order : List PS → Plain
+abbrev pub in_order : List (Selection × (Plain → Plain)) → Plain
 in_order [] = none
 in_order (s ∷ ss) = s.1 (in_order ss)
 
 -- what a walk sees of a selection, before others
 abbrev pub seen_selection : Bool → Selection → Plain → Plain
-seen_selection deep = para-Selection (Plain → Plain) Plain Plain Plain (put_before deep) (λ f. f.selection_set.1) (λ f. f.selection_set.1) (λ s. in_order s.selections)
+seen_selection deep = read_one (put_before deep) (λ _. in_order)
 
 -- some selections, as a walk sees them
 unfoldable pub plain : Bool → List Selection → Plain
