@@ -17,7 +17,8 @@ request_at r.Ambiguous r.Ambiguous = (λ _. refl, λ _. refl)
 request_at r.Ambiguous b = (λ h. cc, λ h. cc)
 request_at r.Memory r.Memory = (λ _. refl, λ _. refl)
 request_at r.Memory b = (λ h. cc, λ h. cc)
-request_at (r.NoSuchOperation n) (r.NoSuchOperation n') = let w = names.at n.now n'.now in (λ h. ap (λ (x : NameView). Some (Some x)) (w.0 h), λ h. w.1 cc)
+request_at (r.NoSuchOperation n) (r.NoSuchOperation n') =
+    let w = names.at n.now n'.now in (λ h. ap (λ (x : NameView). Some (Some x)) (w.0 h), λ h. w.1 cc)
 request_at (r.NoSuchOperation n) b = (λ h. cc, λ h. cc)
 
 pub request_errors : Compares request.ghosts.eq bare_request_error

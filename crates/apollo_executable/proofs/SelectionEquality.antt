@@ -69,64 +69,115 @@ TL = SelectionSet-F Selection Field InlineFragment SelectionSet
 -- one level of `==`
 abbrev selection_layer_eq : SL → SL → Bool
 selection_layer_eq (Selection-F.Field x) (Selection-F.Field y) = field_eq x.value y.value
-selection_layer_eq (Selection-F.FragmentSpread x) (Selection-F.FragmentSpread y) = spread.ghosts.eq x.value y.value
+selection_layer_eq (Selection-F.FragmentSpread x) (Selection-F.FragmentSpread y) =
+    spread.ghosts.eq x.value y.value
 selection_layer_eq (Selection-F.InlineFragment x) (Selection-F.InlineFragment y) = inline_eq x.value y.value
 selection_layer_eq _ _ = false
 
 abbrev field_layer_eq : FL → FL → Bool
-field_layer_eq x y = definition_eq x.definition y.definition && (option_eq name_eq x.alias y.alias && (name_eq x.name y.name && (arguments_eq x.arguments y.arguments && (list.ghosts.eq x.directives y.directives && set_eq x.selection_set y.selection_set))))
+field_layer_eq x y =
+    definition_eq x.definition y.definition
+    && (option_eq name_eq x.alias y.alias
+    && (name_eq x.name y.name
+    && (arguments_eq x.arguments y.arguments
+    && (list.ghosts.eq x.directives y.directives && set_eq x.selection_set y.selection_set))))
 
 abbrev inline_layer_eq : IL → IL → Bool
-inline_layer_eq x y = option_eq name_eq x.type_condition y.type_condition && (list.ghosts.eq x.directives y.directives && set_eq x.selection_set y.selection_set)
+inline_layer_eq x y =
+    option_eq name_eq x.type_condition y.type_condition
+    && (list.ghosts.eq x.directives y.directives && set_eq x.selection_set y.selection_set)
 
 abbrev set_layer_eq : TL → TL → Bool
 set_layer_eq x y = name_eq x.ty y.ty && pointwise selection_eq x.selections y.selections
 
 selection-roll : (y z : SL) → selection_eq (roll-Selection y) (roll-Selection z) ≡ selection_layer_eq y z
 unfolding selection_eq field_eq inline_eq set_eq
-selection-roll (Selection-F.Field x) z = rw (compared_is block.the_members block.the_family block.the_depth Bool true impl.the_step laws.local block.member-Selection (roll-Selection (Selection-F.Field x)) (roll-Selection z)) (search (rules, the_lemmas))
-selection-roll (Selection-F.FragmentSpread x) z = rw (compared_is block.the_members block.the_family block.the_depth Bool true impl.the_step laws.local block.member-Selection (roll-Selection (Selection-F.FragmentSpread x)) (roll-Selection z)) (search (rules, the_lemmas))
-selection-roll (Selection-F.InlineFragment x) z = rw (compared_is block.the_members block.the_family block.the_depth Bool true impl.the_step laws.local block.member-Selection (roll-Selection (Selection-F.InlineFragment x)) (roll-Selection z)) (search (rules, the_lemmas))
+selection-roll (Selection-F.Field x) z =
+    rw (compared_is block.the_members block.the_family block.the_depth Bool true impl.the_step laws.local
+    block.member-Selection (roll-Selection (Selection-F.Field x)) (roll-Selection z))
+    (search (rules, the_lemmas))
+selection-roll (Selection-F.FragmentSpread x) z =
+    rw (compared_is block.the_members block.the_family block.the_depth Bool true impl.the_step laws.local
+    block.member-Selection (roll-Selection (Selection-F.FragmentSpread x)) (roll-Selection z))
+    (search (rules, the_lemmas))
+selection-roll (Selection-F.InlineFragment x) z =
+    rw (compared_is block.the_members block.the_family block.the_depth Bool true impl.the_step laws.local
+    block.member-Selection (roll-Selection (Selection-F.InlineFragment x)) (roll-Selection z))
+    (search (rules, the_lemmas))
 
 field-roll : (y z : FL) → field_eq (roll-Field y) (roll-Field z) ≡ field_layer_eq y z
 unfolding selection_eq field_eq inline_eq set_eq
-field-roll y z = rw (compared_is block.the_members block.the_family block.the_depth Bool true impl.the_step laws.local block.member-Field (roll-Field y) (roll-Field z)) (search (rules, the_lemmas))
+field-roll y z =
+    rw (compared_is block.the_members block.the_family block.the_depth Bool true impl.the_step laws.local
+    block.member-Field (roll-Field y) (roll-Field z)) (search (rules, the_lemmas))
 
 inline-roll : (y z : IL) → inline_eq (roll-InlineFragment y) (roll-InlineFragment z) ≡ inline_layer_eq y z
 unfolding selection_eq field_eq inline_eq set_eq
-inline-roll y z = rw (compared_is block.the_members block.the_family block.the_depth Bool true impl.the_step laws.local block.member-InlineFragment (roll-InlineFragment y) (roll-InlineFragment z)) (search (rules, the_lemmas))
+inline-roll y z =
+    rw (compared_is block.the_members block.the_family block.the_depth Bool true impl.the_step laws.local
+    block.member-InlineFragment (roll-InlineFragment y) (roll-InlineFragment z)) (search (rules, the_lemmas))
 
 set-roll : (y z : TL) → set_eq (roll-SelectionSet y) (roll-SelectionSet z) ≡ set_layer_eq y z
 unfolding selection_eq field_eq inline_eq set_eq
-set-roll y z = rw (compared_is block.the_members block.the_family block.the_depth Bool true impl.the_step laws.local block.member-SelectionSet (roll-SelectionSet y) (roll-SelectionSet z)) (search (rules, the_lemmas))
+set-roll y z =
+    rw (compared_is block.the_members block.the_family block.the_depth Bool true impl.the_step laws.local
+    block.member-SelectionSet (roll-SelectionSet y) (roll-SelectionSet z)) (search (rules, the_lemmas))
 
 abbrev bare_selection_layer : SL → SL
 bare_selection_layer (Selection-F.Field x) = Selection-F.Field (bare_node bare_field x)
-bare_selection_layer (Selection-F.FragmentSpread x) = Selection-F.FragmentSpread (bare_node bare_fragment_spread x)
-bare_selection_layer (Selection-F.InlineFragment x) = Selection-F.InlineFragment (bare_node bare_inline_fragment x)
+bare_selection_layer (Selection-F.FragmentSpread x) =
+    Selection-F.FragmentSpread (bare_node bare_fragment_spread x)
+bare_selection_layer (Selection-F.InlineFragment x) =
+    Selection-F.InlineFragment (bare_node bare_inline_fragment x)
 
 abbrev bare_field_layer : FL → FL
-bare_field_layer x = record { definition = bare_node bare_field_definition x.definition; alias = option_map bare_name x.alias; name = bare_name x.name; arguments = map (bare_node bare_argument) x.arguments; directives = bare_directive_list x.directives; selection_set = bare_selection_set x.selection_set }
+bare_field_layer x =
+    record {
+      definition = bare_node bare_field_definition x.definition;
+      alias = option_map bare_name x.alias;
+      name = bare_name x.name;
+      arguments = map (bare_node bare_argument) x.arguments;
+      directives = bare_directive_list x.directives;
+      selection_set = bare_selection_set x.selection_set;
+    }
 
 abbrev bare_inline_layer : IL → IL
-bare_inline_layer x = record { type_condition = option_map bare_name x.type_condition; directives = bare_directive_list x.directives; selection_set = bare_selection_set x.selection_set }
+bare_inline_layer x =
+    record {
+      type_condition = option_map bare_name x.type_condition;
+      directives = bare_directive_list x.directives;
+      selection_set = bare_selection_set x.selection_set;
+    }
 
 abbrev bare_set_layer : TL → TL
 bare_set_layer x = record { ty = bare_name x.ty; selections = map bare_selection x.selections }
 
 bare-selection : (z : SL) → bare_selection (roll-Selection z) ≡ roll-Selection (bare_selection_layer z)
-bare-selection (Selection-F.Field x) = fold-roll-Selection Selection Field InlineFragment SelectionSet selection_step field_step inline_step set_step (Selection-F.Field x)
-bare-selection (Selection-F.FragmentSpread x) = fold-roll-Selection Selection Field InlineFragment SelectionSet selection_step field_step inline_step set_step (Selection-F.FragmentSpread x)
-bare-selection (Selection-F.InlineFragment x) = fold-roll-Selection Selection Field InlineFragment SelectionSet selection_step field_step inline_step set_step (Selection-F.InlineFragment x)
+bare-selection (Selection-F.Field x) =
+    fold-roll-Selection Selection Field InlineFragment SelectionSet selection_step field_step inline_step
+    set_step (Selection-F.Field x)
+bare-selection (Selection-F.FragmentSpread x) =
+    fold-roll-Selection Selection Field InlineFragment SelectionSet selection_step field_step inline_step
+    set_step (Selection-F.FragmentSpread x)
+bare-selection (Selection-F.InlineFragment x) =
+    fold-roll-Selection Selection Field InlineFragment SelectionSet selection_step field_step inline_step
+    set_step (Selection-F.InlineFragment x)
 
 bare-field : (z : FL) → bare_field (roll-Field z) ≡ roll-Field (bare_field_layer z)
-bare-field z = fold-roll-Field Selection Field InlineFragment SelectionSet selection_step field_step inline_step set_step z
+bare-field z =
+    fold-roll-Field Selection Field InlineFragment SelectionSet selection_step field_step inline_step
+    set_step z
 
-bare-inline : (z : IL) → bare_inline_fragment (roll-InlineFragment z) ≡ roll-InlineFragment (bare_inline_layer z)
-bare-inline z = fold-roll-InlineFragment Selection Field InlineFragment SelectionSet selection_step field_step inline_step set_step z
+bare-inline : (z : IL) → bare_inline_fragment (roll-InlineFragment z)
+    ≡ roll-InlineFragment (bare_inline_layer z)
+bare-inline z =
+    fold-roll-InlineFragment Selection Field InlineFragment SelectionSet selection_step field_step inline_step
+    set_step z
 
 bare-set : (z : TL) → bare_selection_set (roll-SelectionSet z) ≡ roll-SelectionSet (bare_set_layer z)
-bare-set z = fold-roll-SelectionSet Selection Field InlineFragment SelectionSet selection_step field_step inline_step set_step z
+bare-set z =
+    fold-roll-SelectionSet Selection Field InlineFragment SelectionSet selection_step field_step inline_step
+    set_step z
 
 abbrev OfSelection : Selection → Type 0
 OfSelection a = (b : Selection) → At selection_eq bare_selection a b
@@ -157,16 +208,23 @@ abbrev along : {A B : Type 0} → (A → B) → NodeView A → NodeView B
 along f n = record { value = f n.value; location = n.location }
 
 abbrev plain_selection : Selection-F S F I T → SL
-plain_selection = map-Selection S F I T Selection Field InlineFragment SelectionSet (λ e. e.0) (λ e. e.0) (λ e. e.0) (λ e. e.0)
+plain_selection =
+    map-Selection S F I T Selection Field InlineFragment SelectionSet (λ e. e.0) (λ e. e.0) (λ e. e.0)
+    (λ e. e.0)
 
 abbrev plain_field : Field-F S F I T → FL
-plain_field = map-Field S F I T Selection Field InlineFragment SelectionSet (λ e. e.0) (λ e. e.0) (λ e. e.0) (λ e. e.0)
+plain_field =
+    map-Field S F I T Selection Field InlineFragment SelectionSet (λ e. e.0) (λ e. e.0) (λ e. e.0) (λ e. e.0)
 
 abbrev plain_inline : InlineFragment-F S F I T → IL
-plain_inline = map-InlineFragment S F I T Selection Field InlineFragment SelectionSet (λ e. e.0) (λ e. e.0) (λ e. e.0) (λ e. e.0)
+plain_inline =
+    map-InlineFragment S F I T Selection Field InlineFragment SelectionSet (λ e. e.0) (λ e. e.0) (λ e. e.0)
+    (λ e. e.0)
 
 abbrev plain_set : SelectionSet-F S F I T → TL
-plain_set = map-SelectionSet S F I T Selection Field InlineFragment SelectionSet (λ e. e.0) (λ e. e.0) (λ e. e.0) (λ e. e.0)
+plain_set =
+    map-SelectionSet S F I T Selection Field InlineFragment SelectionSet (λ e. e.0) (λ e. e.0) (λ e. e.0)
+    (λ e. e.0)
 
 -- what the laws of equality say of the parts of typed selections
 pub record ComparedParts : Type 0 where
@@ -176,73 +234,134 @@ pub record ComparedParts : Type 0 where
 
 module _ (parts : ComparedParts) where
   pub fragment_spreads : Compares spread.ghosts.eq bare_fragment_spread
-  fragment_spreads = made (λ p. record { fragment_name = p.0; directives = p.1 }) (λ s. (s.fragment_name, s.directives)) (λ _. refl)
-      (and_then (of_part (λ (s : FragmentSpread). s.fragment_name) names) (of_part (λ (s : FragmentSpread). s.directives) parts.directive_lists))
+  fragment_spreads =
+      made (λ p. record { fragment_name = p.0; directives = p.1 }) (λ s. (s.fragment_name, s.directives))
+      (λ _. refl)
+      (and_then (of_part (λ (s : FragmentSpread). s.fragment_name) names)
+      (of_part (λ (s : FragmentSpread). s.directives) parts.directive_lists))
 
-  selection_layers : (y : Selection-F S F I T) (z : SL) → At selection_layer_eq bare_selection_layer (plain_selection y) z
-  selection_layers (Selection-F.Field x) (Selection-F.Field z) = let t = node_at field_eq bare_field (along (λ (e : F). e.0) x) z (x.value.1 z.value) in (λ h. ap Selection-F.Field (t.0 h), λ h. t.1 cc)
+  selection_layers : (y : Selection-F S F I T) (z : SL)
+      → At selection_layer_eq bare_selection_layer (plain_selection y) z
+  selection_layers (Selection-F.Field x) (Selection-F.Field z) =
+      let t = node_at field_eq bare_field (along (λ (e : F). e.0) x) z (x.value.1 z.value) in
+      (λ h. ap Selection-F.Field (t.0 h), λ h. t.1 cc)
   selection_layers (Selection-F.Field x) z = (λ h. cc, λ h. cc)
-  selection_layers (Selection-F.FragmentSpread x) (Selection-F.FragmentSpread z) = let t = (nodes fragment_spreads).at x z in (λ h. ap Selection-F.FragmentSpread (t.0 h), λ h. t.1 cc)
+  selection_layers (Selection-F.FragmentSpread x) (Selection-F.FragmentSpread z) =
+      let t = (nodes fragment_spreads).at x z in (λ h. ap Selection-F.FragmentSpread (t.0 h), λ h. t.1 cc)
   selection_layers (Selection-F.FragmentSpread x) z = (λ h. cc, λ h. cc)
-  selection_layers (Selection-F.InlineFragment x) (Selection-F.InlineFragment z) = let t = node_at inline_eq bare_inline_fragment (along (λ (e : I). e.0) x) z (x.value.1 z.value) in (λ h. ap Selection-F.InlineFragment (t.0 h), λ h. t.1 cc)
+  selection_layers (Selection-F.InlineFragment x) (Selection-F.InlineFragment z) =
+      let t = node_at inline_eq bare_inline_fragment (along (λ (e : I). e.0) x) z (x.value.1 z.value) in
+      (λ h. ap Selection-F.InlineFragment (t.0 h), λ h. t.1 cc)
   selection_layers (Selection-F.InlineFragment x) z = (λ h. cc, λ h. cc)
 
   field_layers : (y : Field-F S F I T) (z : FL) → At field_layer_eq bare_field_layer (plain_field y) z
   field_layers y z =
-      let f = (nodes parts.field_definitions).at y.definition z.definition in let a = (options names).at y.alias z.alias in let n = name_at y.name z.name in let g = (lists (nodes parts.arguments)).at y.arguments z.arguments in
-      let d = parts.directive_lists.at y.directives z.directives in let s = y.selection_set.1 z.selection_set in (
-        λ h. let o = both_true (definition_eq y.definition z.definition) _ h in let p = both_true (option_eq name_eq y.alias z.alias) _ o.1 in let q = both_true (name_eq y.name z.name) _ p.1 in
-            let r = both_true (arguments_eq y.arguments z.arguments) _ q.1 in let t = both_true (list.ghosts.eq y.directives z.directives) _ r.1 in
-            let pf = f.0 o.0 in let pa = a.0 p.0 in let pn = n.0 q.0 in let pg = g.0 r.0 in let pd = d.0 t.0 in let ps = s.0 t.1 in
-            λ i. record { definition = pf i; alias = pa i; name = pn i; arguments = pg i; directives = pd i; selection_set = ps i },
-        λ h. and_true _ _ (f.1 (λ i. (h i).definition)) (and_true _ _ (a.1 (λ i. (h i).alias)) (and_true _ _ (n.1 (λ i. (h i).name)) (and_true _ _ (g.1 (λ i. (h i).arguments)) (and_true _ _ (d.1 (λ i. (h i).directives)) (s.1 (λ i. (h i).selection_set)))))),
+      let f = (nodes parts.field_definitions).at y.definition z.definition in
+      let a = (options names).at y.alias z.alias in let n = name_at y.name z.name in
+      let g = (lists (nodes parts.arguments)).at y.arguments z.arguments in
+      let d = parts.directive_lists.at y.directives z.directives in
+      let s = y.selection_set.1 z.selection_set in (
+        λ h. let o = both_true (definition_eq y.definition z.definition) _ h in
+            let p = both_true (option_eq name_eq y.alias z.alias) _ o.1 in
+            let q = both_true (name_eq y.name z.name) _ p.1 in
+            let r = both_true (arguments_eq y.arguments z.arguments) _ q.1 in
+            let t = both_true (list.ghosts.eq y.directives z.directives) _ r.1 in
+            let pf = f.0 o.0 in let pa = a.0 p.0 in let pn = n.0 q.0 in let pg = g.0 r.0 in
+            let pd = d.0 t.0 in let ps = s.0 t.1 in
+            λ i. record {
+              definition = pf i;
+              alias = pa i;
+              name = pn i;
+              arguments = pg i;
+              directives = pd i;
+              selection_set = ps i;
+            },
+        λ h. and_true _ _ (f.1 (λ i. (h i).definition))
+            (and_true _ _ (a.1 (λ i. (h i).alias))
+            (and_true _ _ (n.1 (λ i. (h i).name))
+            (and_true _ _ (g.1 (λ i. (h i).arguments))
+            (and_true _ _ (d.1 (λ i. (h i).directives)) (s.1 (λ i. (h i).selection_set)))))),
       )
 
-  inline_layers : (y : InlineFragment-F S F I T) (z : IL) → At inline_layer_eq bare_inline_layer (plain_inline y) z
+  inline_layers : (y : InlineFragment-F S F I T) (z : IL)
+      → At inline_layer_eq bare_inline_layer (plain_inline y) z
   inline_layers y z =
       let c = (options names).at y.type_condition z.type_condition in
-      let d = parts.directive_lists.at y.directives z.directives in let s = y.selection_set.1 z.selection_set in (
-        λ h. let p = both_true (option_eq name_eq y.type_condition z.type_condition) _ h in let t = both_true (list.ghosts.eq y.directives z.directives) _ p.1 in
+      let d = parts.directive_lists.at y.directives z.directives in
+      let s = y.selection_set.1 z.selection_set in (
+        λ h. let p = both_true (option_eq name_eq y.type_condition z.type_condition) _ h in
+            let t = both_true (list.ghosts.eq y.directives z.directives) _ p.1 in
             let pc = c.0 p.0 in let pd = d.0 t.0 in let ps = s.0 t.1 in
             λ i. record { type_condition = pc i; directives = pd i; selection_set = ps i },
-        λ h. and_true _ _ (c.1 (λ i. (h i).type_condition)) (and_true _ _ (d.1 (λ i. (h i).directives)) (s.1 (λ i. (h i).selection_set))),
+        λ h. and_true _ _ (c.1 (λ i. (h i).type_condition))
+            (and_true _ _ (d.1 (λ i. (h i).directives)) (s.1 (λ i. (h i).selection_set))),
       )
 
   set_layers : (y : SelectionSet-F S F I T) (z : TL) → At set_layer_eq bare_set_layer (plain_set y) z
   set_layers y z =
-      let n = name_at y.ty z.ty in let s = list_at selection_eq bare_selection (λ (e : S). e.0) (λ e z. e.1 z) y.selections z.selections in (
-        λ h. let p = both_true (name_eq y.ty z.ty) _ h in let pn = n.0 p.0 in let ps = s.0 p.1 in λ i. record { ty = pn i; selections = ps i },
+      let n = name_at y.ty z.ty in
+      let s = list_at selection_eq bare_selection (λ (e : S). e.0) (λ e z. e.1 z) y.selections
+      z.selections in (
+        λ h. let p = both_true (name_eq y.ty z.ty) _ h in let pn = n.0 p.0 in let ps = s.0 p.1 in
+            λ i. record { ty = pn i; selections = ps i },
         λ h. and_true _ _ (n.1 (λ i. (h i).ty)) (s.1 (λ i. (h i).selections)),
       )
 
   selection_met : (x : SL) (y : Selection-F S F I T) → plain_selection y ≡ x → OfSelection (roll-Selection x)
-  selection_met x y is b = subst (λ c. At selection_eq bare_selection (roll-Selection x) c) (roll-out-Selection b)
-      (rolled selection_eq bare_selection roll-Selection out-Selection selection_layer_eq bare_selection_layer selection-roll bare-selection out-roll-Selection x (out-Selection b) (subst (λ l. At selection_layer_eq bare_selection_layer l (out-Selection b)) is (selection_layers y (out-Selection b))))
+  selection_met x y is b =
+      subst (λ c. At selection_eq bare_selection (roll-Selection x) c) (roll-out-Selection b)
+      (rolled selection_eq bare_selection roll-Selection out-Selection selection_layer_eq bare_selection_layer
+      selection-roll bare-selection out-roll-Selection x (out-Selection b)
+      (subst (λ l. At selection_layer_eq bare_selection_layer l (out-Selection b)) is
+      (selection_layers y (out-Selection b))))
 
   field_met : (x : FL) (y : Field-F S F I T) → plain_field y ≡ x → OfField (roll-Field x)
   field_met x y is b = subst (λ c. At field_eq bare_field (roll-Field x) c) (roll-out-Field b)
-      (rolled field_eq bare_field roll-Field out-Field field_layer_eq bare_field_layer field-roll bare-field out-roll-Field x (out-Field b) (subst (λ l. At field_layer_eq bare_field_layer l (out-Field b)) is (field_layers y (out-Field b))))
+      (rolled field_eq bare_field roll-Field out-Field field_layer_eq bare_field_layer field-roll bare-field
+      out-roll-Field x (out-Field b) (subst (λ l. At field_layer_eq bare_field_layer l (out-Field b)) is
+      (field_layers y (out-Field b))))
 
   inline_met : (x : IL) (y : InlineFragment-F S F I T) → plain_inline y ≡ x → OfInline (roll-InlineFragment x)
-  inline_met x y is b = subst (λ c. At inline_eq bare_inline_fragment (roll-InlineFragment x) c) (roll-out-InlineFragment b)
-      (rolled inline_eq bare_inline_fragment roll-InlineFragment out-InlineFragment inline_layer_eq bare_inline_layer inline-roll bare-inline out-roll-InlineFragment x (out-InlineFragment b) (subst (λ l. At inline_layer_eq bare_inline_layer l (out-InlineFragment b)) is (inline_layers y (out-InlineFragment b))))
+  inline_met x y is b =
+      subst (λ c. At inline_eq bare_inline_fragment (roll-InlineFragment x) c) (roll-out-InlineFragment b)
+      (rolled inline_eq bare_inline_fragment roll-InlineFragment out-InlineFragment inline_layer_eq
+      bare_inline_layer inline-roll bare-inline out-roll-InlineFragment x (out-InlineFragment b)
+      (subst (λ l. At inline_layer_eq bare_inline_layer l (out-InlineFragment b)) is
+      (inline_layers y (out-InlineFragment b))))
 
   set_met : (x : TL) (y : SelectionSet-F S F I T) → plain_set y ≡ x → OfSet (roll-SelectionSet x)
-  set_met x y is b = subst (λ c. At set_eq bare_selection_set (roll-SelectionSet x) c) (roll-out-SelectionSet b)
-      (rolled set_eq bare_selection_set roll-SelectionSet out-SelectionSet set_layer_eq bare_set_layer set-roll bare-set out-roll-SelectionSet x (out-SelectionSet b) (subst (λ l. At set_layer_eq bare_set_layer l (out-SelectionSet b)) is (set_layers y (out-SelectionSet b))))
+  set_met x y is b =
+      subst (λ c. At set_eq bare_selection_set (roll-SelectionSet x) c) (roll-out-SelectionSet b)
+      (rolled set_eq bare_selection_set roll-SelectionSet out-SelectionSet set_layer_eq bare_set_layer
+      set-roll bare-set out-roll-SelectionSet x (out-SelectionSet b)
+      (subst (λ l. At set_layer_eq bare_set_layer l (out-SelectionSet b)) is
+      (set_layers y (out-SelectionSet b))))
 
   pub selections : Compares impl.ghosts.eq bare_selection
   unfolding selection_eq
-  selections = record { at = ind-Selection OfSelection OfField OfInline OfSet selection_met field_met inline_met set_met }
+  selections =
+      record {
+        at = ind-Selection OfSelection OfField OfInline OfSet selection_met field_met inline_met
+            set_met;
+      }
 
   pub fields : Compares field.ghosts.eq bare_field
   unfolding field_eq
-  fields = record { at = ind-Field OfSelection OfField OfInline OfSet selection_met field_met inline_met set_met }
+  fields =
+      record { at = ind-Field OfSelection OfField OfInline OfSet selection_met field_met inline_met set_met }
 
   pub inline_fragments : Compares inline.ghosts.eq bare_inline_fragment
   unfolding inline_eq
-  inline_fragments = record { at = ind-InlineFragment OfSelection OfField OfInline OfSet selection_met field_met inline_met set_met }
+  inline_fragments =
+      record {
+        at = ind-InlineFragment OfSelection OfField OfInline OfSet selection_met field_met inline_met
+            set_met;
+      }
 
   pub selection_sets : Compares set.ghosts.eq bare_selection_set
   unfolding set_eq
-  selection_sets = record { at = ind-SelectionSet OfSelection OfField OfInline OfSet selection_met field_met inline_met set_met }
+  selection_sets =
+      record {
+        at = ind-SelectionSet OfSelection OfField OfInline OfSet selection_met field_met inline_met
+            set_met;
+      }

@@ -23,7 +23,12 @@ bare_operation o = record {
 
 -- a fragment without the locations in it
 abbrev pub bare_fragment : Fragment → Fragment
-bare_fragment f = record { name = bare_name f.name; directives = bare_directive_list f.directives; selection_set = bare_selection_set f.selection_set }
+bare_fragment f =
+    record {
+      name = bare_name f.name;
+      directives = bare_directive_list f.directives;
+      selection_set = bare_selection_set f.selection_set;
+    }
 
 -- the operations of a document
 pub record BareOperationMap : Type 0 where
@@ -37,8 +42,16 @@ pub record BareDocument : Type 0 where
 
 -- the operations of a document without locations, the named ones under their names in any order
 abbrev pub bare_operation_map : OperationMap → BareOperationMap
-bare_operation_map m = record { anonymous = option_map (bare_node bare_operation) m.anonymous; named = entries_by_text (bare_node bare_operation) m.named }
+bare_operation_map m =
+    record {
+      anonymous = option_map (bare_node bare_operation) m.anonymous;
+      named = entries_by_text (bare_node bare_operation) m.named;
+    }
 
 -- a document without locations and sources, its operations and fragments under their names in any order
 abbrev pub bare_document : ExecutableDocument → BareDocument
-bare_document d = record { operations = bare_operation_map d.operations; fragments = entries_by_text (bare_node bare_fragment) d.fragments }
+bare_document d =
+    record {
+      operations = bare_operation_map d.operations;
+      fragments = entries_by_text (bare_node bare_fragment) d.fragments;
+    }

@@ -14,13 +14,16 @@ use Rattle.apollo_executable.specs.declared.selection.FragmentSpread.{FragmentSp
 
 -- a spread without locations
 abbrev pub bare_fragment_spread : FragmentSpread → FragmentSpread
-bare_fragment_spread s = record { fragment_name = bare_name s.fragment_name; directives = bare_directive_list s.directives }
+bare_fragment_spread s =
+    record { fragment_name = bare_name s.fragment_name; directives = bare_directive_list s.directives }
 
 -- one level of a selection, where what is inside its node is bare
 abbrev pub selection_step : Selection-F Selection Field InlineFragment SelectionSet → Selection
 selection_step (Selection-F.Field n) = roll-Selection (Selection-F.Field (bare_node (λ f. f) n))
-selection_step (Selection-F.FragmentSpread n) = roll-Selection (Selection-F.FragmentSpread (bare_node bare_fragment_spread n))
-selection_step (Selection-F.InlineFragment n) = roll-Selection (Selection-F.InlineFragment (bare_node (λ f. f) n))
+selection_step (Selection-F.FragmentSpread n) =
+    roll-Selection (Selection-F.FragmentSpread (bare_node bare_fragment_spread n))
+selection_step (Selection-F.InlineFragment n) =
+    roll-Selection (Selection-F.InlineFragment (bare_node (λ f. f) n))
 
 -- one level of a field, where its set is bare
 abbrev pub field_step : Field-F Selection Field InlineFragment SelectionSet → Field
@@ -47,16 +50,22 @@ set_step s = roll-SelectionSet (record { ty = bare_name s.ty; selections = s.sel
 
 -- a typed selection without the locations in it
 abbrev pub bare_selection : Selection → Selection
-bare_selection = fold-Selection Selection Field InlineFragment SelectionSet selection_step field_step inline_step set_step
+bare_selection =
+    fold-Selection Selection Field InlineFragment SelectionSet selection_step field_step inline_step set_step
 
 -- a typed field without the locations in it
 abbrev pub bare_field : Field → Field
-bare_field = fold-Field Selection Field InlineFragment SelectionSet selection_step field_step inline_step set_step
+bare_field =
+    fold-Field Selection Field InlineFragment SelectionSet selection_step field_step inline_step set_step
 
 -- a typed inline fragment without the locations in it
 abbrev pub bare_inline_fragment : InlineFragment → InlineFragment
-bare_inline_fragment = fold-InlineFragment Selection Field InlineFragment SelectionSet selection_step field_step inline_step set_step
+bare_inline_fragment =
+    fold-InlineFragment Selection Field InlineFragment SelectionSet selection_step field_step
+    inline_step set_step
 
 -- a typed set without the locations in it
 abbrev pub bare_selection_set : SelectionSet → SelectionSet
-bare_selection_set = fold-SelectionSet Selection Field InlineFragment SelectionSet selection_step field_step inline_step set_step
+bare_selection_set =
+    fold-SelectionSet Selection Field InlineFragment SelectionSet selection_step field_step
+    inline_step set_step

@@ -52,8 +52,10 @@ EL = List ast.Selection
 -- one level of a selection, where what is inside its node is erased
 abbrev pub selection_step : Selection-F ES EF EI EL → ast.Selection
 selection_step (Selection-F.Field n) = ast.roll-Selection (layer.Selection-F.Field (at_place (λ f. f) n))
-selection_step (Selection-F.FragmentSpread n) = ast.roll-Selection (layer.Selection-F.FragmentSpread (at_place erased_spread n))
-selection_step (Selection-F.InlineFragment n) = ast.roll-Selection (layer.Selection-F.InlineFragment (at_place (λ f. f) n))
+selection_step (Selection-F.FragmentSpread n) =
+    ast.roll-Selection (layer.Selection-F.FragmentSpread (at_place erased_spread n))
+selection_step (Selection-F.InlineFragment n) =
+    ast.roll-Selection (layer.Selection-F.InlineFragment (at_place (λ f. f) n))
 
 -- one level of a field, where its set is erased
 abbrev pub field_step : Field-F ES EF EI EL → ast_field.Field
@@ -114,7 +116,8 @@ erased_fragment f = record {
 
 -- the anonymous operation, the named ones, the fragments
 abbrev pub erased_definitions : ExecutableDocument → List Definition
-erased_definitions document = map (λ n. d.OperationDefinition (at_place erased_operation n)) (all_operations document.operations)
+erased_definitions document =
+    map (λ n. d.OperationDefinition (at_place erased_operation n)) (all_operations document.operations)
     ++ map (λ n. d.FragmentDefinition (at_place erased_fragment n)) (values_of document.fragments)
 
 -- without the files that the document comes from

@@ -30,11 +30,21 @@ new_field name definition = roll-Field (record {
 
 -- an inline fragment with this condition, which is the type of its set
 abbrev pub inline_fragment_on : NameView → InlineFragment
-inline_fragment_on condition = roll-InlineFragment (record { type_condition = Some condition; directives = record { 0 = [] }; selection_set = empty_set condition })
+inline_fragment_on condition =
+    roll-InlineFragment (record {
+      type_condition = Some condition;
+      directives = record { 0 = [] };
+      selection_set = empty_set condition;
+    })
 
 -- an inline fragment without condition, in a set of this type
 abbrev pub inline_fragment_in : NameView → InlineFragment
-inline_fragment_in ty = roll-InlineFragment (record { type_condition = None; directives = record { 0 = [] }; selection_set = empty_set ty })
+inline_fragment_in ty =
+    roll-InlineFragment (record {
+      type_condition = None;
+      directives = record { 0 = [] };
+      selection_set = empty_set ty;
+    })
 
 -- the one or the other
 abbrev pub new_inline_fragment : NameView → Option NameView → InlineFragment
@@ -43,9 +53,12 @@ new_inline_fragment ty None = inline_fragment_in ty
 
 -- the field has the definition that the schema gives for its name in this type
 abbrev pub IsNewField : Schema → NameView → NameView → Field → Type 0
-IsNewField schema ty name field = (definition : Component FieldDefinition) × (field_at schema ty name ≡ Some definition) × (field ≡ new_field name definition.node)
+IsNewField schema ty name field =
+    (definition : Component FieldDefinition) × (field_at schema ty name ≡ Some definition)
+    × (field ≡ new_field name definition.node)
 
 -- the schema gives none, or else memory was wanted
 abbrev pub IsNewFieldRefusal : Schema → NameView → NameView → NewFieldError → Type 0
-IsNewFieldRefusal schema ty name (Lookup reason) = (field_at schema ty name ≡ None) × IsMissingIn schema.types ty reason
+IsNewFieldRefusal schema ty name (Lookup reason) =
+    (field_at schema ty name ≡ None) × IsMissingIn schema.types ty reason
 IsNewFieldRefusal schema ty name Memory = IsSome (field_at schema ty name)

@@ -29,7 +29,8 @@ operation_called m None = m.anonymous
 
 -- the map where this operation stands under this name, or as the anonymous one
 abbrev pub put_operation : Option NameView → NodeView Operation → OperationMap → OperationMap
-put_operation (Some name) operation m = record { anonymous = m.anonymous; named = insert_entry same_text m.named name operation }
+put_operation (Some name) operation m =
+    record { anonymous = m.anonymous; named = insert_entry same_text m.named name operation }
 put_operation None operation m = record { anonymous = Some operation; named = m.named }
 
 -- the map with this operation, under its own name

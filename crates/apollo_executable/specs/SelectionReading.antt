@@ -13,10 +13,13 @@ abbrev pub WithParts : Type 0 → Type 0 → Type 0
 WithParts One All = Selection-F (Selection × One) (Field × All) (InlineFragment × All) (SelectionSet × All)
 
 -- what is read of a selection, where `one` reads a selection and `all` the selections of a set of some type
-abbrev pub read_one : {One All : Type 0} → (WithParts One All → One) → (NameView → List (Selection × One) → All) → Selection → One
+abbrev pub read_one : {One All : Type 0} → (WithParts One All → One)
+    → (NameView → List (Selection × One) → All) → Selection → One
 read_one {One} {All} one all =
-    para-Selection One All All All one (λ f. f.selection_set.1) (λ f. f.selection_set.1) (λ s. all s.ty s.selections)
+    para-Selection One All All All one (λ f. f.selection_set.1) (λ f. f.selection_set.1)
+    (λ s. all s.ty s.selections)
 
 -- what is read of the selections of a set of some type
-abbrev pub read_all : {One All : Type 0} → (WithParts One All → One) → (NameView → List (Selection × One) → All) → NameView → List Selection → All
+abbrev pub read_all : {One All : Type 0} → (WithParts One All → One)
+    → (NameView → List (Selection × One) → All) → NameView → List Selection → All
 read_all one all ty selections = all ty (map (λ s. (s, read_one one all s)) selections)

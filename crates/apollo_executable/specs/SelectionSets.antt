@@ -18,4 +18,5 @@ fragment_set fragment = fragment.value.selection_set
 
 -- the set of each operation, the anonymous one first, and then of each fragment
 abbrev pub sets_of : ExecutableDocument → List SelectionSet
-sets_of document = map operation_set (all_operations document.operations) ++ map fragment_set (values_of document.fragments)
+sets_of document =
+    map operation_set (all_operations document.operations) ++ map fragment_set (values_of document.fragments)

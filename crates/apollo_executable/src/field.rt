@@ -63,7 +63,8 @@ impl Field {
 
     /// The same field with one more directive at the end. The error is want of memory, and drops the field.
     pub fn with_directive(mut self, directive: Node<Directive>) -> Result<Field, AllocError>
-        ensures { IfOk result (λ field. field ≡ record self { directives = record { 0 = self.directives.0 ++ directive ∷ [] } }) }
+        ensures { IfOk result (λ field. field
+            ≡ record self { directives = record { 0 = self.directives.0 ++ directive ∷ [] } }) }
     {
         self.directives.push(directive)?;
         Ok(self)
@@ -71,7 +72,8 @@ impl Field {
 
     /// The same field with these directives at the end. The error is want of memory, and drops the field.
     pub fn with_directives(mut self, directives: Vec<Node<Directive>>) -> Result<Field, AllocError>
-        ensures { IfOk result (λ field. field ≡ record self { directives = record { 0 = self.directives.0 ++ directives.items } }) }
+        ensures { IfOk result (λ field. field
+            ≡ record self { directives = record { 0 = self.directives.0 ++ directives.items } }) }
     {
         append_directives(&mut self.directives, directives)?;
         Ok(self)
@@ -84,7 +86,11 @@ impl Field {
         name: Name,
         value: Node<Value>,
     ) -> Result<Field, AllocError>
-        ensures { IfOk result (λ field. field ≡ record self { arguments = self.arguments ++ record { value = record { name = name; value = value }; location = None } ∷ [] }) }
+        ensures { IfOk result (λ field. field
+            ≡ record self {
+              arguments = self.arguments
+                  ++ record { value = record { name = name; value = value }; location = None } ∷ [];
+            }) }
     {
         let argument = Node::new(alloc, Argument::new(name, value))?;
         self.arguments.push(argument)?;
@@ -93,7 +99,8 @@ impl Field {
 
     /// The same field with these arguments at the end. The error is want of memory, and drops the field.
     pub fn with_arguments(mut self, arguments: Vec<Node<Argument>>) -> Result<Field, AllocError>
-        ensures { IfOk result (λ field. field ≡ record self { arguments = self.arguments ++ arguments.items }) }
+        ensures { IfOk result (λ field. field
+            ≡ record self { arguments = self.arguments ++ arguments.items }) }
     {
         self.arguments.append(&mut Items::from_vec(arguments))?;
         Ok(self)
@@ -101,7 +108,11 @@ impl Field {
 
     /// The same field with one more selection at the end of its set. The error is want of memory, and drops the field.
     pub fn with_selection(mut self, selection: Selection) -> Result<Field, AllocError>
-        ensures { IfOk result (λ field. field ≡ record self { selection_set = record self.selection_set { selections = self.selection_set.selections ++ selection ∷ [] } }) }
+        ensures { IfOk result (λ field. field
+            ≡ record self {
+              selection_set = record self.selection_set
+                  { selections = self.selection_set.selections ++ selection ∷ [] };
+            }) }
     {
         self.selection_set.push(selection)?;
         Ok(self)
@@ -109,7 +120,11 @@ impl Field {
 
     /// The same field with these selections at the end of its set. The error is want of memory, and drops the field.
     pub fn with_selections(mut self, selections: Vec<Selection>) -> Result<Field, AllocError>
-        ensures { IfOk result (λ field. field ≡ record self { selection_set = record self.selection_set { selections = self.selection_set.selections ++ selections.items } }) }
+        ensures { IfOk result (λ field. field
+            ≡ record self {
+              selection_set = record self.selection_set
+                  { selections = self.selection_set.selections ++ selections.items };
+            }) }
     {
         self.selection_set.extend(selections)?;
         Ok(self)
@@ -146,7 +161,8 @@ impl Field {
     /// [`NoSuchArgument`](ArgumentByNameError::NoSuchArgument), and one of a non-null type without a default value is
     /// [`RequiredArgumentNotSpecified`](ArgumentByNameError::RequiredArgumentNotSpecified).
     pub fn argument_by_name(&self, name: &Name) -> Result<Option<&Node<Value>>, ArgumentByNameError>
-        ensures { Answers (argument_value (specified_value self.now.arguments name.now) (defined_argument self.now.definition.value.arguments name.now)) result }
+        ensures { Answers (argument_value (specified_value self.now.arguments name.now)
+            (defined_argument self.now.definition.value.arguments name.now)) result }
     {
         let definition = self.definition.argument_by_name(name);
         Argument::argument_by_name(self.arguments.as_slice(), name, definition)

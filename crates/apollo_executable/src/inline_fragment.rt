@@ -51,7 +51,8 @@ impl InlineFragment {
         mut self,
         directive: Node<Directive>,
     ) -> Result<InlineFragment, AllocError>
-        ensures { IfOk result (λ inline. inline ≡ record self { directives = record { 0 = self.directives.0 ++ directive ∷ [] } }) }
+        ensures { IfOk result (λ inline. inline
+            ≡ record self { directives = record { 0 = self.directives.0 ++ directive ∷ [] } }) }
     {
         self.directives.push(directive)?;
         Ok(self)
@@ -62,7 +63,8 @@ impl InlineFragment {
         mut self,
         directives: Vec<Node<Directive>>,
     ) -> Result<InlineFragment, AllocError>
-        ensures { IfOk result (λ inline. inline ≡ record self { directives = record { 0 = self.directives.0 ++ directives.items } }) }
+        ensures { IfOk result (λ inline. inline
+            ≡ record self { directives = record { 0 = self.directives.0 ++ directives.items } }) }
     {
         append_directives(&mut self.directives, directives)?;
         Ok(self)
@@ -71,7 +73,11 @@ impl InlineFragment {
     /// The same inline fragment with one more selection at the end of its set. The error is want of memory, and drops the
     /// fragment.
     pub fn with_selection(mut self, selection: Selection) -> Result<InlineFragment, AllocError>
-        ensures { IfOk result (λ inline. inline ≡ record self { selection_set = record self.selection_set { selections = self.selection_set.selections ++ selection ∷ [] } }) }
+        ensures { IfOk result (λ inline. inline
+            ≡ record self {
+              selection_set = record self.selection_set
+                  { selections = self.selection_set.selections ++ selection ∷ [] };
+            }) }
     {
         self.selection_set.push(selection)?;
         Ok(self)
@@ -83,7 +89,11 @@ impl InlineFragment {
         mut self,
         selections: Vec<Selection>,
     ) -> Result<InlineFragment, AllocError>
-        ensures { IfOk result (λ inline. inline ≡ record self { selection_set = record self.selection_set { selections = self.selection_set.selections ++ selections.items } }) }
+        ensures { IfOk result (λ inline. inline
+            ≡ record self {
+              selection_set = record self.selection_set
+                  { selections = self.selection_set.selections ++ selections.items };
+            }) }
     {
         self.selection_set.extend(selections)?;
         Ok(self)
@@ -106,7 +116,8 @@ impl FragmentSpread {
         mut self,
         directive: Node<Directive>,
     ) -> Result<FragmentSpread, AllocError>
-        ensures { IfOk result (λ spread. spread ≡ record self { directives = record { 0 = self.directives.0 ++ directive ∷ [] } }) }
+        ensures { IfOk result (λ spread. spread
+            ≡ record self { directives = record { 0 = self.directives.0 ++ directive ∷ [] } }) }
     {
         self.directives.push(directive)?;
         Ok(self)
@@ -117,7 +128,8 @@ impl FragmentSpread {
         mut self,
         directives: Vec<Node<Directive>>,
     ) -> Result<FragmentSpread, AllocError>
-        ensures { IfOk result (λ spread. spread ≡ record self { directives = record { 0 = self.directives.0 ++ directives.items } }) }
+        ensures { IfOk result (λ spread. spread
+            ≡ record self { directives = record { 0 = self.directives.0 ++ directives.items } }) }
     {
         append_directives(&mut self.directives, directives)?;
         Ok(self)

@@ -109,7 +109,8 @@ impl OperationMap {
     /// [`RequestError::NoSuchOperation`] says that there is none of the name; without a name the error is
     /// [`RequestError::Ambiguous`], for no operation too. It takes no memory, so [`RequestError::Memory`] doesn't come.
     pub fn get<'n>(&self, name: Option<&'n Name>) -> Result<&Node<Operation>, RequestError<'n>>
-        ensures found { IfOk result (λ operation. requested self.now (option_copied name.entry) ≡ Some operation.now) }
+        ensures found { IfOk result (λ operation. requested self.now (option_copied name.entry)
+            ≡ Some operation.now) }
         ensures none { OnErr result (requested self.now (option_copied name.entry) ≡ None) }
         ensures error { IfErr result (λ error. error ≡ request_error name.entry) }
     {
@@ -149,7 +150,9 @@ impl OperationMap {
         name: Option<&'n Name>,
     ) -> Result<&mut Operation, RequestError<'n>>
         ensures* writes_back { sem 𝓛 (LendsOperation self.entry (option_copied name.entry) result) }
-        ensures found { IfOk result (λ operation. option_map (λ o. o.value) (requested self.old (option_copied name.entry)) ≡ Some operation.now) }
+        ensures found { IfOk result
+            (λ operation. option_map (λ o. o.value) (requested self.old (option_copied name.entry))
+            ≡ Some operation.now) }
         ensures error { IfErr result (IsRefusal (requested self.old (option_copied name.entry)) name.entry) }
     {
         match self.requested_mut(name) {

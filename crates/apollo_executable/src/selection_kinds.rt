@@ -12,7 +12,8 @@ use std::alloc::{AllocError, Global};
 impl Selection {
     /// A selection of this field, without a location. The error is want of memory, and drops the field.
     pub fn of_field(alloc: Global, field: Field) -> Result<Selection, AllocError>
-        ensures { IfOk result (λ selection. selection ≡ selections.Field (record { value = field; location = None })) }
+        ensures { IfOk result (λ selection. selection
+            ≡ selections.Field (record { value = field; location = None })) }
     {
         Ok(Selection::Field(Node::new(alloc, field)?))
     }
@@ -22,7 +23,8 @@ impl Selection {
         alloc: Global,
         inline_fragment: InlineFragment,
     ) -> Result<Selection, AllocError>
-        ensures { IfOk result (λ selection. selection ≡ selections.InlineFragment (record { value = inline_fragment; location = None })) }
+        ensures { IfOk result (λ selection. selection
+            ≡ selections.InlineFragment (record { value = inline_fragment; location = None })) }
     {
         Ok(Selection::InlineFragment(Node::new(alloc, inline_fragment)?))
     }
@@ -32,7 +34,8 @@ impl Selection {
         alloc: Global,
         fragment_spread: FragmentSpread,
     ) -> Result<Selection, AllocError>
-        ensures { IfOk result (λ selection. selection ≡ selections.FragmentSpread (record { value = fragment_spread; location = None })) }
+        ensures { IfOk result (λ selection. selection
+            ≡ selections.FragmentSpread (record { value = fragment_spread; location = None })) }
     {
         Ok(Selection::FragmentSpread(Node::new(alloc, fragment_spread)?))
     }

@@ -31,7 +31,8 @@ impl SelectionSet {
 
     /// Adds a selection at the end. The error is want of memory: the set is as it was, and the selection is dropped.
     pub fn push(&mut self, selection: Selection) -> Result<(), AllocError>
-        ensures ok { OnOk result (self.new ≡ record self.old { selections = self.old.selections ++ selection ∷ [] }) }
+        ensures ok { OnOk result (self.new
+            ≡ record self.old { selections = self.old.selections ++ selection ∷ [] }) }
         ensures err { OnErr result (self.new ≡ self.old) }
     {
         self.selections.push(selection)
@@ -40,7 +41,8 @@ impl SelectionSet {
     /// Adds the selections at the end, in order. The error is want of memory: the set is as it was, and the selections are
     /// dropped.
     pub fn extend(&mut self, selections: Vec<Selection>) -> Result<(), AllocError>
-        ensures ok { OnOk result (self.new ≡ record self.old { selections = self.old.selections ++ selections.items }) }
+        ensures ok { OnOk result (self.new
+            ≡ record self.old { selections = self.old.selections ++ selections.items }) }
         ensures err { OnErr result (self.new ≡ self.old) }
     {
         self.selections.append(&mut Items::from_vec(selections))

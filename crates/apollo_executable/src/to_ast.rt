@@ -72,7 +72,13 @@ impl Field {
 
     /// The field as syntax over these selections.
     fn over(&self, selection_set: Items<ast::Selection>) -> Result<ast::Field, AllocError>
-        ensures { IfOk result (λ written. written ≡ record { alias = self.now.alias; name = self.now.name; arguments = self.now.arguments; directives = self.now.directives; selection_set = selection_set }) }
+        ensures { IfOk result (λ written. written ≡ record {
+          alias = self.now.alias;
+          name = self.now.name;
+          arguments = self.now.arguments;
+          directives = self.now.directives;
+          selection_set = selection_set;
+        }) }
     {
         Ok(ast::Field {
             alias: self.alias.clone()?,
@@ -97,7 +103,11 @@ impl InlineFragment {
 
     /// The inline fragment as syntax over these selections.
     fn over(&self, selection_set: Items<ast::Selection>) -> Result<ast::InlineFragment, AllocError>
-        ensures { IfOk result (λ written. written ≡ record { type_condition = self.now.type_condition; directives = self.now.directives; selection_set = selection_set }) }
+        ensures { IfOk result (λ written. written ≡ record {
+          type_condition = self.now.type_condition;
+          directives = self.now.directives;
+          selection_set = selection_set;
+        }) }
     {
         Ok(ast::InlineFragment {
             type_condition: self.type_condition.clone()?,
@@ -126,7 +136,9 @@ impl Operation {
         alloc: Global,
         location: Option<SourceSpan>,
     ) -> Result<Definition, AllocError>
-        ensures { IfOk result (λ written. written ≡ definitions.OperationDefinition (record { value = erased_operation self.now; location = location })) }
+        ensures { IfOk result (λ written. written
+            ≡ definitions.OperationDefinition
+            (record { value = erased_operation self.now; location = location })) }
     {
         let definition = OperationDefinition {
             operation_type: self.operation_type,
@@ -148,7 +160,9 @@ impl Fragment {
         alloc: Global,
         location: Option<SourceSpan>,
     ) -> Result<Definition, AllocError>
-        ensures { IfOk result (λ written. written ≡ definitions.FragmentDefinition (record { value = erased_fragment self.now; location = location })) }
+        ensures { IfOk result (λ written. written
+            ≡ definitions.FragmentDefinition
+            (record { value = erased_fragment self.now; location = location })) }
     {
         let definition = FragmentDefinition {
             name: self.name.clone()?,

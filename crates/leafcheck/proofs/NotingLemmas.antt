@@ -23,10 +23,13 @@ both-none : {A : Type 0} (xs ys : List A) → xs ++ ys ≡ [] → (xs ≡ []) ×
 both-none [] ys none = (refl, none)
 both-none (x ∷ xs) ys none = absurd (cc)
 
-filled-at : {X A : Type 0} (f : X → List A) (xs : List X) (k : ℕ) (x : X) → slice_get xs k ≡ Some x → f x ≢ [] → flat_map f xs ≢ []
+filled-at : {X A : Type 0} (f : X → List A) (xs : List X) (k : ℕ) (x : X) → slice_get xs k ≡ Some x → f x ≢ []
+    → flat_map f xs ≢ []
 filled-at f [] k x at some none = absurd (cc)
-filled-at f (y ∷ ys) zero x at some none = let is : y ≡ x = cc in some (ap f (sym is) ∙ (both-none (f y) (flat_map f ys) none).0)
-filled-at f (y ∷ ys) (suc k) x at some none = filled-at f ys k x at some (both-none (f y) (flat_map f ys) none).1
+filled-at f (y ∷ ys) zero x at some none =
+    let is : y ≡ x = cc in some (ap f (sym is) ∙ (both-none (f y) (flat_map f ys) none).0)
+filled-at f (y ∷ ys) (suc k) x at some none =
+    filled-at f ys k x at some (both-none (f y) (flat_map f ys) none).1
 
 module _ (s : Schema) (ty : NameView) (path : SelectionPath) where
   abbrev faults : List Selection → List LeafFault
@@ -34,28 +37,44 @@ module _ (s : Schema) (ty : NameView) (path : SelectionPath) where
 
   -- the faults of selections behind others
   apart : (xs ys : List Selection) → faults (xs ++ ys) ≡ faults xs ++ faults ys
-  apart xs ys = ap (filter_map (fault_at s)) (placed-joined ty path xs ys) ∙ filter_map-append (fault_at s) (placed_fields ty path xs) (placed_fields ty path ys)
+  apart xs ys =
+      ap (filter_map (fault_at s)) (placed-joined ty path xs ys)
+      ∙ filter_map-append (fault_at s) (placed_fields ty path xs) (placed_fields ty path ys)
 
   -- the faults of one selection more
-  pub faults-more : (old now new : List LeafFault) (xs : List Selection) (x : Selection) → now ≡ old ++ faults xs → new ≡ now ++ faults (x ∷ []) → new ≡ old ++ faults (xs ++ x ∷ [])
+  pub faults-more : (old now new : List LeafFault) (xs : List Selection) (x : Selection)
+      → now ≡ old ++ faults xs → new ≡ now ++ faults (x ∷ []) → new ≡ old ++ faults (xs ++ x ∷ [])
   faults-more old now new xs x was more =
-      more ∙ ap (λ (l : List LeafFault). l ++ faults (x ∷ [])) was ∙ append_assoc old (faults xs) (faults (x ∷ [])) ∙ ap (λ (l : List LeafFault). old ++ l) (sym (apart xs (x ∷ [])))
+      more ∙ ap (λ (l : List LeafFault). l ++ faults (x ∷ [])) was
+      ∙ append_assoc old (faults xs) (faults (x ∷ []))
+      ∙ ap (λ (l : List LeafFault). old ++ l) (sym (apart xs (x ∷ [])))
 
   -- selections have a fault where one of them has
-  pub faults-at : (xs : List Selection) (n : ℕ) (x : Selection) → (n < length xs) × (x ≡ get_or xs n x) → faults (x ∷ []) ≢ [] → faults xs ≢ []
+  pub faults-at : (xs : List Selection) (n : ℕ) (x : Selection) → (n < length xs) × (x ≡ get_or xs n x)
+      → faults (x ∷ []) ≢ [] → faults xs ≢ []
   faults-at xs n x at some none =
       let rest = drop (suc n) xs in
-      let here : xs ≡ take n xs ++ (x ∷ rest) = sym (take-append-drop n xs) ∙ ap (λ (l : List Selection). take n xs ++ l) (drop-cons xs n x at.0 ∙ ap (λ (y : Selection). y ∷ rest) (sym at.1)) in
-      let parts = ap faults here ∙ apart (take n xs) (x ∷ rest) ∙ ap (λ (l : List LeafFault). faults (take n xs) ++ l) (apart (x ∷ []) rest) in
-      some (both-none (faults (x ∷ [])) (faults rest) (both-none (faults (take n xs)) _ (sym parts ∙ none)).1).0
+      let here : xs ≡ take n xs ++ (x ∷ rest) = sym (take-append-drop n xs)
+      ∙ ap (λ (l : List Selection). take n xs ++ l) (drop-cons xs n x at.0
+      ∙ ap (λ (y : Selection). y ∷ rest) (sym at.1)) in
+      let parts = ap faults here ∙ apart (take n xs) (x ∷ rest)
+      ∙ ap (λ (l : List LeafFault). faults (take n xs) ++ l) (apart (x ∷ []) rest) in
+      some (both-none (faults (x ∷ [])) (faults rest)
+      (both-none (faults (take n xs)) _ (sym parts ∙ none)).1).0
 
 -- and a document where one of its operations has, or one of its fragments
 module _ (s : Schema) (document : ExecutableDocument) where
-  without-faults : leaf_faults s document ≡ [] → (flat_map (operation_faults s) (all_operations document.operations) ≡ []) × (flat_map (fragment_faults s) (values_of document.fragments) ≡ [])
+  without-faults : leaf_faults s document ≡ []
+      → (flat_map (operation_faults s) (all_operations document.operations) ≡ [])
+      × (flat_map (fragment_faults s) (values_of document.fragments) ≡ [])
   without-faults none = both-none _ _ none
 
-  pub operation-at : (k : ℕ) (n : NodeView Operation) → slice_get (all_operations document.operations) k ≡ Some n → operation_faults s n ≢ [] → leaf_faults s document ≢ []
-  operation-at k n at some none = filled-at (operation_faults s) (all_operations document.operations) k n at some (without-faults none).0
+  pub operation-at : (k : ℕ) (n : NodeView Operation) → slice_get (all_operations document.operations) k
+      ≡ Some n → operation_faults s n ≢ [] → leaf_faults s document ≢ []
+  operation-at k n at some none =
+      filled-at (operation_faults s) (all_operations document.operations) k n at some (without-faults none).0
 
-  pub fragment-at : (k : ℕ) (n : NodeView Fragment) → slice_get (values_of document.fragments) k ≡ Some n → fragment_faults s n ≢ [] → leaf_faults s document ≢ []
-  fragment-at k n at some none = filled-at (fragment_faults s) (values_of document.fragments) k n at some (without-faults none).1
+  pub fragment-at : (k : ℕ) (n : NodeView Fragment) → slice_get (values_of document.fragments) k ≡ Some n
+      → fragment_faults s n ≢ [] → leaf_faults s document ≢ []
+  fragment-at k n at some none =
+      filled-at (fragment_faults s) (values_of document.fragments) k n at some (without-faults none).1

@@ -31,7 +31,9 @@ kind_in false t = if is_leaf t then Some SubselectionOnLeaf else None
 
 -- a field over a schema, whose type is the name inside all lists; in none, if the schema lacks that
 abbrev pub kind_over : Schema → Field → Option LeafKind
-kind_over s f = option_and_then (kind_in (length f.selection_set.selections == 0)) (type_at s.types (inner_name f.definition.value.ty))
+kind_over s f =
+    option_and_then (kind_in (length f.selection_set.selections == 0))
+    (type_at s.types (inner_name f.definition.value.ty))
 
 -- a field that is at fault in this way, at the location of its node
 abbrev pub fault_of : PlacedField → LeafKind → LeafFault
@@ -53,16 +55,22 @@ leaf_faults_in s ty path selections = filter_map (fault_at s) (placed_fields ty 
 
 -- the fault of a field, if it has one, and those of the fields below it
 abbrev pub faults_from : Schema → PlacedField → List LeafFault
-faults_from s f = cons_option (fault_at s f) (leaf_faults_in s f.node.value.selection_set.ty f.path f.node.value.selection_set.selections)
+faults_from s f =
+    cons_option (fault_at s f)
+    (leaf_faults_in s f.node.value.selection_set.ty f.path f.node.value.selection_set.selections)
 
 -- the faults of an operation
 abbrev pub operation_faults : Schema → NodeView Operation → List LeafFault
-operation_faults s n = leaf_faults_in s n.value.selection_set.ty (operation_path n.value) n.value.selection_set.selections
+operation_faults s n =
+    leaf_faults_in s n.value.selection_set.ty (operation_path n.value) n.value.selection_set.selections
 
 -- the faults of a fragment
 abbrev pub fragment_faults : Schema → NodeView Fragment → List LeafFault
-fragment_faults s n = leaf_faults_in s n.value.selection_set.ty (fragment_path n.value) n.value.selection_set.selections
+fragment_faults s n =
+    leaf_faults_in s n.value.selection_set.ty (fragment_path n.value) n.value.selection_set.selections
 
 -- the faults of a document: those of the anonymous operation first, then of the others, and then of the fragments
 abbrev pub leaf_faults : Schema → ExecutableDocument → List LeafFault
-leaf_faults s document = flat_map (operation_faults s) (all_operations document.operations) ++ flat_map (fragment_faults s) (values_of document.fragments)
+leaf_faults s document =
+    flat_map (operation_faults s) (all_operations document.operations) ++ flat_map (fragment_faults s)
+    (values_of document.fragments)

@@ -11,7 +11,8 @@ use Rattle.apollo_document.specs.declared.selection_path.SelectionPath.{Selectio
 -- a path begins with another: it is of the same definition, and its first keys are those of the other, by their texts
 abbrev pub BeginsWith : SelectionPath → SelectionPath → Type 0
 BeginsWith path outer = (bare_root path.root ≡ bare_root outer.root)
-    × (map bare_name (take (length outer.nested_fields) path.nested_fields) ≡ map bare_name outer.nested_fields)
+    × (map bare_name (take (length outer.nested_fields) path.nested_fields)
+    ≡ map bare_name outer.nested_fields)
 
 -- it has more keys
 abbrev pub GoesOn : SelectionPath → SelectionPath → Type 0

@@ -36,7 +36,8 @@ Below = SelectionPath → List PlacedField
 
 -- a field stands in a selection itself, and then those of its set do
 abbrev pub fields_of_one : WithParts Standing Below → Standing
-fields_of_one (Selection-F.Field n) ty path = placed ty path (node_of n) ∷ n.value.1 (placed ty path (node_of n)).path
+fields_of_one (Selection-F.Field n) ty path =
+    placed ty path (node_of n) ∷ n.value.1 (placed ty path (node_of n)).path
 fields_of_one (Selection-F.FragmentSpread n) ty path = []
 fields_of_one (Selection-F.InlineFragment n) ty path = n.value.1 path
 

@@ -66,8 +66,10 @@ fn note_set(
     set: &SelectionSet,
     faults: &mut Items<LeafFault>,
 ) -> Result<(), AllocError>
-    ensures noted { OnOk result (faults.new ≡ faults.old ++ leaf_faults_in schema.now set.now.ty (path_of around.now) set.now.selections) }
-    ensures memory { OnErr result (leaf_faults_in schema.now set.now.ty (path_of around.now) set.now.selections ≢ []) }
+    ensures noted { OnOk result (faults.new
+        ≡ faults.old ++ leaf_faults_in schema.now set.now.ty (path_of around.now) set.now.selections) }
+    ensures memory { OnErr result
+        (leaf_faults_in schema.now set.now.ty (path_of around.now) set.now.selections ≢ []) }
 {
     fields_with_places();
     for selection in &set.selections {
@@ -86,8 +88,10 @@ fn note_selection(
     selection: &Selection,
     faults: &mut Items<LeafFault>,
 ) -> Result<(), AllocError>
-    ensures noted { OnOk result (faults.new ≡ faults.old ++ leaf_faults_in schema.now ty.now (path_of around.now) (selection.now ∷ [])) }
-    ensures memory { OnErr result (leaf_faults_in schema.now ty.now (path_of around.now) (selection.now ∷ []) ≢ []) }
+    ensures noted { OnOk result (faults.new
+        ≡ faults.old ++ leaf_faults_in schema.now ty.now (path_of around.now) (selection.now ∷ [])) }
+    ensures memory { OnErr result
+        (leaf_faults_in schema.now ty.now (path_of around.now) (selection.now ∷ []) ≢ []) }
 {
     fields_with_places();
     match selection {
@@ -109,8 +113,10 @@ fn note_field(
     node: &Node<Field>,
     faults: &mut Items<LeafFault>,
 ) -> Result<(), AllocError>
-    ensures noted { OnOk result (faults.new ≡ faults.old ++ spec.faults_from schema.now (placed ty.now (path_of around.now) node.now)) }
-    ensures memory { OnErr result (spec.faults_from schema.now (placed ty.now (path_of around.now) node.now) ≢ []) }
+    ensures noted { OnOk result (faults.new
+        ≡ faults.old ++ spec.faults_from schema.now (placed ty.now (path_of around.now) node.now)) }
+    ensures memory { OnErr result
+        (spec.faults_from schema.now (placed ty.now (path_of around.now) node.now) ≢ []) }
 {
     let inside = Around::Field(node.response_key(), &*around);
     if let Some(fault) = fault_at(alloc, schema, &inside, ty, node)? {
@@ -127,7 +133,9 @@ fn fault_at(
     ty: &NamedType,
     node: &Node<Field>,
 ) -> Result<Option<LeafFault>, AllocError>
-    ensures fault { IfOk result (λ fault. fault ≡ spec.fault_at schema.now (record { node = node.now; parent_type = ty.now; path = path_of inside.now })) }
+    ensures fault { IfOk result (λ fault. fault
+        ≡ spec.fault_at schema.now
+        (record { node = node.now; parent_type = ty.now; path = path_of inside.now })) }
     ensures memory { OnErr result (spec.kind_over schema.now node.now.value ≢ None) }
 {
     let Some(kind) = kind_over(schema, node) else {

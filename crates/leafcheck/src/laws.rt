@@ -24,13 +24,23 @@ use graphql_nodes::laws::{equality_of_locations_and_kinds, equality_of_names};
 /// are those that stand there. GraphQL specification of October 2021, sections 2.4 to 2.8.
 pub fn fields_with_places()
     ensures none { (ty : NameView) (path : SelectionPath) → placed_fields ty path [] ≡ [] }
-    ensures field { (ty : NameView) (path : SelectionPath) (n : NodeView Field) (others : List Selection) → placed_fields ty path (variant.Field n ∷ others)
-        ≡ placed ty path n ∷ (placed_fields n.value.selection_set.ty (placed ty path n).path n.value.selection_set.selections ++ placed_fields ty path others) }
-    ensures fragment_spread { (ty : NameView) (path : SelectionPath) (n : NodeView FragmentSpread) (others : List Selection) → placed_fields ty path (variant.FragmentSpread n ∷ others) ≡ placed_fields ty path others }
-    ensures inline_fragment { (ty : NameView) (path : SelectionPath) (n : NodeView InlineFragment) (others : List Selection) → placed_fields ty path (variant.InlineFragment n ∷ others)
-        ≡ placed_fields n.value.selection_set.ty path n.value.selection_set.selections ++ placed_fields ty path others }
-    ensures joined { (ty : NameView) (path : SelectionPath) (first others : List Selection) → placed_fields ty path (first ++ others) ≡ placed_fields ty path first ++ placed_fields ty path others }
-    ensures fields { (ty : NameView) (path : SelectionPath) (selections : List Selection) → map (λ f. f.node) (placed_fields ty path selections) ≡ fields_in true selections }
+    ensures field { (ty : NameView) (path : SelectionPath) (n : NodeView Field) (others : List Selection)
+        → placed_fields ty path (variant.Field n ∷ others)
+        ≡ placed ty path n ∷
+        (placed_fields n.value.selection_set.ty (placed ty path n).path n.value.selection_set.selections
+        ++ placed_fields ty path others) }
+    ensures fragment_spread { (ty : NameView) (path : SelectionPath) (n : NodeView FragmentSpread)
+        (others : List Selection) → placed_fields ty path (variant.FragmentSpread n ∷ others)
+        ≡ placed_fields ty path others }
+    ensures inline_fragment { (ty : NameView) (path : SelectionPath) (n : NodeView InlineFragment)
+        (others : List Selection) → placed_fields ty path (variant.InlineFragment n ∷ others)
+        ≡ placed_fields n.value.selection_set.ty path n.value.selection_set.selections
+        ++ placed_fields ty path others }
+    ensures joined { (ty : NameView) (path : SelectionPath) (first others : List Selection)
+        → placed_fields ty path (first ++ others) ≡ placed_fields ty path first
+        ++ placed_fields ty path others }
+    ensures fields { (ty : NameView) (path : SelectionPath) (selections : List Selection)
+        → map (λ f. f.node) (placed_fields ty path selections) ≡ fields_in true selections }
 {}
 
 /// Kinds are equal exactly where they are one, and faults exactly where they are one without the locations of names.

@@ -13,10 +13,12 @@ use Rattle.apollo_executable.specs.declared.selection.FragmentSpread.{FragmentSp
 use Rattle.apollo_executable.specs.declared.selection.InlineFragment.{InlineFragment, out-InlineFragment}
 use Rattle.apollo_executable.specs.declared.selection.SelectionSet.{SelectionSet, out-SelectionSet}
 
-module _ {One All : Type 0} (one : WithParts One All → One) (all : NameView → List (Selection × One) → All) where
+module _ {One All : Type 0} (one : WithParts One All → One) (all : NameView → List (Selection × One)
+    → All) where
   abbrev of_field : Field → All
   of_field =
-      para-Field One All All All one (λ f. f.selection_set.1) (λ f. f.selection_set.1) (λ s. all s.ty s.selections)
+      para-Field One All All All one (λ f. f.selection_set.1) (λ f. f.selection_set.1)
+      (λ s. all s.ty s.selections)
 
   abbrev of_inline : InlineFragment → All
   of_inline =
@@ -41,7 +43,8 @@ module _ {One All : Type 0} (one : WithParts One All → One) (all : NameView �
       (λ s. all s.ty s.selections) (out-Field f)
       ∙ set-read f.selection_set
 
-  inline-read : (f : InlineFragment) → of_inline f ≡ read_all one all f.selection_set.ty f.selection_set.selections
+  inline-read : (f : InlineFragment)
+      → of_inline f ≡ read_all one all f.selection_set.ty f.selection_set.selections
   inline-read f =
       ap of_inline (sym (roll-out-InlineFragment f))
       ∙ para-roll-InlineFragment One All All All one (λ f. f.selection_set.1) (λ f. f.selection_set.1)
@@ -51,7 +54,8 @@ module _ {One All : Type 0} (one : WithParts One All → One) (all : NameView �
   -- a selection, with what is read of its parts
   abbrev pub opened_up : Selection-F Selection Field InlineFragment SelectionSet → WithParts One All
   opened_up =
-      map-Selection Selection Field InlineFragment SelectionSet (Selection × One) (Field × All) (InlineFragment × All)
+      map-Selection Selection Field InlineFragment SelectionSet (Selection × One) (Field × All)
+      (InlineFragment × All)
       (SelectionSet × All) (λ s. (s, read_one one all s)) (λ f. (f, of_field f)) (λ f. (f, of_inline f))
       (λ s. (s, of_set s))
 
@@ -64,18 +68,21 @@ module _ {One All : Type 0} (one : WithParts One All → One) (all : NameView �
   pub read-opened : (s : Selection) → read_one one all s ≡ one (opened_up (out-Selection s))
   read-opened s = ap (read_one one all) (sym (roll-out-Selection s)) ∙ rolled (out-Selection s)
 
-  pub read-field : (n : NodeView Field) → read_one one all (variant.Field n) ≡ one (Selection-F.Field (record {
-    value = (n.value, read_all one all n.value.selection_set.ty n.value.selection_set.selections);
-    location = n.location;
-  }))
+  pub read-field : (n : NodeView Field) → read_one one all (variant.Field n)
+      ≡ one (Selection-F.Field (record {
+        value = (n.value, read_all one all n.value.selection_set.ty n.value.selection_set.selections);
+        location = n.location;
+      }))
   read-field n =
       ap (read_one one all) (sym (variant.rolls-Field n)) ∙ rolled (Selection-F.Field n)
-      ∙ ap (λ (below : All). one (Selection-F.Field (record { value = (n.value, below); location = n.location })))
+      ∙ ap (λ (below : All). one
+      (Selection-F.Field (record { value = (n.value, below); location = n.location })))
       (field-read n.value)
 
   pub read-spread : (n : NodeView FragmentSpread) → read_one one all (variant.FragmentSpread n)
       ≡ one (Selection-F.FragmentSpread n)
-  read-spread n = ap (read_one one all) (sym (variant.rolls-FragmentSpread n)) ∙ rolled (Selection-F.FragmentSpread n)
+  read-spread n =
+      ap (read_one one all) (sym (variant.rolls-FragmentSpread n)) ∙ rolled (Selection-F.FragmentSpread n)
 
   pub read-inline : (n : NodeView InlineFragment)
       → read_one one all (variant.InlineFragment n) ≡ one (Selection-F.InlineFragment (record {
@@ -84,5 +91,6 @@ module _ {One All : Type 0} (one : WithParts One All → One) (all : NameView �
       }))
   read-inline n =
       ap (read_one one all) (sym (variant.rolls-InlineFragment n)) ∙ rolled (Selection-F.InlineFragment n)
-      ∙ ap (λ (inner : All). one (Selection-F.InlineFragment (record { value = (n.value, inner); location = n.location })))
+      ∙ ap (λ (inner : All). one
+      (Selection-F.InlineFragment (record { value = (n.value, inner); location = n.location })))
       (inline-read n.value)

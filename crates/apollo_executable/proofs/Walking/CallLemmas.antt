@@ -8,10 +8,12 @@ use Rattle.apollo_executable.specs.declared.document.ExecutableDocument.{Executa
 use Rattle.apollo_executable.specs.declared.selection.Field.{Field}
 use Rattle.apollo_executable.specs.declared.selection.SelectionSet.{SelectionSet}
 
-pub beginning : (start now : WalkView) (fields : List (NodeView Field)) → HasGiven start fields now → fields ++ now.coming ≡ start.coming
+pub beginning : (start now : WalkView) (fields : List (NodeView Field)) → HasGiven start fields now
+    → fields ++ now.coming ≡ start.coming
 beginning start now fields none_yet = refl
 beginning start new fields' (one_more {fields = fields} {now = now} {field = field} before next) =
-    append_assoc fields (field.now ∷ []) new.coming ∙ ap (λ (l : List (NodeView Field)). fields ++ l) (sym next.gives.0) ∙ beginning start now fields before
+    append_assoc fields (field.now ∷ []) new.coming
+    ∙ ap (λ (l : List (NodeView Field)). fields ++ l) (sym next.gives.0) ∙ beginning start now fields before
 
 module _ (deep : Bool) (document : ExecutableDocument) (set : SelectionSet) where
   -- a walk over the set that goes on
@@ -23,8 +25,12 @@ module _ (deep : Bool) (document : ExecutableDocument) (set : SelectionSet) wher
     within : IsWithinTurns deep document set w.taken
 
   -- what is said of the walk's own view is said of the set
-  of_set : (P : Bool → ExecutableDocument → SelectionSet → Type 0) (w : WalkView) → w.deep ≡ deep → w.document ≡ document → w.start ≡ set → P w.deep w.document w.start → P deep document set
-  of_set P w d o s h = subst (λ (x : SelectionSet). P deep document x) s (subst (λ (x : ExecutableDocument). P deep x w.start) o (subst (λ (x : Bool). P x w.document w.start) d h))
+  of_set : (P : Bool → ExecutableDocument → SelectionSet → Type 0) (w : WalkView) → w.deep ≡ deep
+      → w.document ≡ document → w.start ≡ set → P w.deep w.document w.start → P deep document set
+  of_set P w d o s h =
+      subst (λ (x : SelectionSet). P deep document x) s
+      (subst (λ (x : ExecutableDocument). P deep x w.start) o
+      (subst (λ (x : Bool). P x w.document w.start) d h))
 
   begun : (start : WalkView) → IsNewWalk deep document set start → GoesOn start
   begun start new = record {
@@ -35,22 +41,32 @@ module _ (deep : Bool) (document : ExecutableDocument) (set : SelectionSet) wher
     within = (new.coming.opened, new.coming.reachable, omega (arith, new.taken));
   }
 
-  goes_on : (start now : WalkView) (fields : List (NodeView Field)) → IsNewWalk deep document set start → HasGiven start fields now → GoesOn now
+  goes_on : (start now : WalkView) (fields : List (NodeView Field)) → IsNewWalk deep document set start
+      → HasGiven start fields now → GoesOn now
   goes_on start now fields new none_yet = begun start new
   goes_on start later fields' new (one_more {fields = fields} {now = now} before next) =
       let g = goes_on start now fields new before in
       let d = next.deep ∙ g.deep_is in
       let o = next.document ∙ g.document_is in
       let s = next.start ∙ g.start_is in
-      record { deep_is = d; document_is = o; start_is = s; going = next.gives.2; within = of_set (λ a b c. IsWithinTurns a b c later.taken) later d o s next.bound }
+      record {
+        deep_is = d;
+        document_is = o;
+        start_is = s;
+        going = next.gives.2;
+        within = of_set (λ a b c. IsWithinTurns a b c later.taken) later d o s next.bound;
+      }
 
-  pub turns : (start now : WalkView) (fields : List (NodeView Field)) → IsNewWalk deep document set start → HasGiven start fields now → IsWithinTurns deep document set now.taken
+  pub turns : (start now : WalkView) (fields : List (NodeView Field)) → IsNewWalk deep document set start
+      → HasGiven start fields now → IsWithinTurns deep document set now.taken
   turns start now fields new given = (goes_on start now fields new given).within
 
-  pub whole : (start now end : WalkView) (fields : List (NodeView Field)) → IsNewWalk deep document set start → HasGiven start fields now → IsNext now None end → IsWhole deep document set fields end
+  pub whole : (start now end : WalkView) (fields : List (NodeView Field)) → IsNewWalk deep document set start
+      → HasGiven start fields now → IsNext now None end → IsWhole deep document set fields end
   whole start now end fields new given next =
       let g = goes_on start now fields new given in
-      let all : start.coming ≡ fields = sym (beginning start now fields given) ∙ ap (λ (l : List (NodeView Field)). fields ++ l) next.gives.0 ∙ append-nil fields in
+      let all : start.coming ≡ fields = sym (beginning start now fields given)
+      ∙ ap (λ (l : List (NodeView Field)). fields ++ l) next.gives.0 ∙ append-nil fields in
       let over = next.over g.going in
       let d = next.deep ∙ g.deep_is in
       let o = next.document ∙ g.document_is in
@@ -63,7 +79,8 @@ module _ (deep : Bool) (document : ExecutableDocument) (set : SelectionSet) wher
       }
 
 -- after the end nothing comes
-pub rests : (end later : WalkView) (item : Option Item) → end.ended ≡ true → IsNext end item later → (item ≡ None) × (later ≡ end)
+pub rests : (end later : WalkView) (item : Option Item) → end.ended ≡ true → IsNext end item later
+    → (item ≡ None) × (later ≡ end)
 rests end later None ended next = (refl, next.rests ended)
 rests end later (Some (Ok field)) ended next = absurd (true≢false (sym ended ∙ next.gives.1))
 rests end later (Some (Err error)) ended next = absurd (true≢false (sym ended ∙ next.gives.0))

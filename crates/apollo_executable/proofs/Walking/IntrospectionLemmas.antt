@@ -16,8 +16,10 @@ abbrev pub AreMeta : List (NodeView Field) → Type 0
 AreMeta fields = (n : NodeView Field) → Among n fields → IsMetaName n.value.name.text
 
 module _ (document : ExecutableDocument) (operation : Operation) (fields : List (NodeView Field))
-    (given : (n : NodeView Field) → Among n fields ↔ IsReached (fragments_of false document) (plain false operation.selection_set.selections) n) where
-  pub meta-introspection : operation.operation_type ≡ Query → AreMeta fields → IsIntrospection document operation
+    (given : (n : NodeView Field) → Among n fields
+    ↔ IsReached (fragments_of false document) (plain false operation.selection_set.selections) n) where
+  pub meta-introspection : operation.operation_type ≡ Query → AreMeta fields
+      → IsIntrospection document operation
   meta-introspection query all = (query, λ n reached. all n ((given n).1 reached))
 
   pub introspection-meta : IsIntrospection document operation → AreMeta fields
@@ -31,7 +33,8 @@ pub record HasGivenMeta (initial now : WalkView) : Type 0 where
 pub given-none : (walk : WalkView) → HasGivenMeta walk walk
 given-none walk = record { all = λ all. all; others = λ all. all }
 
-pub given-one_more : (initial now new : WalkView) (field : Bor (NodeView Field)) → IsMetaName field.now.value.name.text → IsNext now (Some (Ok field)) new
+pub given-one_more : (initial now new : WalkView) (field : Bor (NodeView Field))
+    → IsMetaName field.now.value.name.text → IsNext now (Some (Ok field)) new
     → HasGivenMeta initial now → HasGivenMeta initial new
 given-one_more initial now new field named next before = record {
   all = λ all. before.all (rw next.gives.0 (λ n h. elim h [

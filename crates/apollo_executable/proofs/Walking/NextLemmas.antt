@@ -19,11 +19,22 @@ pub record IsLater (old now : WalkView) : Type 0 where
   pub less : old.taken ≤ now.taken
 
 pub later-itself : (walk : WalkView) → IsLater walk walk
-later-itself walk = record { deep = refl; document = refl; start = refl; coming = refl; goes_on = λ going. going; stands = λ _. refl; less = omega arith }
+later-itself walk =
+    record {
+      deep = refl;
+      document = refl;
+      start = refl;
+      coming = refl;
+      goes_on = λ going. going;
+      stands = λ _. refl;
+      less = omega arith;
+    }
 
 module _ {old now : WalkView} (later : IsLater old now) where
   -- nothing was to come any more
-  pub gives-none : now.coming ≡ [] → now.ended ≡ true → IsWithinTurns now.deep now.document now.start now.taken → (old.ended ≡ false → IsOver now) → IsNext old None now
+  pub gives-none : now.coming ≡ [] → now.ended ≡ true
+      → IsWithinTurns now.deep now.document now.start now.taken → (old.ended ≡ false → IsOver now)
+      → IsNext old None now
   gives-none nothing ended bound over = record {
     deep = later.deep;
     document = later.document;
@@ -35,7 +46,8 @@ module _ {old now : WalkView} (later : IsLater old now) where
     rests = later.stands;
   }
 
-  gives-some : {new : WalkView} {did : Result (Option (Bor (NodeView Field))) AllocError} {item : Item} → IsStep now did new → GivesFirst old (Some item) new → IsNext old (Some item) new
+  gives-some : {new : WalkView} {did : Result (Option (Bor (NodeView Field))) AllocError} {item : Item}
+      → IsStep now did new → GivesFirst old (Some item) new → IsNext old (Some item) new
   gives-some step gives = record {
     deep = step.deep ∙ later.deep;
     document = step.document ∙ later.document;
@@ -47,10 +59,12 @@ module _ {old now : WalkView} (later : IsLater old now) where
     rests = tt;
   }
 
-  pub gives-field : {new : WalkView} {field : Bor (NodeView Field)} → IsStep now (Ok (Some field)) new → IsNext old (Some (Ok field)) new
+  pub gives-field : {new : WalkView} {field : Bor (NodeView Field)} → IsStep now (Ok (Some field)) new
+      → IsNext old (Some (Ok field)) new
   gives-field step = gives-some step (later.coming ∙ step.gives.0, later.goes_on step.going, step.gives.1)
 
-  pub gives-error : {new : WalkView} {error : AllocError} → IsStep now (Err error) new → IsNext old (Some (Err error)) new
+  pub gives-error : {new : WalkView} {error : AllocError} → IsStep now (Err error) new
+      → IsNext old (Some (Err error)) new
   gives-error step = gives-some step (later.goes_on step.going, step.gives.0, step.gives.1)
 
   -- a turn that gives no field leaves a later walk

@@ -17,7 +17,8 @@ use Rattle.apollo_executable.proofs.Selections.ReadLemmas as read
 
 module _ (deep : Bool) where
   -- one selection, with what a walk sees of its parts
-  abbrev pub opened_up : Selection-F Selection Field InlineFragment SelectionSet → WithParts (Plain → Plain) Plain
+  abbrev pub opened_up : Selection-F Selection Field InlineFragment SelectionSet
+      → WithParts (Plain → Plain) Plain
   opened_up = read.opened_up (put_before deep) (λ _. in_order)
 
   -- the first selection of a list, as one level
@@ -38,7 +39,8 @@ module _ (deep : Bool) where
       ap (λ (p : Plain → Plain). p (plain deep ss)) (read.read-field (put_before deep) (λ _. in_order) n)
       ∙ ap (λ (p : Plain). field n p (plain deep ss)) (below deep)
     where
-      below : (b : Bool) → when_deep b (plain deep n.value.selection_set.selections) ≡ plain deep (below_of b n.value)
+      below : (b : Bool) → when_deep b (plain deep n.value.selection_set.selections)
+          ≡ plain deep (below_of b n.value)
       below true = refl
       below false = sym plain-none
 
@@ -49,17 +51,21 @@ module _ (deep : Bool) where
       ap (λ (p : Plain → Plain). p (plain deep ss)) (read.read-spread (put_before deep) (λ _. in_order) n)
 
   pub plain-inline : (n : NodeView InlineFragment) (ss : List Selection)
-      → plain deep (variant.InlineFragment n ∷ ss) ≡ inline (plain deep n.value.selection_set.selections) (plain deep ss)
+      → plain deep (variant.InlineFragment n ∷ ss) ≡ inline (plain deep n.value.selection_set.selections)
+      (plain deep ss)
   unfolding plain
   plain-inline n ss =
       ap (λ (p : Plain → Plain). p (plain deep ss)) (read.read-inline (put_before deep) (λ _. in_order) n)
 
   -- a list is opened if there is something in it
-  pub over-list : (below : List Selection) (lists : List (List Selection)) → over (plain deep below) (map (plain deep) lists) ≡ map (plain deep) (with_list below lists)
+  pub over-list : (below : List Selection) (lists : List (List Selection))
+      → over (plain deep below) (map (plain deep) lists) ≡ map (plain deep) (with_list below lists)
   over-list [] lists = rw plain-none
   over-list (s ∷ ss) lists = rw (plain-first s ss) (at (opened_up (out-Selection s)))
     where
-      at : (z : WithParts (Plain → Plain) Plain) → over (put_before deep z (plain deep ss)) (map (plain deep) lists) ≡ put_before deep z (plain deep ss) ∷ map (plain deep) lists
+      at : (z : WithParts (Plain → Plain) Plain)
+          → over (put_before deep z (plain deep ss)) (map (plain deep) lists)
+          ≡ put_before deep z (plain deep ss) ∷ map (plain deep) lists
       at (Selection-F.Field n) = refl
       at (Selection-F.FragmentSpread n) = refl
       at (Selection-F.InlineFragment n) = refl

@@ -18,7 +18,8 @@ pub record Reading (X : Type 0) : Type 0 where
   pub own : NodeView Field → List X
   pub named : List ℕ → List X
   pub of_none : read none ≡ []
-  pub of_field : (n : NodeView Field) (below rest : Plain) → read (field n below rest) ≡ own n ++ (read below ++ read rest)
+  pub of_field : (n : NodeView Field) (below rest : Plain) → read (field n below rest)
+      ≡ own n ++ (read below ++ read rest)
   pub of_spread : (name : List ℕ) (rest : Plain) → read (spread name rest) ≡ named name ++ read rest
   pub of_inline : (inner rest : Plain) → read (inline inner rest) ≡ read inner ++ read rest
 
@@ -51,20 +52,28 @@ module _ {X : Type 0} (r : Reading X) (deep : Bool) where
   none-read = ap r.read (plain-none deep) ∙ r.of_none
 
   pub field-read : (n : NodeView Field) (others : List Selection)
-      → r.read (plain deep (variant.Field n ∷ others)) ≡ r.own n ++ (r.read (plain deep (below_of deep n.value)) ++ r.read (plain deep others))
-  field-read n others = ap r.read (plain-field deep n others) ∙ r.of_field n (plain deep (below_of deep n.value)) (plain deep others)
+      → r.read (plain deep (variant.Field n ∷ others))
+      ≡ r.own n ++ (r.read (plain deep (below_of deep n.value)) ++ r.read (plain deep others))
+  field-read n others =
+      ap r.read (plain-field deep n others)
+      ∙ r.of_field n (plain deep (below_of deep n.value)) (plain deep others)
 
   pub spread-read : (n : NodeView FragmentSpread) (others : List Selection)
-      → r.read (plain deep (variant.FragmentSpread n ∷ others)) ≡ r.named n.value.fragment_name.text ++ r.read (plain deep others)
-  spread-read n others = ap r.read (plain-spread deep n others) ∙ r.of_spread n.value.fragment_name.text (plain deep others)
+      → r.read (plain deep (variant.FragmentSpread n ∷ others)) ≡ r.named n.value.fragment_name.text
+      ++ r.read (plain deep others)
+  spread-read n others =
+      ap r.read (plain-spread deep n others) ∙ r.of_spread n.value.fragment_name.text (plain deep others)
 
   pub inline-read : (n : NodeView InlineFragment) (others : List Selection)
-      → r.read (plain deep (variant.InlineFragment n ∷ others)) ≡ r.read (plain deep n.value.selection_set.selections) ++ r.read (plain deep others)
+      → r.read (plain deep (variant.InlineFragment n ∷ others))
+      ≡ r.read (plain deep n.value.selection_set.selections) ++ r.read (plain deep others)
   inline-read n others =
-      ap r.read (plain-inline deep n others) ∙ r.of_inline (plain deep n.value.selection_set.selections) (plain deep others)
+      ap r.read (plain-inline deep n others)
+      ∙ r.of_inline (plain deep n.value.selection_set.selections) (plain deep others)
 
   -- what comes behind the others comes behind all
-  put-joined : (z : WithParts (Plain → Plain) Plain) (all first : Plain) (more : List X) → r.read all ≡ r.read first ++ more
+  put-joined : (z : WithParts (Plain → Plain) Plain) (all first : Plain) (more : List X)
+      → r.read all ≡ r.read first ++ more
       → r.read (put_before deep z all) ≡ r.read (put_before deep z first) ++ more
   put-joined (Selection-F.Field n) all first more is =
       let below = when_deep deep n.value.1 in
@@ -86,10 +95,12 @@ module _ {X : Type 0} (r : Reading X) (deep : Bool) where
       ∙ sym (append_assoc (r.read inner) (r.read first) more)
       ∙ ap (λ (l : List X). l ++ more) (sym (r.of_inline inner first))
 
-  pub joined-read : (first others : List Selection) → r.read (plain deep (first ++ others)) ≡ r.read (plain deep first) ++ r.read (plain deep others)
+  pub joined-read : (first others : List Selection) → r.read (plain deep (first ++ others))
+      ≡ r.read (plain deep first) ++ r.read (plain deep others)
   joined-read [] others = ap (λ (l : List X). l ++ r.read (plain deep others)) (sym none-read)
   joined-read (s ∷ ss) others =
       let z = opened_up deep (out-Selection s) in
       ap r.read (plain-first deep s (ss ++ others))
-      ∙ put-joined z (plain deep (ss ++ others)) (plain deep ss) (r.read (plain deep others)) (joined-read ss others)
+      ∙ put-joined z (plain deep (ss ++ others)) (plain deep ss) (r.read (plain deep others))
+      (joined-read ss others)
       ∙ ap (λ (l : List X). l ++ r.read (plain deep others)) (sym (ap r.read (plain-first deep s ss)))

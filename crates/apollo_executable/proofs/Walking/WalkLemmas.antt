@@ -31,10 +31,12 @@ opened x = x.opened
 abbrev turns : ToCome (NodeView Field) → ℕ
 turns x = x.turns
 
-pub waiting-push : (lists : List (Bor (List Selection))) (l : Bor (List Selection)) → waiting_lists (lists ++ l ∷ []) ≡ l.now ∷ waiting_lists lists
+pub waiting-push : (lists : List (Bor (List Selection))) (l : Bor (List Selection))
+    → waiting_lists (lists ++ l ∷ []) ≡ l.now ∷ waiting_lists lists
 unfolding waiting_lists
 waiting-push lists l =
-    ap reverse (map-append (λ (x : Bor (List Selection)). x.now) lists (l ∷ [])) ∙ reverse-append (map (λ (x : Bor (List Selection)). x.now) lists) (l.now ∷ [])
+    ap reverse (map-append (λ (x : Bor (List Selection)). x.now) lists (l ∷ []))
+    ∙ reverse-append (map (λ (x : Bor (List Selection)). x.now) lists) (l.now ∷ [])
 
 pub waiting-empty : waiting_lists [] ≡ []
 unfolding waiting_lists
@@ -44,18 +46,24 @@ pub OnErr-always : {T E : Type 0} (A : Type 0) (r : Result T E) → A → OnErr 
 OnErr-always A (Ok x) a = tt
 OnErr-always A (Err e) a = a
 
-pub cons-by-length : {A : Type 0} (xs : List A) → (nat_eq (length xs) 0) ≡ false → (x : A) × (ys : List A) × (xs ≡ x ∷ ys)
+pub cons-by-length : {A : Type 0} (xs : List A) → (nat_eq (length xs) 0) ≡ false
+    → (x : A) × (ys : List A) × (xs ≡ x ∷ ys)
 cons-by-length [] is = absurd (cc)
 cons-by-length (x ∷ xs) is = (x, xs, refl)
 
 -- what one turn costs, opens and gives
 counts : (start : SelectionSet) (old new : OpenLists) (did : Did) → IsTurn old did new
-    → (cond (is_err did) 1 0 ≤ 1) × ((left_of old).turns + cond (is_err did) 1 0 ≡ (left_of new).turns + 1) × ((left_of new).opened ≡ (left_of old).opened)
-    × GivesInTurn (seen_of start old false) did (seen_of start new (is_err did)) × OnOk did ((left_of new).turns < (left_of old).turns)
+    → (cond (is_err did) 1 0 ≤ 1) × ((left_of old).turns + cond (is_err did) 1 0 ≡ (left_of new).turns + 1)
+    × ((left_of new).opened ≡ (left_of old).opened)
+    × GivesInTurn (seen_of start old false) did (seen_of start new (is_err did))
+    × OnOk did ((left_of new).turns < (left_of old).turns)
 counts start old new (Ok (Some field)) is =
-    let e = ap turns is.0 in (omega arith, omega arith, sym (ap opened is.0), (ap fields is.0, is.1), omega arith)
-counts start old new (Ok None) is = let e = ap turns is in (omega arith, omega arith, sym (ap opened is), ap fields is, omega arith)
-counts start old new (Err error) is = let e = ap turns is in (omega arith, omega arith, sym (ap opened is), (refl, refl), tt)
+    let e = ap turns is.0 in
+    (omega arith, omega arith, sym (ap opened is.0), (ap fields is.0, is.1), omega arith)
+counts start old new (Ok None) is =
+    let e = ap turns is in (omega arith, omega arith, sym (ap opened is), ap fields is, omega arith)
+counts start old new (Err error) is =
+    let e = ap turns is in (omega arith, omega arith, sym (ap opened is), (refl, refl), tt)
 
 -- a whole walk over this set, where these lists are open
 abbrev whole_of : SelectionSet → OpenLists → ToCome (NodeView Field)
@@ -69,17 +77,23 @@ pub record IsTurned (start : SelectionSet) (old new : OpenLists) (did : Did) : T
   pub bounded : (seen_of start new (is_err did)).taken ≤ (whole_of start new).turns
   pub less : OnOk did ((left_of new).turns < (left_of old).turns)
 
-module _ (is_left : (deep : Bool) (document : ExecutableDocument) (names : Names) (lists : List (List Selection)) → IsLeftByTurn deep document names lists)
-    (is_whole : (deep : Bool) (document : ExecutableDocument) (set : SelectionSet) → IsWholeWalk deep document set (whole_walk deep document set)) where
-  pub turned : (w : Walk) (new : OpenLists) (did : Did) → w.lists.ended ≡ false → new.deep ≡ w.lists.deep → new.document ≡ w.lists.document → IsTurn w.lists did new → IsTurned w.start.now w.lists new did
+module _ (is_left : (deep : Bool) (document : ExecutableDocument) (names : Names)
+    (lists : List (List Selection)) → IsLeftByTurn deep document names lists)
+    (is_whole : (deep : Bool) (document : ExecutableDocument) (set : SelectionSet)
+    → IsWholeWalk deep document set (whole_walk deep document set)) where
+  pub turned : (w : Walk) (new : OpenLists) (did : Did) → w.lists.ended ≡ false → new.deep ≡ w.lists.deep
+      → new.document ≡ w.lists.document → IsTurn w.lists did new → IsTurned w.start.now w.lists new did
   turned w new did going deep document turn =
       let start = w.start.now in
-      let same : whole_of start new ≡ whole_of start w.lists = λ i. whole_walk (deep i) ((document i).now) start in
+      let same : whole_of start new
+      ≡ whole_of start w.lists = λ i. whole_walk (deep i) ((document i).now) start in
       let all = ap turns same in
-      let more : 0 < (left_of w.lists).turns = rw going ((is_left _ _ _ (waiting_lists w.lists.waiting.items)).goes_on w.lists.current.now) in
+      let more : 0 < (left_of w.lists).turns =
+      rw going ((is_left _ _ _ (waiting_lists w.lists.waiting.items)).goes_on w.lists.current.now) in
       let over = w.left_over in
       let (one, spent, names, gives, less) = counts start w.lists new did turn in
-      let bounded : (seen_of start new (is_err did)).taken ≤ (whole_of start new).turns = omega (arith, one, spent, all) in
+      let bounded : (seen_of start new (is_err did)).taken ≤ (whole_of start new).turns =
+      omega (arith, one, spent, all) in
       record {
         step = record {
           deep = deep;
@@ -97,11 +111,15 @@ module _ (is_left : (deep : Bool) (document : ExecutableDocument) (names : Names
       }
 
   -- no field comes where no list is open, and the walk is over if memory sufficed
-  pub at-end : (w : Walk) → w.refused ≡ false → w.lists.ended ≡ true → ((seen w).coming ≡ []) × IsOver (seen w)
+  pub at-end : (w : Walk) → w.refused ≡ false → w.lists.ended ≡ true
+      → ((seen w).coming ≡ []) × IsOver (seen w)
   at-end w fine ended =
       let whole = is_whole w.lists.deep w.lists.document.now w.start.now in
-      let nothing : left_of w.lists ≡ record { fields = []; opened = names_opened w.lists; turns = 0 } = rw ended (is_left _ _ _ []).ends in
-      let names : (whole_of w.start.now w.lists).opened ≡ names_opened w.lists = sym w.left_open ∙ ap opened nothing in
+      let nothing : left_of w.lists ≡ record { fields = []; opened = names_opened w.lists; turns = 0 } =
+      rw ended (is_left _ _ _ []).ends in
+      let names : (whole_of w.start.now w.lists).opened ≡ names_opened w.lists = sym w.left_open
+      ∙ ap opened nothing in
       let none_left = ap turns nothing in
-      let taken : (seen w).taken ≡ (whole_of w.start.now w.lists).turns = rw fine (omega (arith, none_left)) in
+      let taken : (seen w).taken ≡ (whole_of w.start.now w.lists).turns =
+      rw fine (omega (arith, none_left)) in
       (rw (fine, nothing) refl, (rw taken whole.turns, rw names at whole.opened))

@@ -13,12 +13,14 @@ pub data HasGiven (start : WalkView) : List (NodeView Field) → WalkView → Ty
   -- no call gave no field
   none_yet : HasGiven start [] start
   -- one call more gave one field more
-  one_more : {fields : List (NodeView Field)} {now new : WalkView} {field : Bor (NodeView Field)} → HasGiven start fields now → IsNext now (Some (Ok field)) new
+  one_more : {fields : List (NodeView Field)} {now new : WalkView} {field : Bor (NodeView Field)}
+      → HasGiven start fields now → IsNext now (Some (Ok field)) new
       → HasGiven start (fields ++ field.now ∷ []) new
 
 -- a whole walk over the set: these fields are all that are reached, the turns are all, and the opened fragments are those that the
 -- set leads to
-pub record IsWhole (deep : Bool) (document : ExecutableDocument) (set : SelectionSet) (fields : List (NodeView Field)) (end : WalkView) : Type 0 where
+pub record IsWhole (deep : Bool) (document : ExecutableDocument) (set : SelectionSet)
+    (fields : List (NodeView Field)) (end : WalkView) : Type 0 where
   pub walked : AreWalked deep document set fields
   pub turns : TakesAllTurns deep document set end.taken
   pub opened : AreReachedNames deep document set end.opened

@@ -15,4 +15,6 @@ IsMetaName name = (name ≡ codes "__type") ⊎ ((name ≡ codes "__schema") ⊎
 -- it is a query, and each of its root fields has such a name, through fragments too
 abbrev pub IsIntrospection : ExecutableDocument → Operation → Type 0
 IsIntrospection document operation = (operation.operation_type ≡ Query)
-    × ((n : NodeView Field) → IsReached (fragments_of false document) (plain false operation.selection_set.selections) n → IsMetaName n.value.name.text)
+    × ((n : NodeView Field)
+    → IsReached (fragments_of false document) (plain false operation.selection_set.selections) n
+    → IsMetaName n.value.name.text)

@@ -25,7 +25,9 @@ waiting_lists lists = reverse (map (λ l. l.now) lists)
 
 -- the names whose places are marked
 unfoldable pub marked_names : ExecutableDocument → List Bool → Names
-marked_names document flags = λ n. option_map_or (λ place. slice_index_or flags place false) (position (by_text n) (keys_of document.fragments)) false
+marked_names document flags =
+    λ n. option_map_or (λ place. slice_index_or flags place false)
+    (position (by_text n) (keys_of document.fragments)) false
 
 -- the same, as a list
 abbrev pub opened_names : ExecutableDocument → Names → List (List ℕ)
@@ -41,7 +43,8 @@ lists_of w = cond w.ended [] (w.current.now ∷ waiting_lists w.waiting.items)
 
 -- what is to come where these names are opened and these lists are open
 unfoldable pub left_in : Bool → ExecutableDocument → Names → List (List Selection) → ToCome (NodeView Field)
-left_in deep document names lists = (what_is_to_come (fragments_of deep document) names (map (plain deep) lists)).0
+left_in deep document names lists =
+    (what_is_to_come (fragments_of deep document) names (map (plain deep) lists)).0
 
 -- what is left of a walk with these lists open
 abbrev pub left_of : OpenLists → ToCome (NodeView Field)
@@ -53,14 +56,18 @@ whole_walk deep document set = left_in deep document no_names (set.selections �
 
 -- what was to come before a turn, by what is to come after it
 abbrev pub IsTurn : OpenLists → Result (Option (Bor (NodeView Field))) AllocError → OpenLists → Type 0
-IsTurn old (Ok (Some field)) new = (left_of old ≡ a_field_before field.now (left_of new)) × (new.ended ≡ false)
+IsTurn old (Ok (Some field)) new =
+    (left_of old ≡ a_field_before field.now (left_of new)) × (new.ended ≡ false)
 IsTurn old (Ok None) new = left_of old ≡ a_turn_before (left_of new)
 IsTurn old (Err error) new = left_of old ≡ left_of new
 
 -- the same, where old looks at a spread, and then at the rest
 abbrev pub IsSpreadTurn : OpenLists → NodeView FragmentSpread → List Selection → OpenLists → Type 0
-IsSpreadTurn old n rest new = left_in old.deep old.document.now (names_opened old) ((variant.FragmentSpread n ∷ rest) ∷ waiting_lists old.waiting.items)
-    ≡ a_turn_before (left_in new.deep new.document.now (names_opened new) (new.current.now ∷ waiting_lists new.waiting.items))
+IsSpreadTurn old n rest new =
+    left_in old.deep old.document.now (names_opened old) ((variant.FragmentSpread n ∷ rest)
+    ∷ waiting_lists old.waiting.items)
+    ≡ a_turn_before (left_in new.deep new.document.now (names_opened new)
+    (new.current.now ∷ waiting_lists new.waiting.items))
 
 -- the same lists are open, and the same names are opened
 pub record AreSameLists (old new : OpenLists) : Type 0 where

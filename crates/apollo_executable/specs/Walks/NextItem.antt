@@ -14,13 +14,16 @@ Item = Result (Bor (NodeView Field)) AllocError
 abbrev pub GivesFirst : WalkView → Option Item → WalkView → Type 0
 -- nothing was to come
 GivesFirst old None new = (old.coming ≡ []) × (new.coming ≡ []) × (new.ended ≡ true)
-GivesFirst old (Some (Ok field)) new = (old.coming ≡ field.now ∷ new.coming) × (old.ended ≡ false) × (new.ended ≡ false)
+GivesFirst old (Some (Ok field)) new =
+    (old.coming ≡ field.now ∷ new.coming) × (old.ended ≡ false) × (new.ended ≡ false)
 -- after the error nothing comes
 GivesFirst old (Some (Err error)) new = (old.ended ≡ false) × (new.coming ≡ []) × (new.ended ≡ true)
 
 -- a whole walk is over: it took all its turns, and opened the fragments that it leads to
 abbrev pub IsOver : WalkView → Type 0
-IsOver walk = TakesAllTurns walk.deep walk.document walk.start walk.taken × AreReachedNames walk.deep walk.document walk.start walk.opened
+IsOver walk =
+    TakesAllTurns walk.deep walk.document walk.start walk.taken
+    × AreReachedNames walk.deep walk.document walk.start walk.opened
 
 -- a call of `next` at old that gave the item and left new
 pub record IsNext (old : WalkView) (item : Option Item) (new : WalkView) : Type 0 where

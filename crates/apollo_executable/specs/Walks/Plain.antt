@@ -46,4 +46,5 @@ below_of deep f = cond deep f.selection_set.selections []
 
 -- the fragments of a document, under the keys of its map
 unfoldable pub fragments_of : Bool → ExecutableDocument → Fragments (NodeView Field)
-fragments_of deep document = map (λ e. (e.0.text, plain deep e.1.value.selection_set.selections)) document.fragments
+fragments_of deep document =
+    map (λ e. (e.0.text, plain deep e.1.value.selection_set.selections)) document.fragments

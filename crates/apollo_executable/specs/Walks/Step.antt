@@ -13,7 +13,8 @@ GivesInTurn old (Ok None) new = old.coming ≡ new.coming
 GivesInTurn old (Err error) new = (new.coming ≡ []) × (new.ended ≡ true)
 
 -- a turn of a walk that goes on, which left new
-pub record IsStep (old : WalkView) (did : Result (Option (Bor (NodeView Field))) AllocError) (new : WalkView) : Type 0 where
+pub record IsStep (old : WalkView) (did : Result (Option (Bor (NodeView Field))) AllocError)
+    (new : WalkView) : Type 0 where
   pub deep : new.deep ≡ old.deep
   pub document : new.document ≡ old.document
   pub start : new.start ≡ old.start

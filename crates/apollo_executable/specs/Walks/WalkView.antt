@@ -26,11 +26,24 @@ pub record WalkView : Type 0 where
   pub taken : ℕ
 
 -- such views can be told apart, as all that a reference refers to has to be
-abbrev pub walk_view_code : Coded ExecutableDocument → Coded SelectionSet → Coded (NodeView Field) → Coded WalkView
-walk_view_code document set field = code_by (Bool × (ExecutableDocument × (SelectionSet × (List (NodeView Field) × (List (List ℕ) × (Bool × ℕ))))))
-    (coded× coded_bool (coded× document (coded× set (coded× (coded_list field) (coded× (coded_list (coded_list coded_ℕ)) (coded× coded_bool coded_ℕ))))))
+abbrev pub walk_view_code : Coded ExecutableDocument → Coded SelectionSet → Coded (NodeView Field)
+    → Coded WalkView
+walk_view_code document set field =
+    code_by (Bool × (ExecutableDocument
+    × (SelectionSet × (List (NodeView Field) × (List (List ℕ) × (Bool × ℕ))))))
+    (coded× coded_bool (coded× document
+    (coded× set (coded× (coded_list field)
+    (coded× (coded_list (coded_list coded_ℕ)) (coded× coded_bool coded_ℕ))))))
     (λ w. (w.deep, (w.document, (w.start, (w.coming, (w.opened, (w.ended, w.taken)))))))
-    (λ p. record { deep = p.0; document = p.1.0; start = p.1.1.0; coming = p.1.1.1.0; opened = p.1.1.1.1.0; ended = p.1.1.1.1.1.0; taken = p.1.1.1.1.1.1 }) (λ _. refl)
+    (λ p. record {
+      deep = p.0;
+      document = p.1.0;
+      start = p.1.1.0;
+      coming = p.1.1.1.0;
+      opened = p.1.1.1.1.0;
+      ended = p.1.1.1.1.1.0;
+      taken = p.1.1.1.1.1.1;
+    }) (λ _. refl)
 
 -- the fields are those of a whole walk over the set: each one that is reached exactly as often as it stands there, in the order
 -- of walks. Where `deep` is false, it is a walk over root fields
@@ -39,18 +52,22 @@ AreWalked deep document set fields = IsWalk (fragments_of deep document) (plain 
 
 -- so many turns are at most two for each selection in reach, and one
 abbrev pub IsWithinTurns : Bool → ExecutableDocument → SelectionSet → ℕ → Type 0
-IsWithinTurns deep document set turns = AreWithinTurns (fragments_of deep document) (plain deep set.selections) turns
+IsWithinTurns deep document set turns =
+    AreWithinTurns (fragments_of deep document) (plain deep set.selections) turns
 
 -- so many turns are those of a whole walk
 abbrev pub TakesAllTurns : Bool → ExecutableDocument → SelectionSet → ℕ → Type 0
-TakesAllTurns deep document set turns = AreAllTurns (fragments_of deep document) (plain deep set.selections) turns
+TakesAllTurns deep document set turns =
+    AreAllTurns (fragments_of deep document) (plain deep set.selections) turns
 
 -- these names are those that the set leads to
 abbrev pub AreReachedNames : Bool → ExecutableDocument → SelectionSet → List (List ℕ) → Type 0
-AreReachedNames deep document set opened = (n : List ℕ) → Among n opened ↔ Reachable (fragments_of deep document) (plain deep set.selections) n
+AreReachedNames deep document set opened =
+    (n : List ℕ) → Among n opened ↔ Reachable (fragments_of deep document) (plain deep set.selections) n
 
 -- a walk over the set that is to begin
-pub record IsNewWalk (deep : Bool) (document : ExecutableDocument) (set : SelectionSet) (walk : WalkView) : Type 0 where
+pub record IsNewWalk (deep : Bool) (document : ExecutableDocument) (set : SelectionSet)
+    (walk : WalkView) : Type 0 where
   pub deep_is : walk.deep ≡ deep
   pub document_is : walk.document ≡ document
   pub start_is : walk.start ≡ set

@@ -14,12 +14,19 @@ ghost use Rattle.apollo_executable.specs.declared.selection.SelectionSet.{Select
 /// (`turns`). A call that gives nothing ends it: then what came is a whole walk, and the turns are all of it (`whole`). After that,
 /// or after the one error, that memory ran out, each call gives nothing and leaves the walk as it is (`rests`).
 pub fn walks_by_their_calls()
-    ensures beginning { (start now : WalkView) (fields : List (NodeView Field)) → HasGiven start fields now → fields ++ now.coming ≡ start.coming }
-    ensures turns { (deep : Bool) (document : ExecutableDocument) (set : SelectionSet) (start now : WalkView) (fields : List (NodeView Field))
-        → IsNewWalk deep document set start → HasGiven start fields now → IsWithinTurns deep document set now.taken }
-    ensures whole { (deep : Bool) (document : ExecutableDocument) (set : SelectionSet) (start now end : WalkView) (fields : List (NodeView Field))
-        → IsNewWalk deep document set start → HasGiven start fields now → IsNext now None end → IsWhole deep document set fields end }
-    ensures rests { (end later : WalkView) (item : Option Item) → end.ended ≡ true → IsNext end item later → (item ≡ None) × (later ≡ end) }
+    ensures beginning { (start now : WalkView) (fields : List (NodeView Field)) → HasGiven start fields now
+        → fields ++ now.coming ≡ start.coming }
+    ensures turns { (deep : Bool) (document : ExecutableDocument) (set : SelectionSet) (start now : WalkView)
+        (fields : List (NodeView Field))
+        → IsNewWalk deep document set start → HasGiven start fields now
+        → IsWithinTurns deep document set now.taken }
+    ensures whole { (deep : Bool) (document : ExecutableDocument) (set : SelectionSet)
+        (start now end : WalkView) (fields : List (NodeView Field))
+        → IsNewWalk deep document set start → HasGiven start fields now → IsNext now None end
+        → IsWhole deep document set fields end }
+    ensures rests { (end later : WalkView) (item : Option Item) → end.ended ≡ true → IsNext end item later
+        → (item ≡ None) × (later ≡ end) }
     ensures ends { (now end : WalkView) → IsNext now None end → end.ended ≡ true }
-    ensures stops { (now end : WalkView) (error : AllocError) → IsNext now (Some (Err error)) end → end.ended ≡ true }
+    ensures stops { (now end : WalkView) (error : AllocError) → IsNext now (Some (Err error)) end
+        → end.ended ≡ true }
 {}

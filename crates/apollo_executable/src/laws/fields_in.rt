@@ -12,8 +12,14 @@ use crate::selection::{Field, FragmentSpread, InlineFragment, Selection};
 /// of the other selections. Those of one list behind another come behind those of the other.
 pub fn fields_by_kind_of_selection()
     ensures none { (deep : Bool) → fields_in deep [] ≡ [] }
-    ensures field { (deep : Bool) (n : NodeView Field) (others : List Selection) → fields_in deep (variant.Field n ∷ others) ≡ n ∷ (fields_in deep (below_of deep n.value) ++ fields_in deep others) }
-    ensures fragment_spread { (deep : Bool) (n : NodeView FragmentSpread) (others : List Selection) → fields_in deep (variant.FragmentSpread n ∷ others) ≡ fields_in deep others }
-    ensures inline_fragment { (deep : Bool) (n : NodeView InlineFragment) (others : List Selection) → fields_in deep (variant.InlineFragment n ∷ others) ≡ fields_in deep n.value.selection_set.selections ++ fields_in deep others }
-    ensures joined { (deep : Bool) (first others : List Selection) → fields_in deep (first ++ others) ≡ fields_in deep first ++ fields_in deep others }
+    ensures field { (deep : Bool) (n : NodeView Field) (others : List Selection)
+        → fields_in deep (variant.Field n ∷ others)
+        ≡ n ∷ (fields_in deep (below_of deep n.value) ++ fields_in deep others) }
+    ensures fragment_spread { (deep : Bool) (n : NodeView FragmentSpread) (others : List Selection)
+        → fields_in deep (variant.FragmentSpread n ∷ others) ≡ fields_in deep others }
+    ensures inline_fragment { (deep : Bool) (n : NodeView InlineFragment) (others : List Selection)
+        → fields_in deep (variant.InlineFragment n ∷ others) ≡ fields_in deep n.value.selection_set.selections
+        ++ fields_in deep others }
+    ensures joined { (deep : Bool) (first others : List Selection) → fields_in deep (first ++ others)
+        ≡ fields_in deep first ++ fields_in deep others }
 {}

@@ -12,8 +12,15 @@ use crate::selection::{Field, FragmentSpread, InlineFragment, Selection};
 /// Those of one list behind another come behind those of the other.
 pub fn spreads_by_kind_of_selection()
     ensures none { (deep : Bool) → spreads_in deep [] ≡ [] }
-    ensures field { (deep : Bool) (n : NodeView Field) (others : List Selection) → spreads_in deep (variant.Field n ∷ others) ≡ spreads_in deep (below_of deep n.value) ++ spreads_in deep others }
-    ensures fragment_spread { (deep : Bool) (n : NodeView FragmentSpread) (others : List Selection) → spreads_in deep (variant.FragmentSpread n ∷ others) ≡ n.value.fragment_name.text ∷ spreads_in deep others }
-    ensures inline_fragment { (deep : Bool) (n : NodeView InlineFragment) (others : List Selection) → spreads_in deep (variant.InlineFragment n ∷ others) ≡ spreads_in deep n.value.selection_set.selections ++ spreads_in deep others }
-    ensures joined { (deep : Bool) (first others : List Selection) → spreads_in deep (first ++ others) ≡ spreads_in deep first ++ spreads_in deep others }
+    ensures field { (deep : Bool) (n : NodeView Field) (others : List Selection)
+        → spreads_in deep (variant.Field n ∷ others) ≡ spreads_in deep (below_of deep n.value)
+        ++ spreads_in deep others }
+    ensures fragment_spread { (deep : Bool) (n : NodeView FragmentSpread) (others : List Selection)
+        → spreads_in deep (variant.FragmentSpread n ∷ others) ≡ n.value.fragment_name.text
+        ∷ spreads_in deep others }
+    ensures inline_fragment { (deep : Bool) (n : NodeView InlineFragment) (others : List Selection)
+        → spreads_in deep (variant.InlineFragment n ∷ others)
+        ≡ spreads_in deep n.value.selection_set.selections ++ spreads_in deep others }
+    ensures joined { (deep : Bool) (first others : List Selection) → spreads_in deep (first ++ others)
+        ≡ spreads_in deep first ++ spreads_in deep others }
 {}

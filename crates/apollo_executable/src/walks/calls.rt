@@ -56,7 +56,8 @@ impl SelectionSet {
         alloc: Global,
         document: &'doc ExecutableDocument,
     ) -> Result<Vec<&'doc Node<Field>>, AllocError>
-        ensures { IfOk result (λ fields. AreWalked false document.now self.now (map (λ field. field.now) fields.items)) }
+        ensures { IfOk result
+            (λ fields. AreWalked false document.now self.now (map (λ field. field.now) fields.items)) }
     {
         collect(alloc, self.root_fields(alloc, document))
     }
@@ -68,7 +69,8 @@ impl SelectionSet {
         alloc: Global,
         document: &'doc ExecutableDocument,
     ) -> Result<Vec<&'doc Node<Field>>, AllocError>
-        ensures { IfOk result (λ fields. AreWalked true document.now self.now (map (λ field. field.now) fields.items)) }
+        ensures { IfOk result
+            (λ fields. AreWalked true document.now self.now (map (λ field. field.now) fields.items)) }
     {
         collect(alloc, self.all_fields(alloc, document))
     }

@@ -40,7 +40,8 @@ impl<'doc> Model for FieldWalk<'doc> {
 
     ghost Value = { WalkView };
 
-    ghost coded = { walk_view_code document.the_row.coded set.the_row.coded (node.the_row field.the_row).coded };
+    ghost coded = { walk_view_code document.the_row.coded set.the_row.coded
+        (node.the_row field.the_row).coded };
 
     ghost view = { λ fields. seen fields.walk };
 }

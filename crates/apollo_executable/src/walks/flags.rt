@@ -13,7 +13,8 @@ pub(crate) fn is_marked(flags: &[bool], place: usize) -> bool
 /// Makes room for so many places, of which those are marked that were so. The error is that memory ran out.
 pub(crate) fn make_room(flags: &mut Vec<bool>, len: usize) -> Result<(), AllocError>
     ensures room { OnOk result (len ≤ length flags.new.items) }
-    ensures marks { (k : ℕ) → slice_index_or flags.new.items k false ≡ slice_index_or flags.old.items k false }
+    ensures marks { (k : ℕ) → slice_index_or flags.new.items k false
+        ≡ slice_index_or flags.old.items k false }
 {
     if flags.len() < len {
         flags.resize(len, false)?;
@@ -24,7 +25,8 @@ pub(crate) fn make_room(flags: &mut Vec<bool>, len: usize) -> Result<(), AllocEr
 /// Marks a place.
 pub(crate) fn mark(flags: &mut Vec<bool>, place: usize)
     requires { place < length flags.old.items }
-    ensures { (k : ℕ) → slice_index_or flags.new.items k false ≡ (if nat_eq place k then true else slice_index_or flags.old.items k false) }
+    ensures { (k : ℕ) → slice_index_or flags.new.items k false
+        ≡ (if nat_eq place k then true else slice_index_or flags.old.items k false) }
 {
     flags[place] = true;
 }

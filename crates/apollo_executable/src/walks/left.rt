@@ -11,8 +11,10 @@ use graphql_nodes::node::Node;
 
 /// What is left of a walk comes turn by turn, and before its first turn that is a whole walk.
 pub(crate) fn walks_are_left_by_turn()
-    ensures turns { (deep : Bool) (document : ExecutableDocument) (names : Names) (lists : List (List Selection)) → IsLeftByTurn deep document names lists }
-    ensures whole { (deep : Bool) (document : ExecutableDocument) (set : SelectionSet) → IsWholeWalk deep document set (whole_walk deep document set) }
+    ensures turns { (deep : Bool) (document : ExecutableDocument) (names : Names)
+        (lists : List (List Selection)) → IsLeftByTurn deep document names lists }
+    ensures whole { (deep : Bool) (document : ExecutableDocument) (set : SelectionSet)
+        → IsWholeWalk deep document set (whole_walk deep document set) }
 {
     walks_go_turn_by_turn::<Node<Field>>();
     walks_open_what_is_reached::<Node<Field>>();

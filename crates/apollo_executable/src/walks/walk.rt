@@ -21,8 +21,10 @@ pub(crate) struct Walk<'doc> {
     refused: bool,
     ghost left_over: { (left_of lists).turns ≤ (whole_walk lists.deep lists.document.now start.now).turns },
     ghost left_open: { (left_of lists).opened ≡ (whole_walk lists.deep lists.document.now start.now).opened },
-    ghost counted: { turns ≡ min (turns_taken (whole_walk lists.deep lists.document.now start.now) (left_of lists) refused) (2 ^ 64 - 1) },
-    ghost bounded: { turns_taken (whole_walk lists.deep lists.document.now start.now) (left_of lists) refused ≤ (whole_walk lists.deep lists.document.now start.now).turns },
+    ghost counted: { turns ≡ min
+        (turns_taken (whole_walk lists.deep lists.document.now start.now) (left_of lists) refused) (2 ^ 64 - 1) },
+    ghost bounded: { turns_taken (whole_walk lists.deep lists.document.now start.now) (left_of lists) refused
+        ≤ (whole_walk lists.deep lists.document.now start.now).turns },
 }
 
 impl<'doc> Walk<'doc> {
@@ -51,7 +53,8 @@ impl<'doc> Walk<'doc> {
     /// The turns so far, as far as they can be told.
     pub(crate) fn turns(&self) -> u64
         ensures turns { result ≡ min (seen self.now).taken (2 ^ 64 - 1) }
-        ensures few { IsWithinTurns self.now.lists.deep self.now.lists.document.now self.now.start.now (seen self.now).taken }
+        ensures few { IsWithinTurns self.now.lists.deep self.now.lists.document.now self.now.start.now
+            (seen self.now).taken }
     {
         walks_are_left_by_turn();
         self.turns

@@ -5,4 +5,5 @@ pub returns-clause-request_error : goal.returns-clause-request_error
 returns-clause-request_error c = request_errors.at
 
 pub returns-clause-new_field_error : goal.returns-clause-new_field_error
-returns-clause-new_field_error c = (new_field_errors (record { at = c.equality_of_lookups.ensures.field_lookup_error })).at
+returns-clause-new_field_error c =
+    (new_field_errors (record { at = c.equality_of_lookups.ensures.field_lookup_error })).at

@@ -12,5 +12,10 @@ returns-then-eq c =
     let n = length outer.nested_fields in
     let root = roots.at path.root outer.root in
     let keys = (lists names).at outer.nested_fields (take n path.nested_fields) in
-    let value : c.starts_with.result ≡ pointwise (λ (a b : NameView). pointwise nat_eq a.text b.text) outer.nested_fields (take n path.nested_fields) = search rules in
-    ((λ h. (root.0 (sym c.eq.ensures ∙ c.if-eq.true), sym (keys.0 (sym value ∙ h)))), (λ begins. value ∙ keys.1 (sym begins.1)))
+    let value : c.starts_with.result
+    ≡ pointwise (λ (a b : NameView). pointwise nat_eq a.text b.text) outer.nested_fields
+    (take n path.nested_fields) = search rules in (
+      (λ h. (root.0 (sym c.eq.ensures ∙ c.if-eq.true), sym (keys.0 (sym value ∙ h)))),
+      (λ begins. value
+          ∙ keys.1 (sym begins.1)),
+    )

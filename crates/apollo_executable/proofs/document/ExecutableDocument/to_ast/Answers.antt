@@ -11,5 +11,9 @@ returns-in_err-push-2-clause-memory c =
     let document = c.args.self.now in
     let l = c.loop-fragment in
     let fragment = c.in-Some-fragment.fragment in
-    let turn = iter_turn deref (values_of document.fragments) l.yielded c.into_iter-fragment-iterator.result l.fragment-iterator c.next-in-loop-fragment.new.self c.next-in-loop-fragment.result (c.into_iter-fragment-iterator.ensures.into_iter_gives ∙ c.values-fragment-items.ensures.rest) l.yielded_by fragment c.in-Some-fragment.is c.next-in-loop-fragment.ensures.steps in
-    MatchResult-from_err c.from_residual-in_err-push-2.result _ _ c.from_residual-in_err-push-2.ensures.0 (λ _. fragments-erased document (length l.yielded) turn.0)
+    let turn = iter_turn deref (values_of document.fragments) l.yielded c.into_iter-fragment-iterator.result
+    l.fragment-iterator c.next-in-loop-fragment.new.self c.next-in-loop-fragment.result
+    (c.into_iter-fragment-iterator.ensures.into_iter_gives ∙ c.values-fragment-items.ensures.rest)
+    l.yielded_by fragment c.in-Some-fragment.is c.next-in-loop-fragment.ensures.steps in
+    MatchResult-from_err c.from_residual-in_err-push-2.result _ _ c.from_residual-in_err-push-2.ensures.0
+    (λ _. fragments-erased document (length l.yielded) turn.0)

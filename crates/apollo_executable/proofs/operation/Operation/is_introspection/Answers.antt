@@ -12,11 +12,13 @@ returns-then-not-is_meta_name-clause-answer c =
     let walk = c.root_fields-walk in
     let field = c.in_ok-field.field-0 in
     let given : c.in-Some.field ≡ Ok field = search rules in
-    let next = subst (λ (r : Result (Bor (NodeView Field)) AllocError). IsNext c.loop-field.walk (Some r) c.next.new.self) given c.in-Some.ensures.steps in
+    let next = subst (λ (r : Result (Bor (NodeView Field)) AllocError). IsNext c.loop-field.walk
+    (Some r) c.next.new.self) given c.in-Some.ensures.steps in
     let named = c.as_str.ensures ∙ ap (λ (f : Field). f.name.text) c.deref.ensures in (
       λ no. absurd (true≢false (sym no)),
       λ is.
-          let all = introspection-meta c.args.document.now c.args.self.now walk.result.coming (λ n. c.walks_give_what_is_reached.ensures _ _ _ n walk.ensures.coming) is in
+          let all = introspection-meta c.args.document.now c.args.self.now walk.result.coming
+          (λ n. c.walks_give_what_is_reached.ensures _ _ _ n walk.ensures.coming) is in
           let head = c.loop-field.invariant.others all field.now (rw next.gives.0 (inl refl)) in
           sym c.if-not-is_meta_name.true ∙ c.is_meta_name.ensures.1 (subst IsMetaName (sym named) head),
     )
@@ -24,7 +26,9 @@ returns-then-not-is_meta_name-clause-answer c =
 pub returns-clause-answer : goal.returns-clause-answer
 returns-clause-answer c =
     let walk = c.root_fields-walk in (
-      λ _. meta-introspection c.args.document.now c.args.self.now walk.result.coming (λ n. c.walks_give_what_is_reached.ensures _ _ _ n walk.ensures.coming) (c.is_query.ensures.0 c.if-not-is_query.false)
+      λ _. meta-introspection c.args.document.now c.args.self.now walk.result.coming
+          (λ n. c.walks_give_what_is_reached.ensures _ _ _ n walk.ensures.coming)
+          (c.is_query.ensures.0 c.if-not-is_query.false)
           (c.loop-field.invariant.all (rw c.in_default.ensures.steps.gives.0 (λ n h. absurd h))),
       λ _. refl,
     )
@@ -36,6 +40,9 @@ pub loop-field-preserved : goal.loop-field-preserved
 loop-field-preserved c =
     let field = c.in_ok-field.field-0 in
     let given : c.in-Some.field ≡ Ok field = search rules in
-    let next = subst (λ (r : Result (Bor (NodeView Field)) AllocError). IsNext c.loop-field.walk (Some r) c.next.new.self) given c.in-Some.ensures.steps in
+    let next = subst (λ (r : Result (Bor (NodeView Field)) AllocError). IsNext c.loop-field.walk
+    (Some r) c.next.new.self) given c.in-Some.ensures.steps in
     let named = c.as_str.ensures ∙ ap (λ (f : Field). f.name.text) c.deref.ensures in
-    given-one_more c.root_fields-walk.result c.loop-field.walk c.next.new.self field (subst IsMetaName named (c.is_meta_name.ensures.0 c.if-not-is_meta_name.false)) next c.loop-field.invariant
+    given-one_more c.root_fields-walk.result c.loop-field.walk c.next.new.self field
+    (subst IsMetaName named (c.is_meta_name.ensures.0 c.if-not-is_meta_name.false)) next
+    c.loop-field.invariant

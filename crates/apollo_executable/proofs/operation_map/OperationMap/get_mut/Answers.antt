@@ -16,12 +16,19 @@ returns-in_err-make_mut-in-Some c =
     let name = option_copied c.args.name in
     let node = c.in-Some.node.now in
     let exit = err_from_is_err_and c.from_residual.result c.from_residual.ensures.1 in
-    let there : requested m name ≡ Some node = sym c.requested_mut.ensures.found ∙ ap option_copied_mut c.in-Some.is in
+    let there : requested m name ≡ Some node = sym c.requested_mut.ensures.found
+    ∙ ap option_copied_mut c.in-Some.is in
     let refused : c.make_mut.result ≡ Err c.in_err-make_mut-in-Some.field-0.0 = search rules in
-    let unwritten : c.make_mut.follows.lender-at-none ≡ node = subst (λ r. OnErr r (c.make_mut.follows.lender-at-none ≡ node)) refused c.make_mut.follows.holds-at-none in
-    let put : c.requested_mut.follows.lender c.make_mut.follows.lender-at-none ≡ with_requested m name c.make_mut.follows.lender-at-none =
-    subst (λ r. OnSome r (c.requested_mut.follows.lender c.make_mut.follows.lender-at-none ≡ with_requested m name c.make_mut.follows.lender-at-none)) c.in-Some.is (c.requested_mut.follows.holds c.make_mut.follows.lender-at-none) in
-    let back : c.requested_mut.follows.lender c.make_mut.follows.lender-at-none ≡ m = put ∙ ap (with_requested m name) unwritten ∙ put_back m name node there in (
+    let unwritten : c.make_mut.follows.lender-at-none ≡ node =
+    subst (λ r. OnErr r (c.make_mut.follows.lender-at-none ≡ node)) refused
+    c.make_mut.follows.holds-at-none in
+    let put : c.requested_mut.follows.lender c.make_mut.follows.lender-at-none
+    ≡ with_requested m name c.make_mut.follows.lender-at-none =
+    subst (λ r. OnSome r (c.requested_mut.follows.lender c.make_mut.follows.lender-at-none
+    ≡ with_requested m name c.make_mut.follows.lender-at-none)) c.in-Some.is
+    (c.requested_mut.follows.holds c.make_mut.follows.lender-at-none) in
+    let back : c.requested_mut.follows.lender c.make_mut.follows.lender-at-none ≡ m = put
+    ∙ ap (with_requested m name) unwritten ∙ put_back m name node there in (
       (rw exit.1 refl, λ w ok. let no : false ≡ true = subst (λ r. IsOk r) exit.1 ok in cc, rw exit.1 back),
       record {
         writes_back = tt;
@@ -35,15 +42,23 @@ returns-in_ok-make_mut-in-Some c =
     let m = c.args.self.now in
     let name = option_copied c.args.name in
     let node = c.in-Some.node.now in
-    let there : requested m name ≡ Some node = sym c.requested_mut.ensures.found ∙ ap option_copied_mut c.in-Some.is in
+    let there : requested m name ≡ Some node = sym c.requested_mut.ensures.found
+    ∙ ap option_copied_mut c.in-Some.is in
     let put : (w : NodeView Operation) → c.requested_mut.follows.lender w ≡ with_requested m name w =
-    λ w. subst (λ r. OnSome r (c.requested_mut.follows.lender w ≡ with_requested m name w)) c.in-Some.is (c.requested_mut.follows.holds w) in
+    λ w. subst (λ r. OnSome r (c.requested_mut.follows.lender w ≡ with_requested m name w)) c.in-Some.is
+    (c.requested_mut.follows.holds w) in
     let given : c.make_mut.result ≡ Ok c.in_ok-make_mut-in-Some.field-0 = search rules in
     let lent : IsOk c.make_mut.result = ap (λ r. is_ok r) given in (
-      (refl, λ w ok. put_anew m name node (c.make_mut.follows.lender w) w _ there (c.make_mut.follows.holds w lent) (put (c.make_mut.follows.lender w)), tt),
+      (
+        refl,
+        λ w ok. put_anew m name node (c.make_mut.follows.lender w) w _ there
+            (c.make_mut.follows.holds w lent) (put (c.make_mut.follows.lender w)),
+        tt,
+      ),
       record {
         writes_back = tt;
-        found = ap (option_map (λ (o : NodeView Operation). o.value)) there ∙ ap Some (sym c.in_ok-make_mut-in-Some.ensures.value);
+        found = ap (option_map (λ (o : NodeView Operation). o.value)) there
+            ∙ ap Some (sym c.in_ok-make_mut-in-Some.ensures.value);
         error = tt;
       },
     )

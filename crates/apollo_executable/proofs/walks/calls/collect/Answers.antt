@@ -6,4 +6,6 @@ use Rattle.apollo_executable.proofs.walks.calls.collect.Goals as goal
 pub returns : goal.returns
 returns c =
     let given = map (λ (n : Bor (NodeView Field)). n.now) c.loop-field.fields.items in
-    sym (append-nil given) ∙ ap (λ (l : List (NodeView Field)). given ++ l) (sym c.in-None.ensures.steps.gives.0) ∙ c.loop-field.invariant
+    sym (append-nil given)
+    ∙ ap (λ (l : List (NodeView Field)). given ++ l) (sym c.in-None.ensures.steps.gives.0)
+    ∙ c.loop-field.invariant

@@ -9,5 +9,7 @@ use Rattle.apollo_executable.proofs.walks.field_walk.FieldWalkIterator.next.Goal
 pub returns-clause-goes : goal.returns-clause-goes
 returns-clause-goes c =
     let walk = c.self.inside.walk in
-    subst (λ (old : WalkView). MakesProgress (λ _. Unit {0}) (λ w. at_most (most_items w)) old c.advance.result (seen c.advance.new.self)) c.self.view_is
-    (goes-on (λ _. Unit {0}) (λ _. tt) (seen walk) (seen c.advance.new.self) c.advance.result c.advance.ensures)
+    subst (λ (old : WalkView). MakesProgress (λ _. Unit {0}) (λ w. at_most (most_items w)) old
+    c.advance.result (seen c.advance.new.self)) c.self.view_is
+    (goes-on (λ _. Unit {0}) (λ _. tt) (seen walk) (seen c.advance.new.self) c.advance.result
+    c.advance.ensures)

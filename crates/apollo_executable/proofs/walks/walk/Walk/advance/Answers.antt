@@ -9,16 +9,21 @@ returns-then-self c =
     let w = c.args.self.now in
     let refused = c.if-self.true in
     let bound = (c.walks_are_left_by_turn.ensures.whole _ _ w.start.now).within (seen w).taken w.bounded in
-    gives-none (later-itself (seen w)) (rw refused refl) (rw refused refl) bound (rw refused (λ going. absurd (true≢false going)))
+    gives-none (later-itself (seen w)) (rw refused refl) (rw refused refl) bound
+    (rw refused (λ going. absurd (true≢false going)))
 
 pub loop-self-init : goal.loop-self-init
 loop-self-init c = (later-itself (seen c.args.self.now), c.if-self.false)
 
 pub loop-self-preserved : goal.loop-self-preserved
-loop-self-preserved c = (turns-later c.loop-self.invariant.0 (rw c.in-Ok-None.field-0-is at c.in-Ok-None.ensures.step), c.in-Ok-None.ensures.refused)
+loop-self-preserved c = (
+  turns-later c.loop-self.invariant.0 (rw c.in-Ok-None.field-0-is at c.in-Ok-None.ensures.step),
+  c.in-Ok-None.ensures.refused,
+)
 
 pub returns-in-Ok-Some : goal.returns-in-Ok-Some
-returns-in-Ok-Some c = gives-field c.loop-self.invariant.0 (rw c.in-Ok-Some.field-0-is at c.in-Ok-Some.ensures.step)
+returns-in-Ok-Some c =
+    gives-field c.loop-self.invariant.0 (rw c.in-Ok-Some.field-0-is at c.in-Ok-Some.ensures.step)
 
 pub returns-in-Err : goal.returns-in-Err
 returns-in-Err c = gives-error c.loop-self.invariant.0 c.in-Err.ensures.step
@@ -29,4 +34,5 @@ returns c =
     let law = c.walks_are_left_by_turn.ensures in
     let over = at-end law.turns law.whole now c.loop-self.invariant.1 c.loop-self-test.false in
     let bound = (law.whole _ _ now.start.now).within (seen now).taken now.bounded in
-    gives-none c.loop-self.invariant.0 over.0 (rw (c.loop-self.invariant.1, c.loop-self-test.false) refl) bound (λ _. over.1)
+    gives-none c.loop-self.invariant.0 over.0 (rw (c.loop-self.invariant.1, c.loop-self-test.false) refl)
+    bound (λ _. over.1)

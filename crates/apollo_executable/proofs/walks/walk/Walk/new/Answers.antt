@@ -9,7 +9,8 @@ returns c =
       deep_is = e.deep;
       document_is = λ i. (e.document i).now;
       start_is = refl;
-      coming = rw (e.opened, e.lists, e.deep, e.document) (c.walks_are_left_by_turn.ensures.whole c.args.deep c.args.document.now c.args.set.now).fields;
+      coming = rw (e.opened, e.lists, e.deep, e.document)
+          (c.walks_are_left_by_turn.ensures.whole c.args.deep c.args.document.now c.args.set.now).fields;
       opened = opened_names-empty c.new.result.document.now _ e.opened;
       goes_on = e.ended;
       taken = rw (e.opened, e.lists, e.deep, e.document) (omega arith);
