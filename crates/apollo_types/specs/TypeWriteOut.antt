@@ -1,5 +1,6 @@
 -- What types are written out as: GraphQL specification of October 2021, sections 3.4.3 and 3.5 to 3.10.
 use Rattle.std.specs.Prelude.{List, ◌++◌, map, Option}
+use Rattle.std.specs.Option.{option_copied}
 use Rattle.graphql_nodes.specs.NameView.{NameView}
 use Rattle.graphql_nodes.specs.Tables.{values_of}
 use Rattle.graphql_nodes.specs.declared.source.SourceSpan.{SourceSpan}
@@ -17,6 +18,7 @@ use Rattle.apollo_types.specs.declared.enum_type.EnumType.{EnumType}
 use Rattle.apollo_types.specs.declared.input_object_type.InputObjectType.{InputObjectType}
 use Rattle.apollo_types.specs.declared.extended_type.ExtendedType.{ExtendedType}
 use Rattle.apollo_types.specs.declared.extended_type.ExtendedType.TheVariants.{Scalar, Object, Interface, Union, Enum, InputObject}
+use Rattle.apollo_types.specs.declared.write_out.Head.{Head}
 
 -- the kind of a type
 abbrev pub type_kind : ExtendedType → TypeKind
@@ -96,29 +98,9 @@ type_components (Union n) = union_components n.value
 type_components (Enum n) = enum_components n.value
 type_components (InputObject n) = input_object_components n.value
 
--- a scalar type's definition, at this location, then an extension for each identity
-abbrev pub write_scalar : ScalarType → Option SourceSpan → List Definition
-write_scalar t location = written_type kinds.Scalar t.description t.name (by_origin (scalar_components t)) location
-
--- an object type's definition, at this location, then an extension for each identity
-abbrev pub write_object : ObjectType → Option SourceSpan → List Definition
-write_object t location = written_type kinds.Object t.description t.name (by_origin (object_components t)) location
-
--- an interface type's definition, at this location, then an extension for each identity
-abbrev pub write_interface : InterfaceType → Option SourceSpan → List Definition
-write_interface t location = written_type kinds.Interface t.description t.name (by_origin (interface_components t)) location
-
--- a union type's definition, at this location, then an extension for each identity
-abbrev pub write_union : UnionType → Option SourceSpan → List Definition
-write_union t location = written_type kinds.Union t.description t.name (by_origin (union_components t)) location
-
--- an enum type's definition, at this location, then an extension for each identity
-abbrev pub write_enum : EnumType → Option SourceSpan → List Definition
-write_enum t location = written_type kinds.Enum t.description t.name (by_origin (enum_components t)) location
-
--- an input object type's definition, at this location, then an extension for each identity
-abbrev pub write_input_object : InputObjectType → Option SourceSpan → List Definition
-write_input_object t location = written_type kinds.InputObject t.description t.name (by_origin (input_object_components t)) location
+-- a type with this head and these components: its definition, at this location, then an extension for each identity
+abbrev pub headed_type : Head → List SourcedPart → Option SourceSpan → List Definition
+headed_type head components location = written_type head.kind (option_copied head.description) head.name.now (by_origin components) location
 
 -- the definition of a type of any kind, where the type stands, then its extensions
 abbrev pub write_type : ExtendedType → List Definition

@@ -24,7 +24,7 @@ use std::slice::Iter;
 
 /// A component.
 #[derive(Clone, Copy)]
-pub(crate) enum ComponentRef<'a> {
+pub enum ComponentRef<'a> {
     Directive(&'a Component<Directive>),
     /// An interface or a member of a union.
     Name(&'a ComponentName),
@@ -128,7 +128,7 @@ fn add_roots(
 /// The components of a type or of a schema's definition, in order: directives, then names that it lists, then what stands
 /// under names, or roots. Contracts see the list of those that are still to come.
 #[derive(Drop)]
-pub(crate) struct Components<'a> {
+pub struct Components<'a> {
     directives: Iter<'a, Component<Directive>>,
     names: Part<'a>,
     values: Part<'a>,

@@ -4,17 +4,15 @@ ghost use Rattle.std.specs.Option.{option_copied};
 
 use crate::components::Components;
 use crate::enum_type::EnumType;
+use crate::extensible::Extensible;
 use crate::input_object_type::InputObjectType;
 use crate::interface_type::InterfaceType;
 use crate::object_type::ObjectType;
-use crate::origins::Origins;
 use crate::scalar_type::ScalarType;
 use crate::union_type::UnionType;
-use crate::write_out::{add_type, identities_of};
+use crate::write_out::{Head, add_type};
 use apollo_component::directive_list::DirectiveList;
-use apollo_component::extension::ExtensionId;
 use graphql_ast::definition::Definition;
-use graphql_nodes::collections::key_set::KeySet;
 use graphql_nodes::name::Name;
 use graphql_nodes::node::Node;
 use graphql_nodes::node_str::NodeStr;
@@ -54,10 +52,8 @@ impl Clone for ExtendedType {
 impl ExtendedType {
     ghost use Rattle.graphql_nodes.specs.BuiltIn.{is_built_in};
     ghost use Rattle.apollo_types.specs.TypeKinds.{as_scalar, as_object, as_interface, as_union, as_enum, as_input_object, is_scalar, is_object, is_interface, is_union, is_enum, is_input_object, is_leaf, is_composite, is_input_type, is_output_type};
-    ghost use Rattle.apollo_types.specs.TypeWriteOut.{write_type, type_kind, type_name, type_location, type_directives, type_description, type_components};
-    ghost use Rattle.apollo_types.specs.Components.{ComponentsInOrder, OriginsInOrder};
+    ghost use Rattle.apollo_types.specs.TypeWriteOut.{write_type, type_kind, type_name, type_location, type_directives, type_description};
     ghost use Rattle.apollo_component.specs.Beginnings.{Begins};
-    ghost use Rattle.apollo_component.specs.WriteOut.{origins_in, identities};
 
     /// The kind of the type.
     pub fn kind(&self) -> TypeKind
@@ -276,36 +272,17 @@ impl ExtendedType {
         }
     }
 
-    /// The components: directives, then interfaces, then fields; or directives, then members, values or input fields.
-    fn components(&self) -> Components<'_>
-        ensures rest { result ≡ type_components self.now }
-        ensures runs { ComponentsInOrder }
+    /// What stands before the components.
+    fn head(&self) -> Head<'_>
+        ensures kind { result.kind ≡ type_kind self.now }
+        ensures description { option_copied result.description ≡ type_description self.now }
+        ensures name { result.name.now ≡ type_name self.now }
     {
-        match self {
-            ExtendedType::Scalar(node) => node.components(),
-            ExtendedType::Object(node) => node.components(),
-            ExtendedType::Interface(node) => node.components(),
-            ExtendedType::Union(node) => node.components(),
-            ExtendedType::Enum(node) => node.components(),
-            ExtendedType::InputObject(node) => node.components(),
+        Head {
+            kind: self.kind(),
+            description: self.description(),
+            name: self.name(),
         }
-    }
-
-    /// The origins of the components: those of directives, then interfaces, then fields; or of directives, then members,
-    /// values or input fields.
-    pub fn iter_origins(&self) -> Origins<'_>
-        ensures rest { result ≡ origins_in (type_components self.now) }
-        ensures runs { OriginsInOrder }
-    {
-        Origins::new(self.components())
-    }
-
-    /// The identities of the extensions that the components come from, by first appearance among their
-    /// [origins](ExtendedType::iter_origins). The error is want of memory.
-    pub fn extensions(&self, alloc: Global) -> Result<KeySet<ExtensionId>, AllocError>
-        ensures { IfOk result (λ ids. ids ≡ identities (origins_in (type_components self.now))) }
-    {
-        identities_of(alloc, self.iter_origins())
     }
 
     /// The type as syntax: its definition, at the type's location, then its extensions, as `to_ast` of its kind writes them. The
@@ -326,12 +303,28 @@ impl ExtendedType {
     {
         add_type(
             alloc,
-            self.kind(),
-            self.description(),
-            self.name(),
+            self.head(),
             self.components(),
             self.location(),
             written,
         )
+    }
+}
+
+impl Extensible for ExtendedType {
+    ghost use Rattle.apollo_types.specs.TypeWriteOut.{type_components};
+
+    ghost sourced = { type_components };
+
+    /// The components: directives, then interfaces, then fields; or directives, then members, values or input fields.
+    fn components(&self) -> Components<'_> {
+        match self {
+            ExtendedType::Scalar(node) => node.components(),
+            ExtendedType::Object(node) => node.components(),
+            ExtendedType::Interface(node) => node.components(),
+            ExtendedType::Union(node) => node.components(),
+            ExtendedType::Enum(node) => node.components(),
+            ExtendedType::InputObject(node) => node.components(),
+        }
     }
 }

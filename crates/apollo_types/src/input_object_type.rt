@@ -1,21 +1,18 @@
 //! Input object types: GraphQL specification of October 2021, section 3.10.
-ghost use Rattle.std.specs.Prelude.{◌≡◌, IfOk};
+ghost use Rattle.std.specs.Prelude.{◌≡◌};
 
 use crate::components::{Components, Part};
-use crate::origins::Origins;
-use crate::write_out::{identities_of, type_as_syntax};
+use crate::extensible::Extensible;
+use crate::type_of_kind::TypeOfKind;
+use crate::write_out::Head;
 use apollo_component::component::Component;
 use apollo_component::directive_list::DirectiveList;
-use apollo_component::extension::ExtensionId;
-use graphql_ast::definition::Definition;
 use graphql_ast::type_system::InputValueDefinition;
-use graphql_nodes::collections::key_set::KeySet;
 use graphql_nodes::collections::table::Table;
 use graphql_nodes::name::Name;
 use graphql_nodes::node_str::NodeStr;
-use graphql_nodes::source::SourceSpan;
 use graphql_nodes::type_kind::TypeKind;
-use std::alloc::{AllocError, Global};
+use std::alloc::AllocError;
 
 /// An input object type, with what its extensions add (section 3.10).
 ///
@@ -53,56 +50,35 @@ impl Clone for InputObjectType {
     }
 }
 
-impl InputObjectType {
-    ghost use Rattle.apollo_types.specs.Components.{ComponentsInOrder, OriginsInOrder};
-    ghost use Rattle.apollo_component.specs.WriteOut.{origins_in, identities};
-    ghost use Rattle.apollo_types.specs.TypeWriteOut.{input_object_components, write_input_object};
+impl Extensible for InputObjectType {
+    ghost use Rattle.apollo_types.specs.TypeWriteOut.{input_object_components};
+
+    ghost sourced = { input_object_components };
 
     /// The components: directives, fields.
-    pub(crate) fn components(&self) -> Components<'_>
-        ensures rest { result ≡ input_object_components self.now }
-        ensures runs { ComponentsInOrder }
-    {
+    fn components(&self) -> Components<'_> {
         Components::new(
             &self.directives,
             Part::Nothing,
             Part::InputFields(self.fields.values()),
         )
     }
+}
 
-    /// The origins of the components: those of directives, then fields.
-    pub fn iter_origins(&self) -> Origins<'_>
-        ensures rest { result ≡ origins_in (input_object_components self.now) }
-        ensures runs { OriginsInOrder }
-    {
-        Origins::new(self.components())
-    }
+impl TypeOfKind for InputObjectType {
+    ghost use Rattle.graphql_nodes.specs.declared.type_kind.TypeKind.TheVariants.{InputObject};
 
-    /// The identities of the extensions that the components come from, by first appearance among their
-    /// [origins](InputObjectType::iter_origins). The error is want of memory.
-    pub fn extensions(&self, alloc: Global) -> Result<KeySet<ExtensionId>, AllocError>
-        ensures { IfOk result (λ ids. ids ≡ identities (origins_in (input_object_components self.now))) }
-    {
-        identities_of(alloc, self.iter_origins())
-    }
+    ghost kind = { InputObject };
 
-    /// The type as syntax: its definition, at this location, with the components of the definition, then an extension
-    /// for each identity of [`extensions`](InputObjectType::extensions), with that identity's components and location. Each
-    /// list is in the type's own order. The error is want of memory.
-    pub fn to_ast(
-        &self,
-        alloc: Global,
-        location: Option<SourceSpan>,
-    ) -> Result<Vec<Definition>, AllocError>
-        ensures { IfOk result (λ written. written.items ≡ write_input_object self.now location) }
-    {
-        type_as_syntax(
-            alloc,
-            TypeKind::InputObject,
-            self.description.as_ref(),
-            &self.name,
-            self.components(),
-            location,
-        )
+    ghost description = { λ ty. ty.description };
+
+    ghost name = { λ ty. ty.name };
+
+    fn head(&self) -> Head<'_> {
+        Head {
+            kind: TypeKind::InputObject,
+            description: self.description.as_ref(),
+            name: &self.name,
+        }
     }
 }

@@ -4,21 +4,18 @@ ghost use Rattle.std.specs.List.{list_all};
 ghost use Rattle.std.specs.Option.{option_copied};
 ghost use Rattle.graphql_nodes.specs.SameText.{same_text};
 ghost use Rattle.graphql_nodes.specs.Tables.{lookup};
-ghost use Rattle.apollo_component.specs.WriteOut.{origins_in, identities};
-ghost use Rattle.apollo_types.specs.Components.{ComponentsInOrder, OriginsInOrder, RootsInOrder};
+ghost use Rattle.apollo_types.specs.Components.{RootsInOrder};
 ghost use Rattle.apollo_types.specs.SchemaRoots.{no_schema_definition, operation_types, root_of, named_roots};
 ghost use Rattle.apollo_types.specs.SchemaDefinitionWriteOut.{schema_components, is_some_object, has_own_root, has_implied_root, is_implied, is_written, write_schema_definition};
 
 use crate::components::{Components, Part};
 use crate::extended_type::ExtendedType;
-use crate::origins::Origins;
+use crate::extensible::Extensible;
 use crate::root_operations::RootOperations;
-use crate::write_out::identities_of;
 use apollo_component::component::ComponentName;
 use apollo_component::directive_list::DirectiveList;
-use apollo_component::extension::{ComponentOrigin, ExtensionId};
+use apollo_component::extension::ComponentOrigin;
 use graphql_ast::definition::Definition;
-use graphql_nodes::collections::key_set::KeySet;
 use graphql_nodes::collections::table::Table;
 use graphql_nodes::name::NamedType;
 use graphql_nodes::node_str::NodeStr;
@@ -105,33 +102,8 @@ impl SchemaDefinition {
         RootOperations::new(self)
     }
 
-    /// The components: directives, roots.
-    fn components(&self) -> Components<'_>
-        ensures rest { result ≡ schema_components self.now }
-        ensures runs { ComponentsInOrder }
-    {
-        let roots = Part::Roots(self.iter_root_operations());
-        Components::new(&self.directives, Part::Nothing, roots)
-    }
-
-    /// The origins of the components: those of directives, then the roots of query, mutation and subscription.
-    pub fn iter_origins(&self) -> Origins<'_>
-        ensures rest { result ≡ origins_in (schema_components self.now) }
-        ensures runs { OriginsInOrder }
-    {
-        Origins::new(self.components())
-    }
-
-    /// The identities of the extensions that the components come from, by first appearance among their
-    /// [origins](SchemaDefinition::iter_origins). The error is want of memory.
-    pub fn extensions(&self, alloc: Global) -> Result<KeySet<ExtensionId>, AllocError>
-        ensures { IfOk result (λ ids. ids ≡ identities (origins_in (schema_components self.now))) }
-    {
-        identities_of(alloc, self.iter_origins())
-    }
-
     /// The definition as syntax: a schema definition, at this location, with the components of the definition, then an
-    /// extension for each identity of [`extensions`](SchemaDefinition::extensions), with that identity's components and
+    /// extension for each identity of [`extensions`](Extensible::extensions), with that identity's components and
     /// location. The directives are in order, and the roots in the order query, mutation, subscription. A root has the
     /// location of its name.
     ///
@@ -227,6 +199,16 @@ impl SchemaDefinition {
         ensures { IfOk result (λ b. b ≡ is_written types.now self.now) }
     {
         Ok(self.has_own_root() && !self.is_implied(alloc, types)?)
+    }
+}
+
+impl Extensible for SchemaDefinition {
+    ghost sourced = { schema_components };
+
+    /// The components: directives, roots.
+    fn components(&self) -> Components<'_> {
+        let roots = Part::Roots(self.iter_root_operations());
+        Components::new(&self.directives, Part::Nothing, roots)
     }
 }
 

@@ -1,9 +1,9 @@
 //! Types, and the schema's definition, as syntax.
 ghost use Rattle.std.specs.Prelude.{◌≡◌, List, ◌∷◌, [], ◌++◌, IfOk, OnOk};
-ghost use Rattle.std.specs.Option.{option_copied};
 ghost use Rattle.apollo_component.specs.Beginnings.{Begins};
-ghost use Rattle.apollo_component.specs.WriteOut.{identities, by_origin, written_type};
+ghost use Rattle.apollo_component.specs.WriteOut.{identities};
 ghost use Rattle.apollo_component.specs.declared.extension.ComponentOrigin.{ComponentOrigin as Origin};
+ghost use Rattle.apollo_types.specs.TypeWriteOut.{headed_type};
 
 use crate::components::Components;
 use crate::origins::Origins;
@@ -41,45 +41,41 @@ pub(crate) fn identities_of(
     Ok(ids)
 }
 
-/// Adds the type that these components make as syntax at the end: its definition, at this location, then its extensions. The
-/// error is want of memory, after which `written` begins with what it held.
+/// What stands before the components of a type.
+#[derive(Clone, Copy)]
+pub struct Head<'a> {
+    pub(crate) kind: TypeKind,
+    pub(crate) description: Option<&'a NodeStr>,
+    pub(crate) name: &'a Name,
+}
+
+/// Adds the type with this head that these components make as syntax at the end: its definition, at this location, then its
+/// extensions. The error is want of memory, after which `written` begins with what it held.
 pub(crate) fn add_type(
     alloc: Global,
-    kind: TypeKind,
-    description: Option<&NodeStr>,
-    name: &Name,
+    head: Head<'_>,
     components: Components<'_>,
     location: Option<SourceSpan>,
     written: &mut Vec<Definition>,
 ) -> Result<(), AllocError>
-    ensures added { OnOk result (written.new.items ≡ written.old.items ++ written_type kind (option_copied description.entry) name.now (by_origin components.entry) location) }
+    ensures added { OnOk result (written.new.items ≡ written.old.items ++ headed_type head.entry components.entry location) }
     ensures kept { Begins written.old.items written.new.items }
 {
     let parts = components.by_origin(alloc)?;
-    let copy = description.cloned()?;
-    parts.write_type(alloc, kind, copy, name, location, written)
+    let copy = head.description.cloned()?;
+    parts.write_type(alloc, head.kind, copy, head.name, location, written)
 }
 
-/// The type that these components make as syntax, as [`add_type`] adds it. The error is want of memory.
+/// The type with this head that these components make as syntax, as [`add_type`] adds it. The error is want of memory.
 pub(crate) fn type_as_syntax(
     alloc: Global,
-    kind: TypeKind,
-    description: Option<&NodeStr>,
-    name: &Name,
+    head: Head<'_>,
     components: Components<'_>,
     location: Option<SourceSpan>,
 ) -> Result<Vec<Definition>, AllocError>
-    ensures { IfOk result (λ written. written.items ≡ written_type kind (option_copied description.entry) name.now (by_origin components.entry) location) }
+    ensures { IfOk result (λ written. written.items ≡ headed_type head.entry components.entry location) }
 {
     let mut written = Vec::new(alloc);
-    add_type(
-        alloc,
-        kind,
-        description,
-        name,
-        components,
-        location,
-        &mut written,
-    )?;
+    add_type(alloc, head, components, location, &mut written)?;
     Ok(written)
 }

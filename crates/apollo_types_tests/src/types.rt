@@ -4,6 +4,7 @@ use crate::lookups::USERS;
 use crate::schemas::{made_again, schema_of};
 use apollo_schema::schema::Schema;
 use apollo_types::extended_type::ExtendedType;
+use apollo_types::extensible::Extensible;
 use apollo_types::schema_definition::SchemaDefinition;
 use graphql_ast::type_reference::Type;
 use graphql_nodes::name::Name;

@@ -6,6 +6,8 @@ use crate::inputs::Input;
 use apollo_component::extension::ExtensionId;
 use apollo_schema::schema::Schema;
 use apollo_types::extended_type::ExtendedType;
+use apollo_types::extensible::Extensible;
+use apollo_types::type_of_kind::TypeOfKind;
 use bench_notation::reading::read;
 use gqlrefusals_values::stop::{Told, tell_line, tell_made};
 use graphql_ast::definition::Definition;
@@ -20,7 +22,7 @@ pub enum OfSchema {
     Written,
     /// `SchemaDefinition::to_ast`.
     DefinitionWritten,
-    /// `SchemaDefinition::extensions`.
+    /// `extensions` of the definition.
     DefinitionExtended,
     /// `Schema::implementers_map`.
     Implementers,

@@ -7,6 +7,7 @@ use apollo_schema::implementers::Implementers;
 use apollo_schema::schema::Schema;
 use apollo_types::enum_type::EnumType;
 use apollo_types::extended_type::ExtendedType;
+use apollo_types::extensible::Extensible;
 use apollo_types::input_object_type::InputObjectType;
 use apollo_types::interface_type::InterfaceType;
 use apollo_types::object_type::ObjectType;
