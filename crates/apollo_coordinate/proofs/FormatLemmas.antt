@@ -15,7 +15,8 @@ use Rattle.apollo_coordinate.proofs.TextLemmas.{field_argument_form}
 
 -- a form whose refusals for the format are its only ones
 abbrev pub IsRefusedAlone : (List ℕ → SchemaCoordinateParseError → Type 0) → Type 0
-IsRefusedAlone IsNo = (t : List ℕ) (e : SchemaCoordinateParseError) → IsNo t InvalidFormat → IsNo t e → e ≡ InvalidFormat
+IsRefusedAlone IsNo =
+    (t : List ℕ) (e : SchemaCoordinateParseError) → IsNo t InvalidFormat → IsNo t e → e ≡ InvalidFormat
 
 no_name : (e : InvalidNameError) → InvalidFormat ≡ InvalidName e → ⊥
 no_name e same = cc
@@ -40,8 +41,12 @@ argument_format t e (inl none) (inr found) = absurd (none.0 found.0 found.1 foun
 argument_format t e (inr found) other = absurd (no_name _ found.3.1)
 
 -- of what stands round the first `(`
-module _ (IsHead : List ℕ → Type 0) (IsNoHead : List ℕ → SchemaCoordinateParseError → Type 0) (refuses : (h : List ℕ) (e : SchemaCoordinateParseError) → IsNoHead h e → IsHead h → ⊥) (head_format : IsRefusedAlone IsNoHead) where
-  pair_format : (head rest : List ℕ) (e : SchemaCoordinateParseError) → IsNoPair IsHead IsNoHead head rest InvalidFormat → IsNoPair IsHead IsNoHead head rest e → e ≡ InvalidFormat
+module _ (IsHead : List ℕ → Type 0) (IsNoHead : List ℕ → SchemaCoordinateParseError → Type 0)
+    (refuses : (h : List ℕ) (e : SchemaCoordinateParseError) → IsNoHead h e → IsHead h
+    → ⊥) (head_format : IsRefusedAlone IsNoHead) where
+  pair_format : (head rest : List ℕ) (e : SchemaCoordinateParseError)
+      → IsNoPair IsHead IsNoHead head rest InvalidFormat → IsNoPair IsHead IsNoHead head rest e
+      → e ≡ InvalidFormat
   pair_format head rest e (inl a) (inl b) = head_format head e a b
   pair_format head rest e (inl a) (inr b) = absurd (refuses head InvalidFormat a b.0)
   pair_format head rest e (inr a) (inl b) = absurd (refuses head e b a.0)
@@ -53,7 +58,8 @@ module _ (IsHead : List ℕ → Type 0) (IsNoHead : List ℕ → SchemaCoordinat
   argument_of_format t e (inr a) (inr b) =
       let same = one_cut 40 a.0 a.1 b.0 b.1 a.2.0 b.2.0 (sym a.2.1 ∙ b.2.1) in
       let head = subst (λ (h : List ℕ). IsNoPair IsHead IsNoHead h a.1 InvalidFormat) same.0 a.3 in
-      pair_format b.0 b.1 e (subst (λ (r : List ℕ). IsNoPair IsHead IsNoHead b.0 r InvalidFormat) same.1 head) b.3
+      pair_format b.0 b.1 e
+      (subst (λ (r : List ℕ). IsNoPair IsHead IsNoHead b.0 r InvalidFormat) same.1 head) b.3
 
 pub field_argument_format : IsRefusedAlone IsNoFieldArgument
 field_argument_format = argument_of_format IsAttributeText IsNoAttribute no_attribute attribute_format
@@ -62,13 +68,25 @@ pub directive_argument_format : IsRefusedAlone IsNoDirectiveArgument
 directive_argument_format = argument_of_format IsDirectiveText IsNoDirective no_directive directive_format
 
 -- what says a coordinate of a form is refused for nothing
-pub attribute_said : (t : List ℕ) (c : TypeAttributeCoordinate) (e : SchemaCoordinateParseError) → SaysCoordinate t (TypeAttribute c) → IsNoAttribute t e → ⊥
-attribute_said t c e said none = no_attribute t e none (c.ty.text, c.attribute.text, sym said.0, said.1.0.0, said.1.1.0.0)
+pub attribute_said : (t : List ℕ) (c : TypeAttributeCoordinate) (e : SchemaCoordinateParseError)
+    → SaysCoordinate t (TypeAttribute c) → IsNoAttribute t e → ⊥
+attribute_said t c e said none =
+    no_attribute t e none (c.ty.text, c.attribute.text, sym said.0, said.1.0.0, said.1.1.0.0)
 
-pub field_argument_said : (t : List ℕ) (c : FieldArgumentCoordinate) (e : SchemaCoordinateParseError) → SaysCoordinate t (FieldArgument c) → IsNoFieldArgument t e → ⊥
-field_argument_said t c e said none = no_field_argument t e none (subst IsFieldArgumentText said.0 (field_argument_form c said.1.0.0 said.1.1.0.0 said.1.1.1.0.0))
+pub field_argument_said : (t : List ℕ) (c : FieldArgumentCoordinate) (e : SchemaCoordinateParseError)
+    → SaysCoordinate t (FieldArgument c) → IsNoFieldArgument t e → ⊥
+field_argument_said t c e said none =
+    no_field_argument t e none
+    (subst IsFieldArgumentText said.0 (field_argument_form c said.1.0.0 said.1.1.0.0 said.1.1.1.0.0))
 
-pub directive_argument_said : (t : List ℕ) (c : DirectiveArgumentCoordinate) (e : SchemaCoordinateParseError) → SaysCoordinate t (DirectiveArgument c) → IsNoDirectiveArgument t e → ⊥
+pub directive_argument_said : (t : List ℕ) (c : DirectiveArgumentCoordinate) (e : SchemaCoordinateParseError)
+    → SaysCoordinate t (DirectiveArgument c) → IsNoDirectiveArgument t e → ⊥
 directive_argument_said t c e said none =
     let head : IsDirectiveText (codes "@" ++ c.directive.text) = (c.directive.text, refl, said.1.0.0) in
-    no_directive_argument t e none (codes "@" ++ c.directive.text, c.argument.text, sym said.0, head, said.1.1.0.0)
+    no_directive_argument t e none (
+      codes "@" ++ c.directive.text,
+      c.argument.text,
+      sym said.0,
+      head,
+      said.1.1.0.0,
+    )

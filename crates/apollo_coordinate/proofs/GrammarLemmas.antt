@@ -42,7 +42,9 @@ at_sign = middle_mark 64 (omega arith) (omega arith)
 pub name_lacks : (mark : ℕ) → IsMark mark → (t : List ℕ) → IsName t → Lacks mark t
 name_lacks mark never [] name = absurd name
 name_lacks mark never (c ∷ cs) name =
-    All-weaker IsNameContinue (λ b. b ≢ mark) (λ b continues same. never (subst IsNameContinue same continues)) (c ∷ cs) (All-cons IsNameContinue c cs (inl name.0) name.1)
+    All-weaker IsNameContinue (λ b. b ≢ mark)
+    (λ b continues same. never (subst IsNameContinue same continues)) (c ∷ cs)
+    (All-cons IsNameContinue c cs (inl name.0) name.1)
 
 -- a text that begins with `@`
 abbrev pub BeginsAt : List ℕ → Type 0
@@ -66,15 +68,18 @@ empty (c ∷ cs) a e name = cc
 
 pub head_begins : (head more : List ℕ) → IsAttributeText head → BeginsAt (head ++ more) → ⊥
 head_begins [] more form at = empty form.0 form.1 form.2 form.3
-head_begins (c ∷ cs) more form at = attribute_begins (c ∷ cs) form (cs, let first : c ≡ 64 = head_same at.1 in λ i. first i ∷ cs)
+head_begins (c ∷ cs) more form at =
+    attribute_begins (c ∷ cs) form (cs, let first : c ≡ 64 = head_same at.1 in λ i. first i ∷ cs)
 
 pub field_argument_begins : (t : List ℕ) → IsFieldArgumentText t → BeginsAt t → ⊥
-field_argument_begins t form at = head_begins form.0 (codes "(" ++ (form.1 ++ codes ":)")) form.3 (at.0, sym form.2 ∙ at.1)
+field_argument_begins t form at =
+    head_begins form.0 (codes "(" ++ (form.1 ++ codes ":)")) form.3 (at.0, sym form.2 ∙ at.1)
 
 pub attribute_lacks : (t : List ℕ) → IsAttributeText t → Lacks 40 t
 attribute_lacks t form =
     let P : ℕ → Type 0 = λ b. b ≢ 40 in
-    subst (Lacks 40) (sym form.2) (All-append P form.0 (46 ∷ form.1) (name_lacks 40 bracket form.0 form.3) (All-cons P 46 form.1 (omega arith) (name_lacks 40 bracket form.1 form.4)))
+    subst (Lacks 40) (sym form.2) (All-append P form.0 (46 ∷ form.1) (name_lacks 40 bracket form.0 form.3)
+    (All-cons P 46 form.1 (omega arith) (name_lacks 40 bracket form.1 form.4)))
 
 pub directive_lacks : (t : List ℕ) → IsDirectiveText t → Lacks 40 t
 directive_lacks t form =
@@ -88,7 +93,8 @@ pub attribute_cut : (t : List ℕ) → IsAttributeText t → Lacks 46 t → ⊥
 attribute_cut t form lacks = no_cut 46 form.0 form.1 (subst (Lacks 46) form.2 lacks)
 
 -- a text of the grammar is of the form that its marks say
-pub only_directive_argument : (t : List ℕ) → BeginsAt t → (Lacks 40 t → ⊥) → IsCoordinateText t → IsDirectiveArgumentText t
+pub only_directive_argument : (t : List ℕ) → BeginsAt t → (Lacks 40 t → ⊥) → IsCoordinateText t
+    → IsDirectiveArgumentText t
 only_directive_argument t at cut (inl form) = absurd (type_begins t form at)
 only_directive_argument t at cut (inr (inl form)) = absurd (attribute_begins t form at)
 only_directive_argument t at cut (inr (inr (inl form))) = absurd (field_argument_begins t form at)
@@ -103,16 +109,22 @@ only_directive t at lacks (inr (inr (inr (inl form)))) = form
 only_directive t at lacks (inr (inr (inr (inr form)))) = absurd (argument_cut IsDirectiveText t form lacks)
 
 pub argument_begins : (t : List ℕ) → IsDirectiveArgumentText t → BeginsAt t
-argument_begins t form = (form.3.0 ++ (codes "(" ++ (form.1 ++ codes ":)")), form.2 ∙ ap (λ (h : List ℕ). h ++ (codes "(" ++ (form.1 ++ codes ":)"))) form.3.1)
+argument_begins t form = (
+  form.3.0 ++ (codes "(" ++ (form.1 ++ codes ":)")),
+  form.2
+      ∙ ap (λ (h : List ℕ). h ++ (codes "(" ++ (form.1 ++ codes ":)"))) form.3.1,
+)
 
-pub only_field_argument : (t : List ℕ) → (BeginsAt t → ⊥) → (Lacks 40 t → ⊥) → IsCoordinateText t → IsFieldArgumentText t
+pub only_field_argument : (t : List ℕ) → (BeginsAt t → ⊥) → (Lacks 40 t → ⊥) → IsCoordinateText t
+    → IsFieldArgumentText t
 only_field_argument t never cut (inl form) = absurd (cut (name_lacks 40 bracket t form))
 only_field_argument t never cut (inr (inl form)) = absurd (cut (attribute_lacks t form))
 only_field_argument t never cut (inr (inr (inl form))) = form
 only_field_argument t never cut (inr (inr (inr (inl form)))) = absurd (never (form.0, form.1))
 only_field_argument t never cut (inr (inr (inr (inr form)))) = absurd (never (argument_begins t form))
 
-pub only_attribute : (t : List ℕ) → (BeginsAt t → ⊥) → Lacks 40 t → (Lacks 46 t → ⊥) → IsCoordinateText t → IsAttributeText t
+pub only_attribute : (t : List ℕ) → (BeginsAt t → ⊥) → Lacks 40 t → (Lacks 46 t → ⊥) → IsCoordinateText t
+    → IsAttributeText t
 only_attribute t never lacks cut (inl form) = absurd (cut (name_lacks 46 point t form))
 only_attribute t never lacks cut (inr (inl form)) = form
 only_attribute t never lacks cut (inr (inr (inl form))) = absurd (argument_cut IsAttributeText t form lacks)
@@ -134,37 +146,47 @@ no_names ty a e (inr second) name other = second.1.0 other
 pub no_attribute : (t : List ℕ) (e : SchemaCoordinateParseError) → IsNoAttribute t e → IsAttributeText t → ⊥
 no_attribute t e (inl none) form = attribute_cut t form none.0
 no_attribute t e (inr parts) form =
-    let same = one_cut 46 parts.0 parts.1 form.0 form.1 parts.2.0 (name_lacks 46 point form.0 form.3) (sym parts.2.1 ∙ form.2) in
+    let same = one_cut 46 parts.0 parts.1 form.0 form.1 parts.2.0 (name_lacks 46 point form.0 form.3)
+    (sym parts.2.1 ∙ form.2) in
     no_names parts.0 parts.1 e parts.3 (subst IsName (sym same.0) form.3) (subst IsName (sym same.1) form.4)
 
 pub no_directive : (t : List ℕ) (e : SchemaCoordinateParseError) → IsNoDirective t e → IsDirectiveText t → ⊥
 no_directive t e (inl none) form = none.0 form.0 form.1
 no_directive t e (inr name) form = name.2.0 (subst IsName (tail_same (sym form.1 ∙ name.1)) form.2)
 
-pub no_argument : (a : List ℕ) (e : SchemaCoordinateParseError) → IsNoArgument (a ++ codes ":)") e → IsName a → ⊥
+pub no_argument : (a : List ℕ) (e : SchemaCoordinateParseError) → IsNoArgument (a ++ codes ":)") e
+    → IsName a → ⊥
 no_argument a e (inl none) name = none.0 a (name_lacks 58 colon a name) refl
 no_argument a e (inr found) name =
-    found.3.0 (subst IsName (one_cut 58 a (codes ")") found.0 (codes ")") (name_lacks 58 colon a name) found.1 found.2).0 name)
+    found.3.0 (subst IsName (one_cut 58 a (codes ")") found.0 (codes ")") (name_lacks 58 colon a name) found.1
+    found.2).0 name)
 
 -- of what stands round the first `(`
-no_pair : (IsHead : List ℕ → Type 0) (IsNoHead : List ℕ → SchemaCoordinateParseError → Type 0) → ((h : List ℕ) (e : SchemaCoordinateParseError) → IsNoHead h e → IsHead h → ⊥)
-    → (head a : List ℕ) (e : SchemaCoordinateParseError) → IsNoPair IsHead IsNoHead head (a ++ codes ":)") e → IsHead head → IsName a → ⊥
+no_pair : (IsHead : List ℕ → Type 0) (IsNoHead : List ℕ → SchemaCoordinateParseError → Type 0)
+    → ((h : List ℕ) (e : SchemaCoordinateParseError) → IsNoHead h e → IsHead h → ⊥)
+    → (head a : List ℕ) (e : SchemaCoordinateParseError) → IsNoPair IsHead IsNoHead head (a ++ codes ":)") e
+    → IsHead head → IsName a → ⊥
 no_pair IsHead IsNoHead refuses head a e (inl first) form name = refuses head e first form
 no_pair IsHead IsNoHead refuses head a e (inr second) form name = no_argument a e second.1 name
 
 no_argument_of : (IsHead : List ℕ → Type 0) (IsNoHead : List ℕ → SchemaCoordinateParseError → Type 0)
-    → ((h : List ℕ) → IsHead h → Lacks 40 h) → ((h : List ℕ) (e : SchemaCoordinateParseError) → IsNoHead h e → IsHead h → ⊥)
-    → (t : List ℕ) (e : SchemaCoordinateParseError) → IsNoArgumentOf IsHead IsNoHead t e → IsArgumentText IsHead t → ⊥
+    → ((h : List ℕ) → IsHead h → Lacks 40 h) → ((h : List ℕ) (e : SchemaCoordinateParseError) → IsNoHead h e
+    → IsHead h → ⊥)
+    → (t : List ℕ) (e : SchemaCoordinateParseError) → IsNoArgumentOf IsHead IsNoHead t e
+    → IsArgumentText IsHead t → ⊥
 no_argument_of IsHead IsNoHead lacks refuses t e (inl none) form = argument_cut IsHead t form none.0
 no_argument_of IsHead IsNoHead lacks refuses t e (inr parts) form =
-    let same = one_cut 40 parts.0 parts.1 form.0 (form.1 ++ codes ":)") parts.2.0 (lacks form.0 form.3) (sym parts.2.1 ∙ form.2) in
+    let same = one_cut 40 parts.0 parts.1 form.0 (form.1 ++ codes ":)") parts.2.0 (lacks form.0 form.3)
+    (sym parts.2.1 ∙ form.2) in
     let none = subst (λ (rest : List ℕ). IsNoPair IsHead IsNoHead parts.0 rest e) same.1 parts.3 in
     no_pair IsHead IsNoHead refuses parts.0 form.1 e none (subst IsHead (sym same.0) form.3) form.4
 
-pub no_field_argument : (t : List ℕ) (e : SchemaCoordinateParseError) → IsNoFieldArgument t e → IsFieldArgumentText t → ⊥
+pub no_field_argument : (t : List ℕ) (e : SchemaCoordinateParseError) → IsNoFieldArgument t e
+    → IsFieldArgumentText t → ⊥
 no_field_argument = no_argument_of IsAttributeText IsNoAttribute attribute_lacks no_attribute
 
-pub no_directive_argument : (t : List ℕ) (e : SchemaCoordinateParseError) → IsNoDirectiveArgument t e → IsDirectiveArgumentText t → ⊥
+pub no_directive_argument : (t : List ℕ) (e : SchemaCoordinateParseError) → IsNoDirectiveArgument t e
+    → IsDirectiveArgumentText t → ⊥
 no_directive_argument = no_argument_of IsDirectiveText IsNoDirective directive_lacks no_directive
 
 -- a text that is cut at a mark has it
@@ -175,7 +197,14 @@ cut_lacks mark t front back cut lacks = no_cut mark front back (subst (Lacks mar
 pub no_colon : (t : List ℕ) → Lacks 58 t → IsNoArgument t InvalidFormat
 no_colon t lacks = inl (λ a before same. no_cut 58 a (codes ")") (subst (Lacks 58) same lacks), refl)
 
-pub other_end : (t front back : List ℕ) → IsCut 58 t front back → true ≡ not (pointwise nat_eq back (codes ")")) → IsNoArgument t InvalidFormat
+pub other_end : (t front back : List ℕ) → IsCut 58 t front back
+    → true ≡ not (pointwise nat_eq back (codes ")")) → IsNoArgument t InvalidFormat
 other_end t front back cut other =
     let Differs : List ℕ → Type 0 = λ end. true ≡ not (pointwise nat_eq end (codes ")")) in
-    inl (λ a before same. let differs : true ≡ false = subst Differs (one_cut 58 front back a (codes ")") cut.0 before (sym cut.1 ∙ same)).1 other in cc, refl)
+    inl (
+      λ a before same. let differs : true
+          ≡ false = subst Differs (one_cut 58 front back a (codes ")") cut.0 before (sym cut.1
+          ∙ same)).1 other in
+          cc,
+      refl,
+    )

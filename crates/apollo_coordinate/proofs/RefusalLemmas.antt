@@ -5,7 +5,8 @@ use Rattle.apollo_coordinate.specs.declared.parse_error.SchemaCoordinateParseErr
 use Rattle.apollo_coordinate.specs.declared.parse_error.SchemaCoordinateParseError.TheVariants.{InvalidFormat, InvalidName, Memory}
 
 -- what holds of the error that is asked for holds of the one that is answered, but for want of memory
-pub answered : (Holds : SchemaCoordinateParseError → Type 0) (e asked : SchemaCoordinateParseError) → Holds asked → WhenRefused (λ error. error ≡ asked) e → WhenRefused Holds e
+pub answered : (Holds : SchemaCoordinateParseError → Type 0) (e asked : SchemaCoordinateParseError)
+    → Holds asked → WhenRefused (λ error. error ≡ asked) e → WhenRefused Holds e
 answered Holds InvalidFormat asked holds same = subst Holds (sym same) holds
 answered Holds (InvalidName n) asked holds same = subst Holds (sym same) holds
 answered Holds Memory asked holds same = tt

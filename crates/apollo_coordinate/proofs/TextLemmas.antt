@@ -16,10 +16,22 @@ use Rattle.apollo_coordinate.specs.declared.parse_error.SchemaCoordinateParseErr
 use Rattle.apollo_coordinate.proofs.MarkLemmas.{one_cut}
 use Rattle.apollo_coordinate.proofs.GrammarLemmas.{BeginsAt, point, bracket, colon, name_lacks, type_begins, attribute_begins, field_argument_begins, attribute_lacks, directive_lacks, attribute_cut, argument_cut}
 
-pub field_argument_form : (c : FieldArgumentCoordinate) → IsName c.ty.text → IsName c.field.text → IsName c.argument.text → IsFieldArgumentText (coordinate_text (FieldArgument c))
+pub field_argument_form : (c : FieldArgumentCoordinate) → IsName c.ty.text → IsName c.field.text
+    → IsName c.argument.text → IsFieldArgumentText (coordinate_text (FieldArgument c))
 field_argument_form c ty field argument =
-    let head : IsAttributeText (c.ty.text ++ (codes "." ++ c.field.text)) = (c.ty.text, c.field.text, refl, ty, field) in
-    (c.ty.text ++ (codes "." ++ c.field.text), c.argument.text, sym (append_assoc c.ty.text (codes "." ++ c.field.text) (codes "(" ++ (c.argument.text ++ codes ":)"))), head, argument)
+    let head : IsAttributeText (c.ty.text ++ (codes "." ++ c.field.text)) = (
+      c.ty.text,
+      c.field.text,
+      refl,
+      ty,
+      field,
+    ) in (
+      c.ty.text ++ (codes "." ++ c.field.text),
+      c.argument.text,
+      sym (append_assoc c.ty.text (codes "." ++ c.field.text) (codes "(" ++ (c.argument.text ++ codes ":)"))),
+      head,
+      argument,
+    )
 
 -- the text in the grammar
 pub in_grammar : (c : SchemaCoordinate) → HasNames c → IsCoordinateText (coordinate_text c)
@@ -27,7 +39,14 @@ in_grammar (Ty c) names = inl names.0
 in_grammar (TypeAttribute c) names = inr (inl (c.ty.text, c.attribute.text, refl, names.0, names.1.0))
 in_grammar (FieldArgument c) names = inr (inr (inl (field_argument_form c names.0 names.1.0 names.1.1.0)))
 in_grammar (Directive c) names = inr (inr (inr (inl (c.directive.text, refl, names.0))))
-in_grammar (DirectiveArgument c) names = inr (inr (inr (inr (codes "@" ++ c.directive.text, c.argument.text, refl, (c.directive.text, refl, names.0), names.1.0))))
+in_grammar (DirectiveArgument c) names =
+    inr (inr (inr (inr (
+      codes "@" ++ c.directive.text,
+      c.argument.text,
+      refl,
+      (c.directive.text, refl, names.0),
+      names.1.0,
+    ))))
 
 -- the marks of the text
 abbrev HasMarks : SchemaCoordinate → List ℕ → Type 0
@@ -38,9 +57,19 @@ HasMarks (Directive c) t = BeginsAt t × Lacks 40 t × Unit {0}
 HasMarks (DirectiveArgument c) t = BeginsAt t × (Lacks 40 t → ⊥) × Unit {0}
 
 pub marks : (c : SchemaCoordinate) → HasNames c → HasMarks c (coordinate_text c)
-marks (Ty c) names = (type_begins c.ty.text names.0, name_lacks 40 bracket c.ty.text names.0, name_lacks 46 point c.ty.text names.0)
+marks (Ty c) names = (
+  type_begins c.ty.text names.0,
+  name_lacks 40 bracket c.ty.text names.0,
+  name_lacks 46 point c.ty.text names.0,
+)
 marks (TypeAttribute c) names =
-    let form : IsAttributeText (coordinate_text (TypeAttribute c)) = (c.ty.text, c.attribute.text, refl, names.0, names.1.0) in
+    let form : IsAttributeText (coordinate_text (TypeAttribute c)) = (
+      c.ty.text,
+      c.attribute.text,
+      refl,
+      names.0,
+      names.1.0,
+    ) in
     (attribute_begins _ form, attribute_lacks _ form, attribute_cut _ form)
 marks (FieldArgument c) names =
     let form = field_argument_form c names.0 names.1.0 names.1.1.0 in
@@ -50,17 +79,25 @@ marks (Directive c) names =
     ((c.directive.text, refl), directive_lacks _ form, tt)
 marks (DirectiveArgument c) names =
     let head : IsDirectiveText (codes "@" ++ c.directive.text) = (c.directive.text, refl, names.0) in
-    let form : IsDirectiveArgumentText (coordinate_text (DirectiveArgument c)) = (codes "@" ++ c.directive.text, c.argument.text, refl, head, names.1.0) in
-    ((c.directive.text ++ (codes "(" ++ (c.argument.text ++ codes ":)")), refl), argument_cut IsDirectiveText _ form, tt)
+    let form : IsDirectiveArgumentText (coordinate_text (DirectiveArgument c)) =
+    (codes "@" ++ c.directive.text, c.argument.text, refl, head, names.1.0) in (
+      (c.directive.text ++ (codes "(" ++ (c.argument.text ++ codes ":)")), refl),
+      argument_cut IsDirectiveText _ form,
+      tt,
+    )
 
 bare_same : (n m : NameView) → n.text ≡ m.text → bare_name n ≡ bare_name m
 bare_same n m h = λ i. record { text = h i; location = None }
 
-argument_same : (a b : NameView) → IsName a.text → IsName b.text → a.text ++ codes ":)" ≡ b.text ++ codes ":)" → bare_name a ≡ bare_name b
-argument_same a b m n h = bare_same a b (one_cut 58 a.text (codes ")") b.text (codes ")") (name_lacks 58 colon a.text m) (name_lacks 58 colon b.text n) h).0
+argument_same : (a b : NameView) → IsName a.text → IsName b.text → a.text ++ codes ":)" ≡ b.text ++ codes ":)"
+    → bare_name a ≡ bare_name b
+argument_same a b m n h =
+    bare_same a b (one_cut 58 a.text (codes ")") b.text (codes ")") (name_lacks 58 colon a.text m)
+    (name_lacks 58 colon b.text n) h).0
 
 -- a text, with the marks that two coordinates have in it
-same_form : (c d : SchemaCoordinate) → HasNames c → HasNames d → coordinate_text c ≡ coordinate_text d → HasMarks c (coordinate_text c) → HasMarks d (coordinate_text c) → bare_coordinate c ≡ bare_coordinate d
+same_form : (c d : SchemaCoordinate) → HasNames c → HasNames d → coordinate_text c ≡ coordinate_text d
+    → HasMarks c (coordinate_text c) → HasMarks d (coordinate_text c) → bare_coordinate c ≡ bare_coordinate d
 same_form (Ty c) (Ty d) m n h u v = let n = bare_same c.ty d.ty h in λ i. Ty (record { ty = n i })
 same_form (Ty c) (TypeAttribute d) m n h u v = absurd (v.2 u.2)
 same_form (Ty c) (FieldArgument d) m n h u v = absurd (v.1 u.1)
@@ -68,7 +105,8 @@ same_form (Ty c) (Directive d) m n h u v = absurd (u.0 v.0)
 same_form (Ty c) (DirectiveArgument d) m n h u v = absurd (u.0 v.0)
 same_form (TypeAttribute c) (Ty d) m n h u v = absurd (u.2 v.2)
 same_form (TypeAttribute c) (TypeAttribute d) m n h u v =
-    let cut = one_cut 46 c.ty.text c.attribute.text d.ty.text d.attribute.text (name_lacks 46 point c.ty.text m.0) (name_lacks 46 point d.ty.text n.0) h in
+    let cut = one_cut 46 c.ty.text c.attribute.text d.ty.text d.attribute.text
+    (name_lacks 46 point c.ty.text m.0) (name_lacks 46 point d.ty.text n.0) h in
     let first = bare_same c.ty d.ty cut.0 in
     let second = bare_same c.attribute d.attribute cut.1 in
     λ i. TypeAttribute (record { ty = first i; attribute = second i })
@@ -78,8 +116,12 @@ same_form (TypeAttribute c) (DirectiveArgument d) m n h u v = absurd (u.0 v.0)
 same_form (FieldArgument c) (Ty d) m n h u v = absurd (u.1 v.1)
 same_form (FieldArgument c) (TypeAttribute d) m n h u v = absurd (u.1 v.1)
 same_form (FieldArgument c) (FieldArgument d) m n h u v =
-    let cut = one_cut 46 c.ty.text (c.field.text ++ (codes "(" ++ (c.argument.text ++ codes ":)"))) d.ty.text (d.field.text ++ (codes "(" ++ (d.argument.text ++ codes ":)"))) (name_lacks 46 point c.ty.text m.0) (name_lacks 46 point d.ty.text n.0) h in
-    let next = one_cut 40 c.field.text (c.argument.text ++ codes ":)") d.field.text (d.argument.text ++ codes ":)") (name_lacks 40 bracket c.field.text m.1.0) (name_lacks 40 bracket d.field.text n.1.0) cut.1 in
+    let cut = one_cut 46 c.ty.text (c.field.text ++ (codes "(" ++ (c.argument.text ++ codes ":)"))) d.ty.text
+    (d.field.text ++ (codes "(" ++ (d.argument.text ++ codes ":)"))) (name_lacks 46 point c.ty.text m.0)
+    (name_lacks 46 point d.ty.text n.0) h in
+    let next = one_cut 40 c.field.text (c.argument.text ++ codes ":)") d.field.text
+    (d.argument.text ++ codes ":)") (name_lacks 40 bracket c.field.text m.1.0)
+    (name_lacks 40 bracket d.field.text n.1.0) cut.1 in
     let first = bare_same c.ty d.ty cut.0 in
     let second = bare_same c.field d.field next.0 in
     let third = argument_same c.argument d.argument m.1.1.0 n.1.1.0 next.1 in
@@ -89,19 +131,23 @@ same_form (FieldArgument c) (DirectiveArgument d) m n h u v = absurd (u.0 v.0)
 same_form (Directive c) (Ty d) m n h u v = absurd (v.0 u.0)
 same_form (Directive c) (TypeAttribute d) m n h u v = absurd (v.0 u.0)
 same_form (Directive c) (FieldArgument d) m n h u v = absurd (v.0 u.0)
-same_form (Directive c) (Directive d) m n h u v = let n = bare_same c.directive d.directive (tail_same h) in λ i. Directive (record { directive = n i })
+same_form (Directive c) (Directive d) m n h u v =
+    let n = bare_same c.directive d.directive (tail_same h) in λ i. Directive (record { directive = n i })
 same_form (Directive c) (DirectiveArgument d) m n h u v = absurd (v.1 u.1)
 same_form (DirectiveArgument c) (Ty d) m n h u v = absurd (v.0 u.0)
 same_form (DirectiveArgument c) (TypeAttribute d) m n h u v = absurd (v.0 u.0)
 same_form (DirectiveArgument c) (FieldArgument d) m n h u v = absurd (v.0 u.0)
 same_form (DirectiveArgument c) (Directive d) m n h u v = absurd (u.1 v.1)
 same_form (DirectiveArgument c) (DirectiveArgument d) m n h u v =
-    let cut = one_cut 40 c.directive.text (c.argument.text ++ codes ":)") d.directive.text (d.argument.text ++ codes ":)") (name_lacks 40 bracket c.directive.text m.0) (name_lacks 40 bracket d.directive.text n.0) (tail_same h) in
+    let cut = one_cut 40 c.directive.text (c.argument.text ++ codes ":)") d.directive.text
+    (d.argument.text ++ codes ":)") (name_lacks 40 bracket c.directive.text m.0)
+    (name_lacks 40 bracket d.directive.text n.0) (tail_same h) in
     let first = bare_same c.directive d.directive cut.0 in
     let second = argument_same c.argument d.argument m.1.0 n.1.0 cut.1 in
     λ i. DirectiveArgument (record { directive = first i; argument = second i })
 
-pub apart : (c d : SchemaCoordinate) → HasNames c → HasNames d → coordinate_text c ≡ coordinate_text d → bare_coordinate c ≡ bare_coordinate d
+pub apart : (c d : SchemaCoordinate) → HasNames c → HasNames d → coordinate_text c ≡ coordinate_text d
+    → bare_coordinate c ≡ bare_coordinate d
 apart c d m n h = same_form c d m n h (marks c m) (subst (HasMarks d) (sym h) (marks d n))
 
 abbrev Stands : NameView → Type 0
@@ -120,18 +166,27 @@ said_names (DirectiveArgument d) s = (s.0.0, (s.1.0.0, tt))
 
 said_bare : (d : SchemaCoordinate) → AllByRecursion Stands (coordinate_parts d) → bare_coordinate d ≡ d
 said_bare (Ty d) s = let a = bare_stands d.ty s.0 in λ i. Ty (record { ty = a i })
-said_bare (TypeAttribute d) s = let a = bare_stands d.ty s.0 in let b = bare_stands d.attribute s.1.0 in λ i. TypeAttribute (record { ty = a i; attribute = b i })
-said_bare (FieldArgument d) s = let a = bare_stands d.ty s.0 in let b = bare_stands d.field s.1.0 in let c = bare_stands d.argument s.1.1.0 in λ i. FieldArgument (record { ty = a i; field = b i; argument = c i })
+said_bare (TypeAttribute d) s =
+    let a = bare_stands d.ty s.0 in let b = bare_stands d.attribute s.1.0 in
+    λ i. TypeAttribute (record { ty = a i; attribute = b i })
+said_bare (FieldArgument d) s =
+    let a = bare_stands d.ty s.0 in let b = bare_stands d.field s.1.0 in
+    let c = bare_stands d.argument s.1.1.0 in
+    λ i. FieldArgument (record { ty = a i; field = b i; argument = c i })
 said_bare (Directive d) s = let a = bare_stands d.directive s.0 in λ i. Directive (record { directive = a i })
-said_bare (DirectiveArgument d) s = let a = bare_stands d.directive s.0 in let b = bare_stands d.argument s.1.0 in λ i. DirectiveArgument (record { directive = a i; argument = b i })
+said_bare (DirectiveArgument d) s =
+    let a = bare_stands d.directive s.0 in let b = bare_stands d.argument s.1.0 in
+    λ i. DirectiveArgument (record { directive = a i; argument = b i })
 
 -- what says a coordinate is in the grammar
 pub said_in_grammar : (t : List ℕ) (c : SchemaCoordinate) → SaysCoordinate t c → IsCoordinateText t
 said_in_grammar t c said = subst IsCoordinateText said.0 (in_grammar c (said_names c said.1))
 
 -- whatever reads the text of a coordinate of valid names answers it, or want of memory
-pub reads : (c : SchemaCoordinate) (result : Result SchemaCoordinate SchemaCoordinateParseError) → HasNames c → IsReadingOf (coordinate_text c) result → IsReadBack c result
-reads c (Ok d) names reading = sym (said_bare d reading.0.1) ∙ apart d c (said_names d reading.0.1) names reading.0.0
+pub reads : (c : SchemaCoordinate) (result : Result SchemaCoordinate SchemaCoordinateParseError) → HasNames c
+    → IsReadingOf (coordinate_text c) result → IsReadBack c result
+reads c (Ok d) names reading =
+    sym (said_bare d reading.0.1) ∙ apart d c (said_names d reading.0.1) names reading.0.0
 reads c (Err Memory) names reading = refl
 reads c (Err InvalidFormat) names reading = absurd (reading.1.0 (in_grammar c names))
 reads c (Err (InvalidName e)) names reading = absurd (reading.1.0 (in_grammar c names))

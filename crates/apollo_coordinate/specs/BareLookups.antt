@@ -23,15 +23,20 @@ pub data BareLookup : Type 0 where
 
 -- the attribute that a coordinate points to, as a value
 abbrev pub bare_attribute_lookup : TypeAttributeLookup → BareLookup
-bare_attribute_lookup (attributes.Field found) = BareLookup.Field (bare_component bare_field_definition found.now)
-bare_attribute_lookup (attributes.InputField found) = BareLookup.InputField (bare_component bare_input_value_definition found.now)
-bare_attribute_lookup (attributes.EnumValue found) = BareLookup.EnumValue (bare_component bare_enum_value_definition found.now)
+bare_attribute_lookup (attributes.Field found) =
+    BareLookup.Field (bare_component bare_field_definition found.now)
+bare_attribute_lookup (attributes.InputField found) =
+    BareLookup.InputField (bare_component bare_input_value_definition found.now)
+bare_attribute_lookup (attributes.EnumValue found) =
+    BareLookup.EnumValue (bare_component bare_enum_value_definition found.now)
 
 -- what a coordinate points to, as a value
 abbrev pub bare_lookup : SchemaCoordinateLookup → BareLookup
 bare_lookup (answers.Ty found) = BareLookup.Ty (bare_extended_type found.now)
 bare_lookup (answers.Directive found) = BareLookup.Directive (bare_directive_definition found.now.value)
 bare_lookup (answers.Field found) = BareLookup.Field (bare_component bare_field_definition found.now)
-bare_lookup (answers.InputField found) = BareLookup.InputField (bare_component bare_input_value_definition found.now)
-bare_lookup (answers.EnumValue found) = BareLookup.EnumValue (bare_component bare_enum_value_definition found.now)
+bare_lookup (answers.InputField found) =
+    BareLookup.InputField (bare_component bare_input_value_definition found.now)
+bare_lookup (answers.EnumValue found) =
+    BareLookup.EnumValue (bare_component bare_enum_value_definition found.now)
 bare_lookup (answers.Argument found) = BareLookup.Argument (bare_input_value_definition found.now.value)

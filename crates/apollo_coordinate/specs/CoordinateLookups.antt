@@ -79,12 +79,15 @@ abbrev pub HasNoAttribute : Schema → NameView → NameView → Type 0
 HasNoAttribute s t a = IsFieldName s t a × (field_at s t a ≡ None)
 
 -- the first definition of an argument of this name, of the field of this name in the type of this name
-abbrev pub field_argument_at : Schema → NameView → NameView → NameView → Option (Option (NodeView InputValueDefinition))
+abbrev pub field_argument_at : Schema → NameView → NameView → NameView
+    → Option (Option (NodeView InputValueDefinition))
 field_argument_at s t f a = option_map (λ d. defined_argument d.node.value.arguments a) (field_at s t f)
 
 -- the first definition of an argument of this name, of the directive of this name
-abbrev pub directive_argument_at : Schema → NameView → NameView → Option (Option (NodeView InputValueDefinition))
-directive_argument_at s d a = option_map (λ definition. defined_argument definition.value.arguments a) (directive_at s d)
+abbrev pub directive_argument_at : Schema → NameView → NameView
+    → Option (Option (NodeView InputValueDefinition))
+directive_argument_at s d a =
+    option_map (λ definition. defined_argument definition.value.arguments a) (directive_at s d)
 
 -- there is no type of the name
 abbrev pub IsMissingType : Types → NameView → SchemaLookupError → Type 0
@@ -99,17 +102,22 @@ IsMissingHere declares type a _ = ⊥
 
 -- there is no type of the name; or it is of a kind that declares what is looked for, but has none of the name; or it is of
 -- another kind
-abbrev pub IsMissingAttribute : (ExtendedType → Bool) → Types → NameView → NameView → SchemaLookupError → Type 0
+abbrev pub IsMissingAttribute : (ExtendedType → Bool) → Types → NameView → NameView
+    → SchemaLookupError → Type 0
 IsMissingAttribute declares types t a (MissingType n) = (n.now ≡ t) × (type_at types t ≡ None)
-IsMissingAttribute declares types t a (MissingAttribute n) = (n.now ≡ a) × (option_map declares (type_at types t) ≡ Some true)
-IsMissingAttribute declares types t a (InvalidType type) = (type_at types t ≡ Some type.now) × (declares type.now ≡ false)
+IsMissingAttribute declares types t a (MissingAttribute n) =
+    (n.now ≡ a) × (option_map declares (type_at types t) ≡ Some true)
+IsMissingAttribute declares types t a (InvalidType type) =
+    (type_at types t ≡ Some type.now) × (declares type.now ≡ false)
 IsMissingAttribute declares types t a _ = ⊥
 
 -- an argument: the attribute is an enum value or an input field; or the field has no argument of the name; or there is no
 -- attribute of the name, as in its own lookup
 abbrev pub IsMissingFieldArgument : Schema → NameView → NameView → NameView → SchemaLookupError → Type 0
-IsMissingFieldArgument s t f a (InvalidArgumentAttribute n) = (n.now ≡ f) × (IsSome (enum_value_at s.types t f) ⊎ IsSome (input_field_at s.types t f))
-IsMissingFieldArgument s t f a (MissingArgument n) = (n.now ≡ a) × IsFieldName s t f × (field_argument_at s t f a ≡ Some None)
+IsMissingFieldArgument s t f a (InvalidArgumentAttribute n) =
+    (n.now ≡ f) × (IsSome (enum_value_at s.types t f) ⊎ IsSome (input_field_at s.types t f))
+IsMissingFieldArgument s t f a (MissingArgument n) =
+    (n.now ≡ a) × IsFieldName s t f × (field_argument_at s t f a ≡ Some None)
 IsMissingFieldArgument s t f a e = HasNoAttribute s t f × IsMissingAttribute declares_attributes s.types t f e
 
 -- there is no directive of the name, which is said in the words for a type
@@ -125,18 +133,24 @@ IsMissingDirectiveArgument s d a e = IsMissingDirective s d e
 -- what a coordinate points to
 abbrev pub PointsTo : Schema → SchemaCoordinate → SchemaCoordinateLookup → Type 0
 PointsTo s (coordinates.Ty c) (answers.Ty type) = type_at s.types c.ty ≡ Some type.now
-PointsTo s (coordinates.TypeAttribute c) (answers.Field f) = IsAttribute s c.ty c.attribute (attributes.Field f)
-PointsTo s (coordinates.TypeAttribute c) (answers.InputField f) = IsAttribute s c.ty c.attribute (attributes.InputField f)
-PointsTo s (coordinates.TypeAttribute c) (answers.EnumValue v) = IsAttribute s c.ty c.attribute (attributes.EnumValue v)
-PointsTo s (coordinates.FieldArgument c) (answers.Argument a) = IsFieldName s c.ty c.field × (field_argument_at s c.ty c.field c.argument ≡ Some (Some a.now))
+PointsTo s (coordinates.TypeAttribute c) (answers.Field f) =
+    IsAttribute s c.ty c.attribute (attributes.Field f)
+PointsTo s (coordinates.TypeAttribute c) (answers.InputField f) =
+    IsAttribute s c.ty c.attribute (attributes.InputField f)
+PointsTo s (coordinates.TypeAttribute c) (answers.EnumValue v) =
+    IsAttribute s c.ty c.attribute (attributes.EnumValue v)
+PointsTo s (coordinates.FieldArgument c) (answers.Argument a) =
+    IsFieldName s c.ty c.field × (field_argument_at s c.ty c.field c.argument ≡ Some (Some a.now))
 PointsTo s (coordinates.Directive c) (answers.Directive d) = directive_at s c.directive ≡ Some d.now
-PointsTo s (coordinates.DirectiveArgument c) (answers.Argument a) = directive_argument_at s c.directive c.argument ≡ Some (Some a.now)
+PointsTo s (coordinates.DirectiveArgument c) (answers.Argument a) =
+    directive_argument_at s c.directive c.argument ≡ Some (Some a.now)
 PointsTo s _ _ = ⊥
 
 -- why a coordinate points to nothing
 abbrev pub PointsToNothing : Schema → SchemaCoordinate → SchemaLookupError → Type 0
 PointsToNothing s (coordinates.Ty c) e = IsMissingType s.types c.ty e
-PointsToNothing s (coordinates.TypeAttribute c) e = HasNoAttribute s c.ty c.attribute × IsMissingAttribute declares_attributes s.types c.ty c.attribute e
+PointsToNothing s (coordinates.TypeAttribute c) e =
+    HasNoAttribute s c.ty c.attribute × IsMissingAttribute declares_attributes s.types c.ty c.attribute e
 PointsToNothing s (coordinates.FieldArgument c) e = IsMissingFieldArgument s c.ty c.field c.argument e
 PointsToNothing s (coordinates.Directive c) e = IsMissingDirective s c.directive e
 PointsToNothing s (coordinates.DirectiveArgument c) e = IsMissingDirectiveArgument s c.directive c.argument e

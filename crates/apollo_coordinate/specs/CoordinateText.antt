@@ -23,7 +23,8 @@ IsAttributeText t = (ty a : List ℕ) × (t ≡ ty ++ (codes "." ++ a)) × IsNam
 
 -- a head of this form with an argument
 abbrev pub IsArgumentText : (List ℕ → Type 0) → List ℕ → Type 0
-IsArgumentText IsHead t = (head a : List ℕ) × (t ≡ head ++ (codes "(" ++ (a ++ codes ":)"))) × IsHead head × IsName a
+IsArgumentText IsHead t =
+    (head a : List ℕ) × (t ≡ head ++ (codes "(" ++ (a ++ codes ":)"))) × IsHead head × IsName a
 
 -- `T.f(a:)`
 abbrev pub IsFieldArgumentText : List ℕ → Type 0
@@ -39,7 +40,8 @@ IsDirectiveArgumentText = IsArgumentText IsDirectiveText
 
 -- the text of a coordinate of any form
 abbrev pub IsCoordinateText : List ℕ → Type 0
-IsCoordinateText t = IsTypeText t ⊎ IsAttributeText t ⊎ IsFieldArgumentText t ⊎ IsDirectiveText t ⊎ IsDirectiveArgumentText t
+IsCoordinateText t =
+    IsTypeText t ⊎ IsAttributeText t ⊎ IsFieldArgumentText t ⊎ IsDirectiveText t ⊎ IsDirectiveArgumentText t
 
 -- the text of a type's coordinate: `T`
 abbrev pub type_coordinate_text : TypeCoordinate → List ℕ
@@ -51,7 +53,8 @@ attribute_coordinate_text c = c.ty.text ++ (codes "." ++ c.attribute.text)
 
 -- the text of the coordinate of a field's argument: `T.f(a:)`
 abbrev pub field_argument_coordinate_text : FieldArgumentCoordinate → List ℕ
-field_argument_coordinate_text c = c.ty.text ++ (codes "." ++ (c.field.text ++ (codes "(" ++ (c.argument.text ++ codes ":)"))))
+field_argument_coordinate_text c =
+    c.ty.text ++ (codes "." ++ (c.field.text ++ (codes "(" ++ (c.argument.text ++ codes ":)"))))
 
 -- the text of a directive's coordinate: `@d`
 abbrev pub directive_coordinate_text : DirectiveCoordinate → List ℕ
@@ -59,7 +62,8 @@ directive_coordinate_text c = codes "@" ++ c.directive.text
 
 -- the text of the coordinate of a directive's argument: `@d(a:)`
 abbrev pub directive_argument_coordinate_text : DirectiveArgumentCoordinate → List ℕ
-directive_argument_coordinate_text c = codes "@" ++ (c.directive.text ++ (codes "(" ++ (c.argument.text ++ codes ":)")))
+directive_argument_coordinate_text c =
+    codes "@" ++ (c.directive.text ++ (codes "(" ++ (c.argument.text ++ codes ":)")))
 
 -- the text of a coordinate of any form
 abbrev pub coordinate_text : SchemaCoordinate → List ℕ
@@ -83,7 +87,8 @@ HasNames c = AllByRecursion (λ n. IsName n.text) (coordinate_parts c)
 
 -- a text says a coordinate: it is its text, and each part is a name, at no location
 abbrev pub SaysCoordinate : List ℕ → SchemaCoordinate → Type 0
-SaysCoordinate t c = (coordinate_text c ≡ t) × AllByRecursion (λ n. IsName n.text × (n.location ≡ None)) (coordinate_parts c)
+SaysCoordinate t c =
+    (coordinate_text c ≡ t) × AllByRecursion (λ n. IsName n.text × (n.location ≡ None)) (coordinate_parts c)
 
 -- a type's coordinate without the location of its name
 abbrev pub bare_type_coordinate : TypeCoordinate → TypeCoordinate
@@ -95,7 +100,8 @@ bare_attribute_coordinate c = record { ty = bare_name c.ty; attribute = bare_nam
 
 -- the coordinate of a field's argument without the locations of its names
 abbrev pub bare_field_argument_coordinate : FieldArgumentCoordinate → FieldArgumentCoordinate
-bare_field_argument_coordinate c = record { ty = bare_name c.ty; field = bare_name c.field; argument = bare_name c.argument }
+bare_field_argument_coordinate c =
+    record { ty = bare_name c.ty; field = bare_name c.field; argument = bare_name c.argument }
 
 -- a directive's coordinate without the location of its name
 abbrev pub bare_directive_coordinate : DirectiveCoordinate → DirectiveCoordinate
@@ -103,7 +109,8 @@ bare_directive_coordinate c = record { directive = bare_name c.directive }
 
 -- the coordinate of a directive's argument without the locations of its names
 abbrev pub bare_directive_argument_coordinate : DirectiveArgumentCoordinate → DirectiveArgumentCoordinate
-bare_directive_argument_coordinate c = record { directive = bare_name c.directive; argument = bare_name c.argument }
+bare_directive_argument_coordinate c =
+    record { directive = bare_name c.directive; argument = bare_name c.argument }
 
 -- a coordinate of any form without the locations of its names
 abbrev pub bare_coordinate : SchemaCoordinate → SchemaCoordinate

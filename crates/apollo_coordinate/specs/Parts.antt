@@ -9,11 +9,11 @@ use Rattle.apollo_coordinate.specs.declared.coordinates.SchemaCoordinate.{Schema
 use Rattle.apollo_coordinate.specs.declared.coordinates.SchemaCoordinate.TheVariants as any
 use Rattle.apollo_coordinate.specs.declared.parse_error.SchemaCoordinateParseError.{SchemaCoordinateParseError}
 use Rattle.apollo_coordinate.specs.declared.parse_error.SchemaCoordinateParseError.TheVariants.{InvalidFormat, InvalidName}
-use Rattle.apollo_coordinate.specs.declared.parts.AttributeParts.{AttributeParts}
-use Rattle.apollo_coordinate.specs.declared.parts.FieldArgumentParts.{FieldArgumentParts}
-use Rattle.apollo_coordinate.specs.declared.parts.DirectiveArgumentParts.{DirectiveArgumentParts}
-use Rattle.apollo_coordinate.specs.declared.parts.Parts.{Parts}
-use Rattle.apollo_coordinate.specs.declared.parts.Parts.TheVariants as parts
+use Rattle.apollo_coordinate.specs.declared.text_parts.AttributeParts.{AttributeParts}
+use Rattle.apollo_coordinate.specs.declared.text_parts.FieldArgumentParts.{FieldArgumentParts}
+use Rattle.apollo_coordinate.specs.declared.text_parts.DirectiveArgumentParts.{DirectiveArgumentParts}
+use Rattle.apollo_coordinate.specs.declared.text_parts.Parts.{Parts}
+use Rattle.apollo_coordinate.specs.declared.text_parts.Parts.TheVariants as parts
 use Rattle.apollo_coordinate.specs.declared.refusal.Refusal.{Refusal}
 use Rattle.apollo_coordinate.specs.declared.refusal.Refusal.TheVariants as refusals
 
@@ -23,11 +23,17 @@ attribute_of p = record { ty = plain_name p.ty.now; attribute = plain_name p.att
 
 -- the coordinate of a field's argument that these parts make
 abbrev pub field_argument_of : FieldArgumentParts → FieldArgumentCoordinate
-field_argument_of p = record { ty = plain_name p.field.ty.now; field = plain_name p.field.attribute.now; argument = plain_name p.argument.now }
+field_argument_of p =
+    record {
+      ty = plain_name p.field.ty.now;
+      field = plain_name p.field.attribute.now;
+      argument = plain_name p.argument.now;
+    }
 
 -- the coordinate of a directive's argument that these parts make
 abbrev pub directive_argument_of : DirectiveArgumentParts → DirectiveArgumentCoordinate
-directive_argument_of p = record { directive = plain_name p.directive.now; argument = plain_name p.argument.now }
+directive_argument_of p =
+    record { directive = plain_name p.directive.now; argument = plain_name p.argument.now }
 
 -- the coordinate of any form that these parts make
 abbrev pub coordinate_of : Parts → SchemaCoordinate

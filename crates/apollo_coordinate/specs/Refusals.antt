@@ -36,23 +36,32 @@ IsNoNames first second e = IsNoName first e ⊎ (IsName first × IsNoName second
 
 -- `T.a`: the text has no `.`, or one of the parts before and after the first is no name
 abbrev pub IsNoAttribute : List ℕ → SchemaCoordinateParseError → Type 0
-IsNoAttribute t e = (Lacks 46 t × (e ≡ InvalidFormat)) ⊎ ((ty a : List ℕ) × IsCut 46 t ty a × IsNoNames ty a e)
+IsNoAttribute t e =
+    (Lacks 46 t × (e ≡ InvalidFormat)) ⊎ ((ty a : List ℕ) × IsCut 46 t ty a × IsNoNames ty a e)
 
 -- `@d`: the text doesn't begin with `@`, or what follows is no name
 abbrev pub IsNoDirective : List ℕ → SchemaCoordinateParseError → Type 0
-IsNoDirective t e = (((d : List ℕ) → t ≢ codes "@" ++ d) × (e ≡ InvalidFormat)) ⊎ ((d : List ℕ) × (t ≡ codes "@" ++ d) × IsNoName d e)
+IsNoDirective t e =
+    (((d : List ℕ) → t ≢ codes "@" ++ d) × (e ≡ InvalidFormat)) ⊎ ((d : List ℕ) × (t ≡ codes "@" ++ d)
+    × IsNoName d e)
 
 -- `a:)`: something else than `)` follows the first `:`, or there is none; or what stands before is no name
 abbrev pub IsNoArgument : List ℕ → SchemaCoordinateParseError → Type 0
-IsNoArgument t e = (((a : List ℕ) → Lacks 58 a → t ≢ a ++ codes ":)") × (e ≡ InvalidFormat)) ⊎ ((a : List ℕ) × Lacks 58 a × (t ≡ a ++ codes ":)") × IsNoName a e)
+IsNoArgument t e =
+    (((a : List ℕ) → Lacks 58 a → t ≢ a ++ codes ":)") × (e ≡ InvalidFormat)) ⊎ ((a : List ℕ) × Lacks 58 a
+    × (t ≡ a ++ codes ":)") × IsNoName a e)
 
 -- what stands before and after the first `(`, the second only where the first is as it should be
-abbrev pub IsNoPair : (List ℕ → Type 0) → (List ℕ → SchemaCoordinateParseError → Type 0) → List ℕ → List ℕ → SchemaCoordinateParseError → Type 0
+abbrev pub IsNoPair : (List ℕ → Type 0) → (List ℕ → SchemaCoordinateParseError → Type 0) → List ℕ → List ℕ
+    → SchemaCoordinateParseError → Type 0
 IsNoPair IsHead IsNoHead head rest e = IsNoHead head e ⊎ (IsHead head × IsNoArgument rest e)
 
 -- a head with an argument: there is no `(`, or one of the two round the first is refused
-abbrev pub IsNoArgumentOf : (List ℕ → Type 0) → (List ℕ → SchemaCoordinateParseError → Type 0) → List ℕ → SchemaCoordinateParseError → Type 0
-IsNoArgumentOf IsHead IsNoHead t e = (Lacks 40 t × (e ≡ InvalidFormat)) ⊎ ((head rest : List ℕ) × IsCut 40 t head rest × IsNoPair IsHead IsNoHead head rest e)
+abbrev pub IsNoArgumentOf : (List ℕ → Type 0) → (List ℕ → SchemaCoordinateParseError → Type 0) → List ℕ
+    → SchemaCoordinateParseError → Type 0
+IsNoArgumentOf IsHead IsNoHead t e =
+    (Lacks 40 t × (e ≡ InvalidFormat)) ⊎ ((head rest : List ℕ) × IsCut 40 t head rest
+    × IsNoPair IsHead IsNoHead head rest e)
 
 -- `T.f(a:)`
 abbrev pub IsNoFieldArgument : List ℕ → SchemaCoordinateParseError → Type 0

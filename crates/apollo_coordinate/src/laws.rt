@@ -21,27 +21,35 @@ use graphql_ast::laws::equality_of_the_type_system;
 /// coordinate, without the locations of its names, or want of memory; no text belongs to two such coordinates; and each text
 /// that says a coordinate is in the grammar.
 pub fn coordinates()
-    ensures read { (c : SchemaCoordinate) (result : Result SchemaCoordinate SchemaCoordinateParseError) → HasNames c → IsReadingOf (coordinate_text c) result → IsReadBack c result }
-    ensures apart { (c d : SchemaCoordinate) → HasNames c → HasNames d → coordinate_text c ≡ coordinate_text d → bare_coordinate c ≡ bare_coordinate d }
+    ensures read { (c : SchemaCoordinate) (result : Result SchemaCoordinate SchemaCoordinateParseError)
+        → HasNames c → IsReadingOf (coordinate_text c) result → IsReadBack c result }
+    ensures apart { (c d : SchemaCoordinate) → HasNames c → HasNames d → coordinate_text c ≡ coordinate_text d
+        → bare_coordinate c ≡ bare_coordinate d }
     ensures said { (t : List ℕ) (c : SchemaCoordinate) → SaysCoordinate t c → IsCoordinateText t }
 {}
 
 /// What one form refuses, other than for want of memory, is no text of that form.
 pub fn refused_texts()
     ensures ty { (t : List ℕ) (e : SchemaCoordinateParseError) → IsNoName t e → ¬ IsTypeText t }
-    ensures attribute { (t : List ℕ) (e : SchemaCoordinateParseError) → IsNoAttribute t e → ¬ IsAttributeText t }
-    ensures field_argument { (t : List ℕ) (e : SchemaCoordinateParseError) → IsNoFieldArgument t e → ¬ IsFieldArgumentText t }
-    ensures directive { (t : List ℕ) (e : SchemaCoordinateParseError) → IsNoDirective t e → ¬ IsDirectiveText t }
-    ensures directive_argument { (t : List ℕ) (e : SchemaCoordinateParseError) → IsNoDirectiveArgument t e → ¬ IsDirectiveArgumentText t }
+    ensures attribute { (t : List ℕ) (e : SchemaCoordinateParseError) → IsNoAttribute t e
+        → ¬ IsAttributeText t }
+    ensures field_argument { (t : List ℕ) (e : SchemaCoordinateParseError) → IsNoFieldArgument t e
+        → ¬ IsFieldArgumentText t }
+    ensures directive { (t : List ℕ) (e : SchemaCoordinateParseError) → IsNoDirective t e
+        → ¬ IsDirectiveText t }
+    ensures directive_argument { (t : List ℕ) (e : SchemaCoordinateParseError) → IsNoDirectiveArgument t e
+        → ¬ IsDirectiveArgumentText t }
 {}
 
 /// Coordinates are equal exactly where they are one without the locations of their names.
 pub fn equality_of_coordinates()
     ensures ty { ComparesBy ⟦<TypeCoordinate as PartialEq>⟧.eq bare_type_coordinate }
     ensures attribute { ComparesBy ⟦<TypeAttributeCoordinate as PartialEq>⟧.eq bare_attribute_coordinate }
-    ensures field_argument { ComparesBy ⟦<FieldArgumentCoordinate as PartialEq>⟧.eq bare_field_argument_coordinate }
+    ensures field_argument { ComparesBy ⟦<FieldArgumentCoordinate as PartialEq>⟧.eq
+        bare_field_argument_coordinate }
     ensures directive { ComparesBy ⟦<DirectiveCoordinate as PartialEq>⟧.eq bare_directive_coordinate }
-    ensures directive_argument { ComparesBy ⟦<DirectiveArgumentCoordinate as PartialEq>⟧.eq bare_directive_argument_coordinate }
+    ensures directive_argument { ComparesBy ⟦<DirectiveArgumentCoordinate as PartialEq>⟧.eq
+        bare_directive_argument_coordinate }
     ensures coordinate { ComparesBy ⟦<SchemaCoordinate as PartialEq>⟧.eq bare_coordinate }
 {}
 

@@ -2,14 +2,14 @@
 #![tactic(auto)]
 
 pub mod coordinates;
+mod from_text;
 pub mod laws;
 pub mod lookup_answers;
 mod lookups;
 pub mod parse_error;
-mod parts;
 mod printing;
-mod reading;
 mod refusal;
+mod text_parts;
 
 pub use crate::coordinates::{
     DirectiveArgumentCoordinate, DirectiveCoordinate, FieldArgumentCoordinate, SchemaCoordinate,

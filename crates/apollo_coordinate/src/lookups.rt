@@ -98,7 +98,8 @@ fn find_attribute<'coord, 'schema>(
 ) -> Result<TypeAttributeLookup<'schema>, SchemaLookupError<'coord, 'schema>>
     ensures found { IfOk result (IsAttribute schema.now ty.now attribute.now) }
     ensures none { OnErr result (HasNoAttribute schema.now ty.now attribute.now) }
-    ensures missing { IfErr result (IsMissingAttribute declares_attributes schema.now.types ty.now attribute.now) }
+    ensures missing { IfErr result
+        (IsMissingAttribute declares_attributes schema.now.types ty.now attribute.now) }
 {
     let found = find_type(ty, schema)?;
     if let Some(value) = declared_enum_value(found, attribute) {
@@ -153,7 +154,8 @@ impl TypeAttributeCoordinate {
     ) -> Result<TypeAttributeLookup<'schema>, SchemaLookupError<'coord, 'schema>>
         ensures found { IfOk result (IsAttribute schema.now self.now.ty self.now.attribute) }
         ensures none { OnErr result (HasNoAttribute schema.now self.now.ty self.now.attribute) }
-        ensures missing { IfErr result (IsMissingAttribute declares_attributes schema.now.types self.now.ty self.now.attribute) }
+        ensures missing { IfErr result
+            (IsMissingAttribute declares_attributes schema.now.types self.now.ty self.now.attribute) }
     {
         find_attribute(&self.ty, &self.attribute, schema)
     }
@@ -167,9 +169,11 @@ impl TypeAttributeCoordinate {
         &'coord self,
         schema: &'schema Schema,
     ) -> Result<&'schema Component<FieldDefinition>, SchemaLookupError<'coord, 'schema>>
-        ensures found { IfOk result (λ field. field_at schema.now self.now.ty self.now.attribute ≡ Some field.now) }
+        ensures found { IfOk result (λ field. field_at schema.now self.now.ty self.now.attribute
+            ≡ Some field.now) }
         ensures none { OnErr result (field_at schema.now self.now.ty self.now.attribute ≡ None) }
-        ensures missing { IfErr result (IsMissingAttribute declares_fields schema.now.types self.now.ty self.now.attribute) }
+        ensures missing { IfErr result
+            (IsMissingAttribute declares_fields schema.now.types self.now.ty self.now.attribute) }
     {
         match schema.type_field(&self.ty, &self.attribute) {
             Ok(field) => Ok(field),
@@ -189,9 +193,11 @@ impl TypeAttributeCoordinate {
         &'coord self,
         schema: &'schema Schema,
     ) -> Result<&'schema Component<InputValueDefinition>, SchemaLookupError<'coord, 'schema>>
-        ensures found { IfOk result (λ field. input_field_at schema.now.types self.now.ty self.now.attribute ≡ Some field.now) }
+        ensures found { IfOk result (λ field. input_field_at schema.now.types self.now.ty self.now.attribute
+            ≡ Some field.now) }
         ensures none { OnErr result (input_field_at schema.now.types self.now.ty self.now.attribute ≡ None) }
-        ensures missing { IfErr result (IsMissingAttribute is_input_object schema.now.types self.now.ty self.now.attribute) }
+        ensures missing { IfErr result
+            (IsMissingAttribute is_input_object schema.now.types self.now.ty self.now.attribute) }
     {
         let ty = find_type(&self.ty, schema)?;
         match declared_input_field(ty, &self.attribute) {
@@ -209,9 +215,11 @@ impl TypeAttributeCoordinate {
         &'coord self,
         schema: &'schema Schema,
     ) -> Result<&'schema Component<EnumValueDefinition>, SchemaLookupError<'coord, 'schema>>
-        ensures found { IfOk result (λ value. enum_value_at schema.now.types self.now.ty self.now.attribute ≡ Some value.now) }
+        ensures found { IfOk result (λ value. enum_value_at schema.now.types self.now.ty self.now.attribute
+            ≡ Some value.now) }
         ensures none { OnErr result (enum_value_at schema.now.types self.now.ty self.now.attribute ≡ None) }
-        ensures missing { IfErr result (IsMissingAttribute is_enum schema.now.types self.now.ty self.now.attribute) }
+        ensures missing { IfErr result
+            (IsMissingAttribute is_enum schema.now.types self.now.ty self.now.attribute) }
     {
         let ty = find_type(&self.ty, schema)?;
         match declared_enum_value(ty, &self.attribute) {
@@ -232,8 +240,11 @@ impl FieldArgumentCoordinate {
         schema: &'schema Schema,
     ) -> Result<&'schema Node<InputValueDefinition>, SchemaLookupError<'coord, 'schema>>
         ensures field { IfOk result (λ _. IsFieldName schema.now self.now.ty self.now.field) }
-        ensures found { IfOk result (λ argument. field_argument_at schema.now self.now.ty self.now.field self.now.argument ≡ Some (Some argument.now)) }
-        ensures missing { IfErr result (IsMissingFieldArgument schema.now self.now.ty self.now.field self.now.argument) }
+        ensures found { IfOk result
+            (λ argument. field_argument_at schema.now self.now.ty self.now.field self.now.argument
+            ≡ Some (Some argument.now)) }
+        ensures missing { IfErr result
+            (IsMissingFieldArgument schema.now self.now.ty self.now.field self.now.argument) }
     {
         match find_attribute(&self.ty, &self.field, schema)? {
             TypeAttributeLookup::Field(field) => match field.argument_by_name(&self.argument) {
@@ -270,8 +281,11 @@ impl DirectiveArgumentCoordinate {
         &'coord self,
         schema: &'schema Schema,
     ) -> Result<&'schema Node<InputValueDefinition>, SchemaLookupError<'coord, 'schema>>
-        ensures found { IfOk result (λ argument. directive_argument_at schema.now self.now.directive self.now.argument ≡ Some (Some argument.now)) }
-        ensures missing { IfErr result (IsMissingDirectiveArgument schema.now self.now.directive self.now.argument) }
+        ensures found { IfOk result
+            (λ argument. directive_argument_at schema.now self.now.directive self.now.argument
+            ≡ Some (Some argument.now)) }
+        ensures missing { IfErr result
+            (IsMissingDirectiveArgument schema.now self.now.directive self.now.argument) }
     {
         let directive = find_directive(&self.directive, schema)?;
         match directive.argument_by_name(&self.argument) {

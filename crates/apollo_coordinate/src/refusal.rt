@@ -21,7 +21,8 @@ impl<'a> Refusal<'a> {
     /// The error that is answered, with a copy of the part that is no name; or want of memory, where there is none for that.
     pub(crate) fn into_error(self, alloc: Global) -> SchemaCoordinateParseError
         ensures answered { WhenRefused (λ error. error ≡ error_of self.entry) result }
-        ensures format { error_of self.entry ≡ SchemaCoordinateParseError.InvalidFormat → result ≡ SchemaCoordinateParseError.InvalidFormat }
+        ensures format { error_of self.entry ≡ SchemaCoordinateParseError.InvalidFormat
+            → result ≡ SchemaCoordinateParseError.InvalidFormat }
     {
         match self {
             Refusal::Format => SchemaCoordinateParseError::InvalidFormat,

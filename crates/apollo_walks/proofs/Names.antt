@@ -21,7 +21,8 @@ Among-split n [] ys h = inr h
 Among-split n (x ∷ xs) ys (inl e) = inl (inl e)
 Among-split n (x ∷ xs) ys (inr h) = elim (Among-split n xs ys h) [ inl a ↦ inl (inr a) | inr b ↦ inr b ]
 
-pub with_names-append : (xs ys : List (List ℕ)) (before : Names) → with_names (xs ++ ys) before ≡ with_names ys (with_names xs before)
+pub with_names-append : (xs ys : List (List ℕ)) (before : Names) → with_names (xs ++ ys) before
+    ≡ with_names ys (with_names xs before)
 with_names-append [] ys before = refl
 with_names-append (x ∷ xs) ys before = with_names-append xs ys (with_name x before)
 
@@ -33,16 +34,21 @@ with_name-in n q before (inr e) = or_left (same n q) (before q) (ap (same n) e �
 
 with_name-cases : (n q : List ℕ) (before : Names) → with_name n before q ≡ true → (before q ≡ true) ⊎ (q ≡ n)
 unfolding with_name
-with_name-cases n q before h = elim (or_cases (same n q) (before q) h) [ inl e ↦ inr (sym (same-true n q e)) | inr o ↦ inl o ]
+with_name-cases n q before h =
+    elim (or_cases (same n q) (before q) h) [ inl e ↦ inr (sym (same-true n q e)) | inr o ↦ inl o ]
 
-pub with_names-in : (ns : List (List ℕ)) (q : List ℕ) (before : Names) → (before q ≡ true) ⊎ Among q ns → with_names ns before q ≡ true
+pub with_names-in : (ns : List (List ℕ)) (q : List ℕ) (before : Names) → (before q ≡ true) ⊎ Among q ns
+    → with_names ns before q ≡ true
 with_names-in [] q before (inl h) = h
 with_names-in [] q before (inr h) = absurd h
-with_names-in (n ∷ ns) q before (inl h) = with_names-in ns q (with_name n before) (inl (with_name-in n q before (inl h)))
-with_names-in (n ∷ ns) q before (inr (inl e)) = with_names-in ns q (with_name n before) (inl (with_name-in n q before (inr e)))
+with_names-in (n ∷ ns) q before (inl h) =
+    with_names-in ns q (with_name n before) (inl (with_name-in n q before (inl h)))
+with_names-in (n ∷ ns) q before (inr (inl e)) =
+    with_names-in ns q (with_name n before) (inl (with_name-in n q before (inr e)))
 with_names-in (n ∷ ns) q before (inr (inr h)) = with_names-in ns q (with_name n before) (inr h)
 
-pub with_names-cases : (ns : List (List ℕ)) (q : List ℕ) (before : Names) → with_names ns before q ≡ true → (before q ≡ true) ⊎ Among q ns
+pub with_names-cases : (ns : List (List ℕ)) (q : List ℕ) (before : Names) → with_names ns before q ≡ true
+    → (before q ≡ true) ⊎ Among q ns
 with_names-cases [] q before h = inl h
 with_names-cases (n ∷ ns) q before h =
     elim (with_names-cases ns q (with_name n before) h) [
@@ -50,7 +56,8 @@ with_names-cases (n ∷ ns) q before h =
       | inr among ↦ inr (inr among)
     ]
 
-pub EachOnce-append : {A : Type 0} (xs ys : List A) → EachOnce xs → EachOnce ys → ((a : A) → Among a xs → Among a ys → ⊥) → EachOnce (xs ++ ys)
+pub EachOnce-append : {A : Type 0} (xs ys : List A) → EachOnce xs → EachOnce ys
+    → ((a : A) → Among a xs → Among a ys → ⊥) → EachOnce (xs ++ ys)
 EachOnce-append [] ys one two apart = two
 EachOnce-append (x ∷ xs) ys one two apart = (
   λ h. elim (Among-split x xs ys h) [ inl among ↦ one.0 among | inr among ↦ apart x (inl refl) among ],

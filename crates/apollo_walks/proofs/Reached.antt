@@ -21,7 +21,8 @@ module _ {A : Type 0} (a : A) where
   Among-at (x ∷ xs) (suc k) less at = inr (Among-at xs k (omega (arith, less)) at)
 
   pub Among-shuffled : (xs ys : List A) → IsPermutation xs ys → Among a xs → Among a ys
-  Among-shuffled xs ys shuffled h = let c = Contains-permutation xs ys a shuffled (Among-contains xs h) in Among-at ys c.0 c.1 c.2
+  Among-shuffled xs ys shuffled h =
+      let c = Contains-permutation xs ys a shuffled (Among-contains xs h) in Among-at ys c.0 c.1 c.2
 
   module _ {X : Type 0} (f : X → List A) where
     -- what stands in one of the lists that are joined
@@ -37,31 +38,38 @@ module _ {A : Type 0} (a : A) where
     joined-Among (y ∷ xs) x (inl e) h = Among-left a (f y) (flat_map f xs) (subst (λ k. Among a (f k)) e h)
     joined-Among (y ∷ xs) x (inr later) h = Among-right a (f y) (flat_map f xs) (joined-Among xs x later h)
 
-module _ {F : Type 0} (fragments : Fragments F) (f : F) (s : Selections F) (fields : List F) (w : IsWalk fragments s fields) where
-  at-found : (found : Option (Selections F)) → Among f (at_fragment [] occurrences found) → (set : Selections F) × (found ≡ Some set) × Among f (occurrences set)
+module _ {F : Type 0} (fragments : Fragments F) (f : F) (s : Selections F) (fields : List F)
+    (w : IsWalk fragments s fields) where
+  at-found : (found : Option (Selections F)) → Among f (at_fragment [] occurrences found)
+      → (set : Selections F) × (found ≡ Some set) × Among f (occurrences set)
   at-found None h = absurd h
   at-found (Some set) h = (set, refl, h)
 
   pub in-walk : Among f fields → IsReached fragments s f
   in-walk h =
-      elim (Among-split f (occurrences s) (occurrences_in fragments w.opened) (Among-shuffled f fields (reachable_occurrences fragments s w.opened) w.each_once h)) [
+      elim (Among-split f (occurrences s) (occurrences_in fragments w.opened)
+      (Among-shuffled f fields (reachable_occurrences fragments s w.opened) w.each_once h)) [
         | inl own ↦ inl own
         | inr inside ↦ (
-            let r = Among-joined f (λ n. at_fragment [] occurrences (fragment_of fragments n)) w.opened inside in
+            let r = Among-joined f (λ n. at_fragment [] occurrences (fragment_of fragments n)) w.opened
+            inside in
             let at = at-found (fragment_of fragments r.0) r.2 in
             inr (r.0, at.0, w.reachable.sound r.0 r.1, at.1, at.2))
       ]
 
   pub walk-has : IsReached fragments s f → Among f fields
   walk-has reached =
-      Among-shuffled f (reachable_occurrences fragments s w.opened) fields (IsPermutation-sym fields (reachable_occurrences fragments s w.opened) w.each_once)
+      Among-shuffled f (reachable_occurrences fragments s w.opened) fields
+      (IsPermutation-sym fields (reachable_occurrences fragments s w.opened) w.each_once)
       (elim reached [
         | inl own ↦ Among-left f (occurrences s) (occurrences_in fragments w.opened) own
         | inr (n, set, leads, found, h) ↦ Among-right f (occurrences s) (occurrences_in fragments w.opened)
-            (joined-Among f (λ n. at_fragment [] occurrences (fragment_of fragments n)) w.opened n (w.reachable.complete n leads) (rw found h))
+            (joined-Among f (λ n. at_fragment [] occurrences (fragment_of fragments n)) w.opened n
+            (w.reachable.complete n leads) (rw found h))
       ])
 
-pub reachable-within : {F : Type 0} (fragments : Fragments F) (s : Selections F) (set : Names) → IsClosed fragments s set → (n : List ℕ) → Reachable fragments s n → set n ≡ true
+pub reachable-within : {F : Type 0} (fragments : Fragments F) (s : Selections F) (set : Names)
+    → IsClosed fragments s set → (n : List ℕ) → Reachable fragments s n → set n ≡ true
 reachable-within fragments s set closed n (spread_at_the_start among found) = closed.start n _ among found
 reachable-within fragments s set closed n (spread_in_a_fragment {m = m} before at among found) =
     closed.further m n _ _ (reachable-within fragments s set closed m before) at among found

@@ -14,30 +14,45 @@ use Rattle.apollo_walks.proofs.Whole.{opened-among, order-reaches, order-walk}
 
 module _ {F : Type 0} (fragments : Fragments F) where
   -- there is one that is to come
-  pub what_is_to_come : (before : Names) (lists : List (Selections F)) → (x : ToCome F) × IsToCome fragments before lists x
+  pub what_is_to_come : (before : Names) (lists : List (Selections F))
+      → (x : ToCome F) × IsToCome fragments before lists x
   what_is_to_come before lists =
       let o = ordered fragments before (joined lists) in
-      let x : ToCome F = record { fields = o.fields; opened = with_names o.opened before; turns = turns_of_lists lists + total whole_turns fragments o.opened } in
+      let x : ToCome F = record {
+        fields = o.fields;
+        opened = with_names o.opened before;
+        turns = turns_of_lists lists + total whole_turns fragments o.opened;
+      } in
       (x, record { names = o.opened; order = o.order; opened = refl; turns = refl })
 
   -- and no other
-  pub one-to-come : (before : Names) (lists : List (Selections F)) (x y : ToCome F) → IsToCome fragments before lists x → IsToCome fragments before lists y → x ≡ y
+  pub one-to-come : (before : Names) (lists : List (Selections F)) (x y : ToCome F)
+      → IsToCome fragments before lists x → IsToCome fragments before lists y → x ≡ y
   one-to-come before lists x y p q =
       let same = order-determined fragments p.order q.order in
-      let opened : x.opened ≡ y.opened = p.opened ∙ ap (λ (ns : List (List ℕ)). with_names ns before) same.1 ∙ sym q.opened in
-      let turns : x.turns ≡ y.turns = p.turns ∙ ap (λ (ns : List (List ℕ)). turns_of_lists lists + total whole_turns fragments ns) same.1 ∙ sym q.turns in
+      let opened : x.opened ≡ y.opened = p.opened ∙ ap (λ (ns : List (List ℕ)). with_names ns before) same.1
+      ∙ sym q.opened in
+      let turns : x.turns ≡ y.turns = p.turns
+      ∙ ap (λ (ns : List (List ℕ)). turns_of_lists lists + total whole_turns fragments ns) same.1
+      ∙ sym q.turns in
       λ i. record { fields = same.0 i; opened = opened i; turns = turns i }
 
   -- two lists as one, before a third
   regrouped : {before : Names} {p q t : Selections F} {fs : List F} {ns : List (List ℕ)}
-      → Order fragments before (inline p (inline q t)) fs ns → Order fragments before (inline (inline p q) t) fs ns
-  regrouped {before = before} {t = t} (of_inline {first = xs} {opened = ms} a (of_inline {first = ys} {others = zs} {opened = ks} {more = js} b c)) =
-      let third : Order fragments (with_names (ms ++ ks) before) t zs js = rw (with_names-append ms ks before) c in
+      → Order fragments before (inline p (inline q t)) fs ns
+      → Order fragments before (inline (inline p q) t) fs ns
+  regrouped {before = before} {t = t}
+      (of_inline {first = xs} {opened = ms} a
+      (of_inline {first = ys} {others = zs} {opened = ks} {more = js} b c)) =
+      let third : Order fragments (with_names (ms ++ ks) before) t zs js =
+      rw (with_names-append ms ks before) c in
       rw (← append_assoc xs ys zs, ← append_assoc ms ks js) (of_inline (of_inline a b) third)
 
   -- a list is opened if there is something in it
-  over-joined : {before : Names} {fs : List F} {ns : List (List ℕ)} (below : Selections F) (ss : List (Selections F)) → Order fragments before (joined (over below ss)) fs ns
-      → Order fragments before (inline below (joined ss)) fs ns × (turns_of_lists (over below ss) ≡ lists_below below + own_turns below + turns_of_lists ss)
+  over-joined : {before : Names} {fs : List F} {ns : List (List ℕ)} (below : Selections F)
+      (ss : List (Selections F)) → Order fragments before (joined (over below ss)) fs ns
+      → Order fragments before (inline below (joined ss)) fs ns
+      × (turns_of_lists (over below ss) ≡ lists_below below + own_turns below + turns_of_lists ss)
   over-joined none ss order = (of_inline of_none order, omega arith)
   over-joined (field f below rest) ss order = (order, omega arith)
   over-joined (spread n rest) ss order = (order, omega arith)
@@ -45,42 +60,76 @@ module _ {F : Type 0} (fragments : Fragments F) where
 
   module _ (before : Names) where
     field-first : {f : F} {below rest t : Selections F} {fs : List F} {ns : List (List ℕ)}
-        → Order fragments before (inline (inline below rest) t) fs ns → Order fragments before (inline (field f below rest) t) (f ∷ fs) ns
+        → Order fragments before (inline (inline below rest) t) fs ns
+        → Order fragments before (inline (field f below rest) t) (f ∷ fs) ns
     field-first (of_inline a b) = of_inline (of_field a) b
 
-    passed-first : {n : List ℕ} {rest t : Selections F} {fs : List F} {ns : List (List ℕ)} → (before n ≡ true) ⊎ (fragment_of fragments n ≡ None)
-        → Order fragments before (inline rest t) fs ns → Order fragments before (inline (spread n rest) t) fs ns
+    passed-first : {n : List ℕ} {rest t : Selections F} {fs : List F} {ns : List (List ℕ)}
+        → (before n ≡ true) ⊎ (fragment_of fragments n ≡ None)
+        → Order fragments before (inline rest t) fs ns
+        → Order fragments before (inline (spread n rest) t) fs ns
     passed-first why (of_inline a b) = of_inline (of_passed why a) b
 
-    fragment-first : {n : List ℕ} {set rest t : Selections F} {fs : List F} {ns : List (List ℕ)} → before n ≡ false → fragment_of fragments n ≡ Some set
-        → Order fragments (with_name n before) (inline (inline set rest) t) fs ns → Order fragments before (inline (spread n rest) t) fs (n ∷ ns)
+    fragment-first : {n : List ℕ} {set rest t : Selections F} {fs : List F} {ns : List (List ℕ)}
+        → before n ≡ false → fragment_of fragments n ≡ Some set
+        → Order fragments (with_name n before) (inline (inline set rest) t) fs ns
+        → Order fragments before (inline (spread n rest) t) fs (n ∷ ns)
     fragment-first closed found (of_inline a b) = of_inline (of_fragment closed found a) b
 
-    opens : (n : List ℕ) (set rest : Selections F) (ss : List (Selections F)) (x : ToCome F) → before n ≡ false → fragment_of fragments n ≡ Some set
-        → IsToCome fragments (with_name n before) (set ∷ rest ∷ ss) x → IsToCome fragments before (spread n rest ∷ ss) (a_turn_before x)
+    opens : (n : List ℕ) (set rest : Selections F) (ss : List (Selections F)) (x : ToCome F)
+        → before n ≡ false → fragment_of fragments n ≡ Some set
+        → IsToCome fragments (with_name n before) (set ∷ rest ∷ ss) x
+        → IsToCome fragments before (spread n rest ∷ ss) (a_turn_before x)
     opens n set rest ss x closed found p =
         let inside = ap (at_fragment 0 whole_turns) found in
         let first = sum_by-cons (λ m. at_fragment 0 whole_turns (fragment_of fragments m)) n p.names in
-        record { names = n ∷ p.names; order = fragment-first closed found (regrouped p.order); opened = p.opened; turns = omega (arith, p.turns, inside, first) }
+        record {
+          names = n ∷ p.names;
+          order = fragment-first closed found (regrouped p.order);
+          opened = p.opened;
+          turns = omega (arith, p.turns, inside, first);
+        }
 
     pub turn-by-turn : AreTurnByTurn fragments before
     turn-by-turn = record {
       ends = record { names = []; order = of_none; opened = refl; turns = refl };
-      closes = λ ss x p. record { names = p.names; order = of_inline of_none p.order; opened = p.opened; turns = omega (arith, p.turns) };
+      closes = λ ss x p. record {
+        names = p.names;
+        order = of_inline of_none p.order;
+        opened = p.opened;
+        turns = omega (arith, p.turns);
+      };
       gives = λ f below rest ss x p.
           let over_it = over-joined below (rest ∷ ss) p.order in
-          record { names = p.names; order = field-first (regrouped over_it.0); opened = p.opened; turns = omega (arith, p.turns, over_it.1) };
-      goes_inside = λ inner rest ss x p. record { names = p.names; order = regrouped p.order; opened = p.opened; turns = omega (arith, p.turns) };
-      passes = λ n rest ss x why p. record { names = p.names; order = passed-first why p.order; opened = p.opened; turns = omega (arith, p.turns) };
+          record {
+            names = p.names;
+            order = field-first (regrouped over_it.0);
+            opened = p.opened;
+            turns = omega (arith, p.turns, over_it.1);
+          };
+      goes_inside = λ inner rest ss x p. record {
+        names = p.names;
+        order = regrouped p.order;
+        opened = p.opened;
+        turns = omega (arith, p.turns);
+      };
+      passes = λ n rest ss x why p. record {
+        names = p.names;
+        order = passed-first why p.order;
+        opened = p.opened;
+        turns = omega (arith, p.turns);
+      };
       opens = opens;
       goes_on = λ s ss x p. omega (arith, p.turns);
     }
 
   -- a walk begins with one list
-  alone : {s : Selections F} {fs : List F} {ns : List (List ℕ)} → Order fragments no_names (inline s none) fs ns → Order fragments no_names s fs ns
+  alone : {s : Selections F} {fs : List F} {ns : List (List ℕ)}
+      → Order fragments no_names (inline s none) fs ns → Order fragments no_names s fs ns
   alone (of_inline {first = fs} {opened = ns} a of_none) = rw (append-nil fs, append-nil ns) a
 
-  pub begins : (s : Selections F) (x : ToCome F) → IsToCome fragments no_names (s ∷ []) x → IsAllToCome fragments s x
+  pub begins : (s : Selections F) (x : ToCome F) → IsToCome fragments no_names (s ∷ []) x
+      → IsAllToCome fragments s x
   begins s x p =
       let order = alone p.order in
       let reaches = order-reaches fragments s x.fields p.names order in

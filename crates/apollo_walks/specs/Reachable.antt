@@ -16,17 +16,21 @@ EachOnce (x ∷ xs) = (Among x xs → ⊥) × EachOnce xs
 -- the names that s leads to: the least set that has the names of fragments which are spread in s, and with each fragment in it
 -- those which are spread in that fragment
 pub data Reachable {F : Type 0} (fragments : Fragments F) (s : Selections F) : List ℕ → Type 0 where
-  spread_at_the_start : {n : List ℕ} {set : Selections F} → Among n (spread_names s) → fragment_of fragments n ≡ Some set → Reachable fragments s n
-  spread_in_a_fragment : {m n : List ℕ} {at set : Selections F} → Reachable fragments s m → fragment_of fragments m ≡ Some at
+  spread_at_the_start : {n : List ℕ} {set : Selections F} → Among n (spread_names s) → fragment_of fragments n
+      ≡ Some set → Reachable fragments s n
+  spread_in_a_fragment : {m n : List ℕ} {at set : Selections F} → Reachable fragments s m
+      → fragment_of fragments m ≡ Some at
       → Among n (spread_names at) → fragment_of fragments n ≡ Some set → Reachable fragments s n
 
 module _ {F : Type 0} where
   -- a set of names that has those
   pub record IsClosed (fragments : Fragments F) (s : Selections F) (set : Names) : Type 0 where
     -- it has the names of fragments that are spread at the start
-    pub start : (n : List ℕ) (inner : Selections F) → Among n (spread_names s) → fragment_of fragments n ≡ Some inner → set n ≡ true
+    pub start : (n : List ℕ) (inner : Selections F) → Among n (spread_names s) → fragment_of fragments n
+        ≡ Some inner → set n ≡ true
     -- and with each fragment in it those that are spread in that
-    pub further : (m n : List ℕ) (outer inner : Selections F) → set m ≡ true → fragment_of fragments m ≡ Some outer
+    pub further : (m n : List ℕ) (outer inner : Selections F) → set m ≡ true → fragment_of fragments m
+        ≡ Some outer
         → Among n (spread_names outer) → fragment_of fragments n ≡ Some inner → set n ≡ true
 
   -- these are the names that s leads to, each once
@@ -55,4 +59,5 @@ module _ {F : Type 0} where
   -- the field stands in s or in a fragment that s leads to
   abbrev pub IsReached : Fragments F → Selections F → F → Type 0
   IsReached fragments s f = Among f (occurrences s)
-      ⊎ ((n : List ℕ) × (set : Selections F) × Reachable fragments s n × (fragment_of fragments n ≡ Some set) × Among f (occurrences set))
+      ⊎ ((n : List ℕ) × (set : Selections F) × Reachable fragments s n × (fragment_of fragments n ≡ Some set)
+      × Among f (occurrences set))

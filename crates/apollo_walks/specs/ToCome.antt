@@ -22,7 +22,8 @@ pub record ToCome (F : Type 0) : Type 0 where
   pub turns : ℕ
 
 -- where these names are opened and these lists are open, that is to come
-pub record IsToCome {F : Type 0} (fragments : Fragments F) (before : Names) (lists : List (Selections F)) (x : ToCome F) : Type 0 where
+pub record IsToCome {F : Type 0} (fragments : Fragments F) (before : Names) (lists : List (Selections F))
+    (x : ToCome F) : Type 0 where
   -- the names that are still to be opened
   pub names : List (List ℕ)
   -- the fields come in the order of the lists, one after the other

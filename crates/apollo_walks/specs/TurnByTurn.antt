@@ -25,25 +25,33 @@ pub record AreTurnByTurn {F : Type 0} (fragments : Fragments F) (before : Names)
   -- where no list is open any more, nothing is to come
   pub ends : IsToCome fragments before [] (record { fields = []; opened = before; turns = 0 })
   -- an empty list is closed
-  pub closes : (ss : List (Selections F)) (x : ToCome F) → IsToCome fragments before ss x → IsToCome fragments before (none ∷ ss) (a_turn_before x)
+  pub closes : (ss : List (Selections F)) (x : ToCome F) → IsToCome fragments before ss x
+      → IsToCome fragments before (none ∷ ss) (a_turn_before x)
   -- a field is given, and the list below it is opened
   pub gives : (f : F) (below rest : Selections F) (ss : List (Selections F)) (x : ToCome F)
-      → IsToCome fragments before (over below (rest ∷ ss)) x → IsToCome fragments before (field f below rest ∷ ss) (a_field_before f x)
+      → IsToCome fragments before (over below (rest ∷ ss)) x
+      → IsToCome fragments before (field f below rest ∷ ss) (a_field_before f x)
   -- the list of an inline fragment is opened, empty or not
   pub goes_inside : (inner rest : Selections F) (ss : List (Selections F)) (x : ToCome F)
-      → IsToCome fragments before (inner ∷ rest ∷ ss) x → IsToCome fragments before (inline inner rest ∷ ss) (a_turn_before x)
+      → IsToCome fragments before (inner ∷ rest ∷ ss) x
+      → IsToCome fragments before (inline inner rest ∷ ss) (a_turn_before x)
   -- a spread of a name that is opened, or that has no fragment, is passed over
   pub passes : (n : List ℕ) (rest : Selections F) (ss : List (Selections F)) (x : ToCome F)
       → (before n ≡ true) ⊎ (fragment_of fragments n ≡ None)
-      → IsToCome fragments before (rest ∷ ss) x → IsToCome fragments before (spread n rest ∷ ss) (a_turn_before x)
+      → IsToCome fragments before (rest ∷ ss) x
+      → IsToCome fragments before (spread n rest ∷ ss) (a_turn_before x)
   -- at any other spread the name and the list of its fragment are opened
-  pub opens : (n : List ℕ) (set rest : Selections F) (ss : List (Selections F)) (x : ToCome F) → before n ≡ false → fragment_of fragments n ≡ Some set
-      → IsToCome fragments (with_name n before) (set ∷ rest ∷ ss) x → IsToCome fragments before (spread n rest ∷ ss) (a_turn_before x)
+  pub opens : (n : List ℕ) (set rest : Selections F) (ss : List (Selections F)) (x : ToCome F)
+      → before n ≡ false → fragment_of fragments n ≡ Some set
+      → IsToCome fragments (with_name n before) (set ∷ rest ∷ ss) x
+      → IsToCome fragments before (spread n rest ∷ ss) (a_turn_before x)
   -- there is a turn left while a list is open
-  pub goes_on : (s : Selections F) (ss : List (Selections F)) (x : ToCome F) → IsToCome fragments before (s ∷ ss) x → 0 < x.turns
+  pub goes_on : (s : Selections F) (ss : List (Selections F)) (x : ToCome F)
+      → IsToCome fragments before (s ∷ ss) x → 0 < x.turns
 
 -- what is to come of a walk that begins with s
-pub record IsAllToCome {F : Type 0} (fragments : Fragments F) (s : Selections F) (all : ToCome F) : Type 0 where
+pub record IsAllToCome {F : Type 0} (fragments : Fragments F) (s : Selections F)
+    (all : ToCome F) : Type 0 where
   pub walk : IsWalk fragments s all.fields
   pub turns : AreAllTurns fragments s all.turns
   pub opens : (n : List ℕ) → (all.opened n ≡ true) ↔ Reachable fragments s n

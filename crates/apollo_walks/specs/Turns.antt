@@ -42,8 +42,11 @@ module _ {F : Type 0} where
 
   -- so many turns are those of a whole walk over s
   abbrev pub AreAllTurns : Fragments F → Selections F → ℕ → Type 0
-  AreAllTurns fragments s turns = (names : List (List ℕ)) × AreReachable fragments s names × (turns ≡ turns_in_reach fragments s names)
+  AreAllTurns fragments s turns =
+      (names : List (List ℕ)) × AreReachable fragments s names × (turns ≡ turns_in_reach fragments s names)
 
   -- so many turns are at most 2N + 1
   abbrev pub AreWithinTurns : Fragments F → Selections F → ℕ → Type 0
-  AreWithinTurns fragments s turns = (names : List (List ℕ)) × AreReachable fragments s names × (turns ≤ 2 * selections_in_reach fragments s names + 1)
+  AreWithinTurns fragments s turns =
+      (names : List (List ℕ)) × AreReachable fragments s names
+      × (turns ≤ 2 * selections_in_reach fragments s names + 1)

@@ -9,4 +9,5 @@ returns-clause-attribute c =
 pub returns-clause-coordinate : goal.returns-clause-coordinate
 returns-clause-coordinate c =
     let parts = c.equality_of_the_type_system.ensures in
-    answer_at parts.field_definition parts.input_value_definition parts.enum_value_definition c.equality_of_types.ensures.extended_type parts.directive_definition
+    answer_at parts.field_definition parts.input_value_definition parts.enum_value_definition
+    c.equality_of_types.ensures.extended_type parts.directive_definition

@@ -11,7 +11,8 @@ pub returns-clause-outside : goal.returns-clause-outside
 unfolding with_name
 returns-clause-outside c =
     let second = of_passed (inl refl) (of_inline of_leaf (of_passed (inr refl) of_none)) in
-    of_fragment refl refl (of_inline (of_fragment refl refl (of_inline second (of_field (of_inline of_leaf of_none)))) of_none)
+    of_fragment refl refl
+    (of_inline (of_fragment refl refl (of_inline second (of_field (of_inline of_leaf of_none)))) of_none)
 
 pub returns-clause-inside : goal.returns-clause-inside
 unfolding with_name

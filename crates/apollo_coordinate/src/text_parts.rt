@@ -44,14 +44,16 @@ pub(crate) enum Parts<'a> {
 /// What stands before and after the first such mark.
 fn cut<'a>(text: &'a str, mark: char) -> Option<(&'a str, &'a str)>
     requires { mark < 128 }
-    ensures { MatchOption result (Lacks mark text.now) (λ parts. IsCut mark text.now parts.0.now parts.1.now) }
+    ensures { MatchOption result (Lacks mark text.now)
+        (λ parts. IsCut mark text.now parts.0.now parts.1.now) }
 {
     text.split_once(mark)
 }
 
 /// What follows the `@` of a text that begins with one.
 fn after_at<'a>(text: &'a str) -> Option<&'a str>
-    ensures { MatchOption result ((rest : List ℕ) → text.now ≢ codes "@" ++ rest) (λ rest. text.now ≡ codes "@" ++ rest.now) }
+    ensures { MatchOption result ((rest : List ℕ) → text.now ≢ codes "@" ++ rest) (λ rest. text.now
+        ≡ codes "@" ++ rest.now) }
 {
     text.strip_prefix("@")
 }
@@ -91,7 +93,8 @@ fn argument_part<'a>(text: &'a str) -> Result<&'a str, Refusal<'a>>
 
 /// The directive of `@directive`.
 pub(crate) fn directive_part<'a>(text: &'a str) -> Result<&'a str, Refusal<'a>>
-    ensures says { IfOk result (λ name. SaysCoordinate text.now (any.Directive (record { directive = plain_name name.now }))) }
+    ensures says { IfOk result
+        (λ name. SaysCoordinate text.now (any.Directive (record { directive = plain_name name.now }))) }
     ensures refused { IfErr result (λ refusal. IsNoDirective text.now (error_of refusal)) }
 {
     match after_at(text) {
@@ -103,7 +106,8 @@ pub(crate) fn directive_part<'a>(text: &'a str) -> Result<&'a str, Refusal<'a>>
 impl<'a> AttributeParts<'a> {
     /// The parts that stand before and after the `.`.
     fn new(ty: &'a str, attribute: &'a str) -> Result<AttributeParts<'a>, Refusal<'a>>
-        ensures says { IfOk result (λ parts. SaysCoordinate (ty.now ++ (codes "." ++ attribute.now)) (any.TypeAttribute (attribute_of parts))) }
+        ensures says { IfOk result (λ parts. SaysCoordinate (ty.now ++ (codes "." ++ attribute.now))
+            (any.TypeAttribute (attribute_of parts))) }
         ensures refused { IfErr result (λ refusal. IsNoNames ty.now attribute.now (error_of refusal)) }
     {
         Ok(AttributeParts {
@@ -114,7 +118,8 @@ impl<'a> AttributeParts<'a> {
 
     /// The parts of a text of this form.
     pub(crate) fn read(text: &'a str) -> Result<AttributeParts<'a>, Refusal<'a>>
-        ensures says { IfOk result (λ parts. SaysCoordinate text.now (any.TypeAttribute (attribute_of parts))) }
+        ensures says { IfOk result
+            (λ parts. SaysCoordinate text.now (any.TypeAttribute (attribute_of parts))) }
         ensures refused { IfErr result (λ refusal. IsNoAttribute text.now (error_of refusal)) }
     {
         match cut(text, '.') {
@@ -127,8 +132,11 @@ impl<'a> AttributeParts<'a> {
 impl<'a> FieldArgumentParts<'a> {
     /// The parts of what stands before and after the `(`.
     fn new(field: &'a str, argument: &'a str) -> Result<FieldArgumentParts<'a>, Refusal<'a>>
-        ensures says { IfOk result (λ parts. SaysCoordinate (field.now ++ (codes "(" ++ argument.now)) (any.FieldArgument (field_argument_of parts))) }
-        ensures refused { IfErr result (λ refusal. IsNoPair IsAttributeText IsNoAttribute field.now argument.now (error_of refusal)) }
+        ensures says { IfOk result
+            (λ parts. SaysCoordinate
+            (field.now ++ (codes "(" ++ argument.now)) (any.FieldArgument (field_argument_of parts))) }
+        ensures refused { IfErr result
+            (λ refusal. IsNoPair IsAttributeText IsNoAttribute field.now argument.now (error_of refusal)) }
     {
         Ok(FieldArgumentParts {
             field: AttributeParts::read(field)?,
@@ -138,7 +146,8 @@ impl<'a> FieldArgumentParts<'a> {
 
     /// The parts of a text of this form.
     pub(crate) fn read(text: &'a str) -> Result<FieldArgumentParts<'a>, Refusal<'a>>
-        ensures says { IfOk result (λ parts. SaysCoordinate text.now (any.FieldArgument (field_argument_of parts))) }
+        ensures says { IfOk result
+            (λ parts. SaysCoordinate text.now (any.FieldArgument (field_argument_of parts))) }
         ensures refused { IfErr result (λ refusal. IsNoFieldArgument text.now (error_of refusal)) }
     {
         match cut(text, '(') {
@@ -151,8 +160,13 @@ impl<'a> FieldArgumentParts<'a> {
 impl<'a> DirectiveArgumentParts<'a> {
     /// The parts of what stands before and after the `(`.
     fn new(directive: &'a str, argument: &'a str) -> Result<DirectiveArgumentParts<'a>, Refusal<'a>>
-        ensures says { IfOk result (λ parts. SaysCoordinate (directive.now ++ (codes "(" ++ argument.now)) (any.DirectiveArgument (directive_argument_of parts))) }
-        ensures refused { IfErr result (λ refusal. IsNoPair IsDirectiveText IsNoDirective directive.now argument.now (error_of refusal)) }
+        ensures says { IfOk result
+            (λ parts. SaysCoordinate
+            (directive.now ++ (codes "(" ++ argument.now))
+            (any.DirectiveArgument (directive_argument_of parts))) }
+        ensures refused { IfErr result
+            (λ refusal. IsNoPair IsDirectiveText IsNoDirective directive.now argument.now
+            (error_of refusal)) }
     {
         Ok(DirectiveArgumentParts {
             directive: directive_part(directive)?,
@@ -162,7 +176,8 @@ impl<'a> DirectiveArgumentParts<'a> {
 
     /// The parts of a text of this form.
     pub(crate) fn read(text: &'a str) -> Result<DirectiveArgumentParts<'a>, Refusal<'a>>
-        ensures says { IfOk result (λ parts. SaysCoordinate text.now (any.DirectiveArgument (directive_argument_of parts))) }
+        ensures says { IfOk result
+            (λ parts. SaysCoordinate text.now (any.DirectiveArgument (directive_argument_of parts))) }
         ensures refused { IfErr result (λ refusal. IsNoDirectiveArgument text.now (error_of refusal)) }
     {
         match cut(text, '(') {

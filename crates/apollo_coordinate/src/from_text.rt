@@ -16,7 +16,7 @@ use crate::coordinates::{
     TypeAttributeCoordinate, TypeCoordinate,
 };
 use crate::parse_error::SchemaCoordinateParseError;
-use crate::parts::{
+use crate::text_parts::{
     AttributeParts, DirectiveArgumentParts, FieldArgumentParts, Parts, directive_part, name_part,
 };
 use graphql_nodes::name::Name;
@@ -108,7 +108,8 @@ impl TypeAttributeCoordinate {
     ) -> Result<TypeAttributeCoordinate, SchemaCoordinateParseError>
         ensures says { IfOk result (λ c. SaysCoordinate text.now (any.TypeAttribute c)) }
         ensures refused { IfErr result (WhenRefused (IsNoAttribute text.now)) }
-        ensures format { IsNoAttribute text.now SchemaCoordinateParseError.InvalidFormat → result ≡ Err SchemaCoordinateParseError.InvalidFormat }
+        ensures format { IsNoAttribute text.now SchemaCoordinateParseError.InvalidFormat
+            → result ≡ Err SchemaCoordinateParseError.InvalidFormat }
     {
         match AttributeParts::read(text) {
             Ok(attribute) => Ok(attribute.into_coordinate(alloc)?),
@@ -131,7 +132,8 @@ impl FieldArgumentCoordinate {
     ) -> Result<FieldArgumentCoordinate, SchemaCoordinateParseError>
         ensures says { IfOk result (λ c. SaysCoordinate text.now (any.FieldArgument c)) }
         ensures refused { IfErr result (WhenRefused (IsNoFieldArgument text.now)) }
-        ensures format { IsNoFieldArgument text.now SchemaCoordinateParseError.InvalidFormat → result ≡ Err SchemaCoordinateParseError.InvalidFormat }
+        ensures format { IsNoFieldArgument text.now SchemaCoordinateParseError.InvalidFormat
+            → result ≡ Err SchemaCoordinateParseError.InvalidFormat }
     {
         match FieldArgumentParts::read(text) {
             Ok(argument) => Ok(argument.into_coordinate(alloc)?),
@@ -153,7 +155,8 @@ impl DirectiveCoordinate {
     ) -> Result<DirectiveCoordinate, SchemaCoordinateParseError>
         ensures says { IfOk result (λ c. SaysCoordinate text.now (any.Directive c)) }
         ensures refused { IfErr result (WhenRefused (IsNoDirective text.now)) }
-        ensures format { IsNoDirective text.now SchemaCoordinateParseError.InvalidFormat → result ≡ Err SchemaCoordinateParseError.InvalidFormat }
+        ensures format { IsNoDirective text.now SchemaCoordinateParseError.InvalidFormat
+            → result ≡ Err SchemaCoordinateParseError.InvalidFormat }
     {
         match directive_part(text) {
             Ok(directive) => Ok(DirectiveCoordinate {
@@ -178,7 +181,8 @@ impl DirectiveArgumentCoordinate {
     ) -> Result<DirectiveArgumentCoordinate, SchemaCoordinateParseError>
         ensures says { IfOk result (λ c. SaysCoordinate text.now (any.DirectiveArgument c)) }
         ensures refused { IfErr result (WhenRefused (IsNoDirectiveArgument text.now)) }
-        ensures format { IsNoDirectiveArgument text.now SchemaCoordinateParseError.InvalidFormat → result ≡ Err SchemaCoordinateParseError.InvalidFormat }
+        ensures format { IsNoDirectiveArgument text.now SchemaCoordinateParseError.InvalidFormat
+            → result ≡ Err SchemaCoordinateParseError.InvalidFormat }
     {
         match DirectiveArgumentParts::read(text) {
             Ok(argument) => Ok(argument.into_coordinate(alloc)?),
