@@ -11,7 +11,8 @@ def is_made(path):
 def pages():
     """Those that are kept by hand."""
     kept = [path for path in sorted(TOP.glob("docs/*.md")) if not is_made(path)]
-    return [TOP / "README.md", TOP / "CONTRIBUTING.md", *kept, TOP / "tools/README.md"]
+    own = [TOP / f"{name}.md" for name in ("README", "CONTRIBUTING", "SECURITY")]
+    return [*own, *kept, TOP / "tools/README.md"]
 
 
 def made():
