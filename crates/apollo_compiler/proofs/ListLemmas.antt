@@ -1,7 +1,8 @@
 -- The lists that documents make, with those of more documents.
-use Rattle.std.proofs.Common.{◌≡◌, ℕ, ◌+◌, ◌<◌, Bool, false, true, get_or, take, List, [], ◌∷◌, ◌++◌, length, sym, ap, ◌∙◌, append_assoc}
+use Rattle.std.proofs.Common.{◌≡◌, ℕ, ◌+◌, ◌<◌, ◌≤◌, Bool, false, true, Some, get_or, take}
+use Rattle.std.proofs.Common.{List, [], ◌∷◌, ◌++◌, length, sym, ap, ◌∙◌, append_assoc}
 use Rattle.std.proofs.lemmas.Grind.{flat_map-append}
-use Rattle.std.proofs.lemmas.List.{append-nil, map-append, take_more}
+use Rattle.std.proofs.lemmas.List.{append-nil, map-append, take_all, take_more}
 use Rattle.std.proofs.lemmas.List.Sums.{fold_more}
 use Rattle.graphql_nodes.specs.Sources.{merged}
 use Rattle.graphql_ast.specs.declared.document.Document.{Document}
@@ -11,7 +12,9 @@ use Rattle.apollo_schema.specs.SchemaWriteOut.{write_schema}
 use Rattle.apollo_schema.specs.declared.schema.Schema.{Schema}
 use Rattle.apollo_schema_laws.specs.WrittenAgain.{with_built_ins, written_again}
 use Rattle.apollo_document.specs.AddedDefinitions.{document_list}
-use Rattle.apollo_compiler.specs.Lists.{all_definitions, all_sources, executable_list, handed_in, schema_list, with_sources}
+use Rattle.apollo_document.specs.BuilderStands as documents
+use Rattle.apollo_compiler.specs.Lists.{all_definitions, all_sources, document_building_of, executable_list}
+use Rattle.apollo_compiler.specs.Lists.{handed_in, schema_list, with_sources}
 use Rattle.apollo_compiler.specs.declared.compile_options.CompileOptions.{CompileOptions}
 
 definitions-append : (ds es : List Document) → all_definitions (ds ++ es) ≡ all_definitions ds ++ all_definitions es
@@ -45,7 +48,8 @@ module _ (ds : List Document) (i : ℕ) (d : Document) (lt : i < length ds) (is 
       ap (schema_list o) one_more ∙ schema_list-append o (take i ds) (d ∷ [])
       ∙ ap (λ l. schema_list o (take i ds) ++ added o.ignore_builtin_redefinitions l) (append-nil d.definitions)
 
-  pub executable_list-turn : (b : Bool) → executable_list b (take (i + 1) ds) ≡ executable_list b (take i ds) ++ document_list b d.definitions
+  executable_list-turn : (b : Bool)
+      → executable_list b (take (i + 1) ds) ≡ executable_list b (take i ds) ++ document_list b d.definitions
   executable_list-turn b =
       ap (executable_list b) one_more
       ∙ ap (document_list b) (definitions-append (take i ds) (d ∷ []) ∙ ap (λ l. all_definitions (take i ds) ++ l) (append-nil d.definitions))
@@ -53,6 +57,20 @@ module _ (ds : List Document) (i : ℕ) (d : Document) (lt : i < length ds) (is 
 
   pub all_sources-turn : all_sources (take (i + 1) ds) ≡ merged (all_sources (take i ds)) d.sources
   all_sources-turn = fold_more with_sources [] ds i d lt ∙ ap (with_sources (all_sources (take i ds))) (sym is)
+
+  pub document_building_of-turn : (s : Schema) (b : Bool)
+      → documents.with_document b d (document_building_of s b (take i ds))
+      ≡ document_building_of s b (take (i + 1) ds)
+  document_building_of-turn s b j = record {
+    schema = Some s;
+    standing = documents.Open (sym (executable_list-turn b) j) (sym all_sources-turn j);
+  }
+
+-- a builder to which all documents were added
+pub document_building_of-all : (s : Schema) (errors : Bool) (ds : List Document) (i : ℕ)
+    {b : documents.Building} → length ds ≤ i
+    → b ≡ document_building_of s errors (take i ds) → b ≡ document_building_of s errors ds
+document_building_of-all s errors ds i all is = is ∙ ap (document_building_of s errors) (take_all i ds all)
 
 -- a write-out as one document, built again
 abbrev pub rebuilding : CompileOptions
