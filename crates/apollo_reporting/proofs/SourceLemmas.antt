@@ -1,5 +1,5 @@
 -- An index is that of the file at its place.
-use Rattle.std.proofs.Common.{◌≡◌, ℕ, List, Option, Some, option_map, slice_get, sym, ap, ◌∙◌}
+use Rattle.std.proofs.Common.{◌≡◌, ℕ, List, Some, option_map, slice_get, sym, ap, ◌∙◌}
 use Rattle.std.proofs.lemmas.Option.{slice_get-map}
 use Rattle.graphql_nodes.specs.Sources.{Files}
 use Rattle.graphql_nodes.specs.Tables.{values_of}

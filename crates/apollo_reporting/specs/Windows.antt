@@ -1,6 +1,6 @@
 -- What a report shows of a line: all of it, or, of a line that is too long for that, what stands around the marks. A line ends with a line
 -- terminator: GraphQL specification of October 2021, section 2.1.3.
-use Rattle.std.specs.Prelude.{ℕ, zero, suc, Bool, true, false, not, ◌&&◌, ◌||◌, ◌+◌, ◌-◌, cond, List, [], ◌∷◌, length, take, drop, slice_index, slice_range, nat_eq, nat_lt}
+use Rattle.std.specs.Prelude.{ℕ, zero, suc, Bool, false, not, ◌&&◌, ◌||◌, ◌+◌, ◌-◌, cond, List, [], ◌∷◌, length, take, drop, slice_index, slice_range, nat_eq, nat_lt}
 use Rattle.graphql_nodes.specs.LineColumns.{begins_char, column_of, ends_line}
 use Rattle.apollo_reporting.specs.Excerpts.{before_on_line, begins_line_end, line_around, mark_count, marked}
 use Rattle.apollo_reporting.specs.declared.excerpt.Excerpt.{Excerpt}
