@@ -1,4 +1,4 @@
-use Rattle.std.proofs.Common.{◌⊎◌, inl, inr, List, refl}
+use Rattle.std.proofs.Common.{◌≡◌, ◌⊎◌, inl, inr, List, refl}
 use Rattle.apollo_document.specs.AddedDefinitions.{DocumentItem}
 use Rattle.apollo_document.specs.BuilderStands.{Building, HasFailed, IsFailed, IsOpenWith, StandsFor}
 use Rattle.apollo_document.specs.BuilderStands.{Standing, Open, Failed}

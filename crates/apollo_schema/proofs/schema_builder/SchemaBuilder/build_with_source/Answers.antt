@@ -1,4 +1,4 @@
-use Rattle.apollo_meaning.proofs.Prelude.{◌≡◌, ◌+◌, ◌≤◌, List, length, sym, ap, subst, ◌∙◌, arith}
+use Rattle.apollo_meaning.proofs.Prelude.{◌≡◌, ◌+◌, ◌^◌, ◌≤◌, List, length, sym, ap, subst, ◌∙◌, arith}
 use Rattle.apollo_meaning.proofs.Prelude.{IfOk, IfErr, next_number, source_at, Folding, added_items}
 use Rattle.apollo_meaning.specs.Order.SpentIds.{SpendsIds}
 use Rattle.apollo_schema.specs.BuildAnswers.{IfFaults}
