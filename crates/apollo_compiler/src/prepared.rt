@@ -1,6 +1,8 @@
 //! The built-in definitions, made once for several builds.
-ghost use Rattle.std.specs.Prelude.{◌≡◌, [], true, IfOk, if◌then◌else◌};
-ghost use Rattle.apollo_compiler.specs.Lists.{building_of};
+ghost use Rattle.std.specs.Prelude.{◌≡◌, ℕ, List, [], true, IfOk, if◌then◌else◌};
+ghost use Rattle.apollo_meaning.specs.Items.ListItems.{Added};
+ghost use Rattle.apollo_schema.specs.BuilderStands.{StandsFor, adopts, ignores, sources_of};
+ghost use Rattle.apollo_compiler.specs.Lists.{schema_list};
 
 use crate::compile_options::CompileOptions;
 use apollo_schema::schema_builder::SchemaBuilder;
@@ -20,14 +22,16 @@ impl Drop for Prepared {
 }
 
 impl Model for Prepared {
-    ghost use Rattle.std.specs.Prelude.{◌≡◌};
-    ghost use Rattle.apollo_schema.specs.BuilderStands.{building_from};
+    ghost use Rattle.std.specs.Prelude.{◌≡◌, [], false};
+    ghost use Rattle.apollo_built_in.specs.BuiltInTable.{built_in_definitions};
+    ghost use Rattle.apollo_meaning.specs.Items.ListItems.{added};
+    ghost use Rattle.apollo_schema.specs.BuilderStands.{StandsFor, adopts, ignores, sources_of};
 
     ghost Value = { Unit {0} };
 
     ghost view = { λ _. tt };
 
-    ghost invariant = { λ p. p.bare ≡ building_from 0 };
+    ghost invariant = { λ p. StandsFor 0 (added false built_in_definitions) p.bare × (adopts p.bare ≡ false) × (ignores p.bare ≡ false) × (sources_of p.bare ≡ []) };
 }
 
 impl Prepared {
@@ -40,7 +44,10 @@ impl Prepared {
 
     /// A builder with these options, to which nothing was added, and which draws numbers from 0. The error is want of memory.
     pub fn begin(&self, options: CompileOptions) -> Result<SchemaBuilder, AllocError>
-        ensures { IfOk result (λ builder. builder ≡ building_of options []) }
+        ensures stands { IfOk result (StandsFor 0 (schema_list options [])) }
+        ensures adopts { IfOk result (λ builder. adopts builder ≡ options.adopt_orphan_extensions) }
+        ensures ignores { IfOk result (λ builder. ignores builder ≡ options.ignore_builtin_redefinitions) }
+        ensures sources { IfOk result (λ builder. sources_of builder ≡ []) }
     {
         let bare = self.bare.clone()?;
         let builder = with_adoption(bare, options.adopt_orphan_extensions);
@@ -50,7 +57,10 @@ impl Prepared {
 
 /// The builder, with adoption if it had it or `adopt` is set.
 fn with_adoption(builder: SchemaBuilder, adopt: bool) -> SchemaBuilder
-    ensures { result ≡ record builder { adopts = if adopt then true else builder.adopts } }
+    ensures stands { (start : ℕ) (xs : List Added) → StandsFor start xs builder → StandsFor start xs result }
+    ensures adopts { adopts result ≡ (if adopt then true else adopts builder) }
+    ensures ignores { ignores result ≡ ignores builder }
+    ensures sources { sources_of result ≡ sources_of builder }
 {
     if adopt {
         return builder.adopt_orphan_extensions();
@@ -60,7 +70,10 @@ fn with_adoption(builder: SchemaBuilder, adopt: bool) -> SchemaBuilder
 
 /// The builder, which ignores redefinitions of built-in types from now on if it did or `ignore` is set.
 fn with_ignoring(builder: SchemaBuilder, ignore: bool) -> SchemaBuilder
-    ensures { result ≡ record builder { ignores = if ignore then true else builder.ignores } }
+    ensures stands { (start : ℕ) (xs : List Added) → StandsFor start xs builder → StandsFor start xs result }
+    ensures adopts { adopts result ≡ adopts builder }
+    ensures ignores { ignores result ≡ (if ignore then true else ignores builder) }
+    ensures sources { sources_of result ≡ sources_of builder }
 {
     if ignore {
         return builder.ignore_builtin_redefinitions();

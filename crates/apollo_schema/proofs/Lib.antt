@@ -1,4 +1,3 @@
-pub mod BuilderLemmas
 pub mod BuiltInLemmas
 pub mod CloneLemmas
 pub mod Ends

@@ -1,4 +1,5 @@
 pub mod BuildAnswers
+pub mod BuilderHolds
 pub mod BuilderStands
 pub mod Built
 pub mod EqualLookups
