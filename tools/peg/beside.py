@@ -27,6 +27,9 @@ explained = collections.Counter()
 SORTS = ["document", "schema"]
 # The parts of a report of a text on standard input.
 REPORT = re.compile(r"error: (.*)\n +--> -:(\d+):(\d+)\n.*\n.*\n[\t |]*(\^+)\n\n1 fault\n")
+# How many characters a line has that is shown whole; of a longer one so many are shown before the marks, and from them on.
+WHOLE_LINE, BEFORE_MARKS, FROM_MARKS = 160, 60, 100
+CONTROL = re.compile(r"[\x00-\x08\n-\x1f\x7f-\x9f]")
 LINE = re.compile(r"(?<=\n)|(?<=\r)(?!\n)")
 ESCAPED = re.compile(r"""[^ -~]|["'\\]""")
 SHORT = {"\t": r"\t", "\n": r"\n", "\r": r"\r", '"': r"\"", "'": r"\'", "\\": r"\\"}
@@ -37,11 +40,20 @@ def escaped(text):
     return '"' + ESCAPED.sub(lambda it: SHORT.get(it[0]) or r"\u{%x}" % ord(it[0]), text) + '"'
 
 
+def shown(line, at):
+    """What is shown of a line before a place, and from it on: all of it, or of a long one a part."""
+    first, last = (max(at - BEFORE_MARKS, 0), at + FROM_MARKS) if len(line) > WHOLE_LINE else (0, len(line))
+    before = "..." * (first > 0) + line[first:at]
+    behind = line[at:last] + "..." * (last < len(line))
+    return CONTROL.sub("\ufffd", before), CONTROL.sub("\ufffd", behind)
+
+
 def report(said, number, column, marks, line):
     """A report as it is to be, over the line that it shows, without its end."""
     width = " " * len(number)
-    under = re.sub(r"[^\t]", " ", line[: int(column) - 1])
-    excerpt = f" {width}--> -:{number}:{column}\n {width} |\n {number} | {line}\n {width} | {under}{marks}\n"
+    before, behind = shown(line, int(column) - 1)
+    under = re.sub(r"[^\t]", " ", before)
+    excerpt = f" {width}--> -:{number}:{column}\n {width} |\n {number} | {before}{behind}\n {width} | {under}{marks}\n"
     return f"error: {said}\n{excerpt}\n1 fault\n"
 
 
