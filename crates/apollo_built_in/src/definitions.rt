@@ -256,7 +256,7 @@ fn add_introspection_types(
 /// (section 4.2).
 ///
 /// Each node and name is in file number 0, [`FileId::BUILT_IN`](graphql_nodes::source::FileId::BUILT_IN). None has a description.
-/// The error is want of memory.
+/// The error is out of memory.
 #[tactic(auto, unfolding(crate::specs::BuiltInTable::built_in_definitions))]
 pub fn built_in_definitions(alloc: Global) -> Result<Items<Definition>, AllocError>
     ensures { IfOk result (λ definitions. definitions ≡ table.built_in_definitions) }

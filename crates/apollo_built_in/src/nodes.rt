@@ -1,4 +1,4 @@
-//! Nodes in the file of built-in definitions, with no description and no directive. Each error is want of memory.
+//! Nodes in the file of built-in definitions, with no description and no directive. Each error is out of memory.
 ghost use Rattle.std.specs.Prelude.{◌≡◌, ◌∷◌, [], map, option_map, IfOk};
 ghost use Rattle.apollo_built_in.specs.BuiltInNodes as nodes;
 ghost use Rattle.apollo_built_in.specs.BuiltInRows.{row_type, row_field};

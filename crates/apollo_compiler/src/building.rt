@@ -22,7 +22,7 @@ use std::alloc::Global;
 /// numbered from 0, and its tables hash by these keys. Its sources are those of the documents, merged. Where there are faults,
 /// it is what could be built. GraphQL specification of October 2021, section 3.
 ///
-/// `Memory` is want of memory; `ExtensionIds` comes only where the numbers don't suffice for the extensions that are folded. Then
+/// `Memory` is out of memory; `ExtensionIds` comes only where the numbers don't suffice for the extensions that are folded. Then
 /// all that was built is dropped, and the documents are as they were.
 pub fn build_schema(
     alloc: Global,

@@ -6,7 +6,7 @@ use thiserror::Error;
 /// Why nothing is compiled. All that was built is then dropped, and the documents are as they were.
 #[derive(Debug, Clone, Copy, PartialEq, Eq, Error)]
 pub enum CompileError {
-    /// Want of memory.
+    /// Out of memory.
     #[error("out of memory")]
     Memory,
     /// The extensions that the schema documents fold would pass the largest number.

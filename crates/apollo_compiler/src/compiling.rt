@@ -33,7 +33,7 @@ use std::alloc::Global;
 /// The rebuild has no faults, equals `schema` and is written out the same, where no definition that is handed in is marked
 /// built-in and each schema definition names a root. What else is promised is said by [`headline`].
 ///
-/// `Memory` is want of memory; `ExtensionIds` comes only where the numbers don't suffice for the extensions of the schema
+/// `Memory` is out of memory; `ExtensionIds` comes only where the numbers don't suffice for the extensions of the schema
 /// documents. No other error comes. The documents are as they were.
 ///
 /// All tables hash by fixed keys: for documents from strangers, take [`compile_with_keys`].

@@ -35,14 +35,14 @@ impl Model for Prepared {
 }
 
 impl Prepared {
-    /// A builder that hashes by these keys, and draws its numbers from a new source. The error is want of memory.
+    /// A builder that hashes by these keys, and draws its numbers from a new source. The error is out of memory.
     /// No clause: what each value of the type stands for is its invariant, and no clause sees keys.
     pub fn new(alloc: Global, keys: HashKeys) -> Result<Prepared, AllocError> {
         let bare = SchemaBuilder::with_keys(alloc, keys)?;
         Ok(Prepared { bare })
     }
 
-    /// A builder with these options, to which nothing was added, and which draws numbers from 0. The error is want of memory.
+    /// A builder with these options, to which nothing was added, and which draws numbers from 0. The error is out of memory.
     pub fn begin(&self, options: CompileOptions) -> Result<SchemaBuilder, AllocError>
         ensures stands { IfOk result (StandsFor 0 (schema_list options [])) }
         ensures adopts { IfOk result (λ builder. adopts builder ≡ options.adopt_orphan_extensions) }

@@ -32,7 +32,7 @@ impl<T: Drop> Drop for Component<T> {
 }
 
 impl<T> Component<T> {
-    /// A component of the definition, without a location. The error is want of memory, and drops the value.
+    /// A component of the definition, without a location. The error is out of memory, and drops the value.
     pub fn new(alloc: Global, value: T) -> Result<Component<T>, AllocError>
     where
         T: Drop,
@@ -121,7 +121,7 @@ impl<T: Hash> Hash for Component<T> {
 impl<T: Drop> Clone for Component<T> {
     ghost is_clone = { λ a b. b ≡ a };
 
-    /// The same component, with its origin and location. The value is shared. The error is want of memory.
+    /// The same component, with its origin and location. The value is shared. The error is out of memory.
     fn clone(&self) -> Result<Component<T>, AllocError> {
         Ok(Component {
             origin: self.origin,
@@ -154,7 +154,7 @@ impl ComponentName {
         ComponentName { origin, name }
     }
 
-    /// A copy of the name, of the definition. The error is want of memory.
+    /// A copy of the name, of the definition. The error is out of memory.
     pub fn from_name(name: &Name) -> Result<ComponentName, AllocError>
         ensures { IfOk result (λ c. c ≡ record { origin = ComponentOrigin.Definition; name = name.now }) }
     {
@@ -228,7 +228,7 @@ impl fmt::Display for ComponentName {
 impl Clone for ComponentName {
     ghost is_clone = { λ a b. b ≡ a };
 
-    /// The same component name, with its origin and location. The error is want of memory.
+    /// The same component name, with its origin and location. The error is out of memory.
     fn clone(&self) -> Result<ComponentName, AllocError> {
         Ok(ComponentName {
             origin: self.origin,

@@ -19,7 +19,7 @@ pub trait DefinitionItem: Drop {
     /// The part that it is.
     ghost part: { Self → DefinitionPart };
 
-    /// Adds it at the end of the list of its sort. The error is want of memory: the parts are as they were, and it is dropped.
+    /// Adds it at the end of the list of its sort. The error is out of memory: the parts are as they were, and it is dropped.
     fn push_to(self, parts: &mut DefinitionParts) -> Result<(), AllocError>
         ensures added { OnOk result (parts.new ≡ with_part (part self) parts.old) }
         ensures refused { OnErr result (parts.new ≡ parts.old) };
@@ -30,13 +30,13 @@ pub trait NodePart: Drop {
     /// The part that a node of it is.
     ghost node_part: { NodeView Self → DefinitionPart };
 
-    /// Adds a node of it at the end of the list of its sort. The error is want of memory: the parts are as they were, and the
+    /// Adds a node of it at the end of the list of its sort. The error is out of memory: the parts are as they were, and the
     /// node is dropped.
     fn push_node(node: Node<Self>, parts: &mut DefinitionParts) -> Result<(), AllocError>
         ensures added { OnOk result (parts.new ≡ with_part (node_part node) parts.old) }
         ensures refused { OnErr result (parts.new ≡ parts.old) };
 
-    /// Makes room for so many more at the end of the list of its sort. The error is want of memory. The parts are as they were,
+    /// Makes room for so many more at the end of the list of its sort. The error is out of memory. The parts are as they were,
     /// after a refusal too.
     fn make_room(parts: &mut DefinitionParts, count: usize) -> Result<(), AllocError>
         ensures { parts.new ≡ parts.old };

@@ -73,7 +73,7 @@ impl DirectiveList {
         self.0.iter().any(|directive| directive.name == *name)
     }
 
-    /// Adds a directive at the end. The error is want of memory: the list is as it was, and the directive is dropped.
+    /// Adds a directive at the end. The error is out of memory: the list is as it was, and the directive is dropped.
     pub fn push(&mut self, directive: Component<Directive>) -> Result<(), AllocError>
         ensures ok { OnOk result (self.new.0 ≡ self.old.0 ++ directive ∷ []) }
         ensures err { OnErr result (self.new ≡ self.old) }

@@ -104,7 +104,7 @@ impl ExtensionId {
         self.location
     }
 
-    /// A node at the location of the extension. The error is want of memory, and drops the value.
+    /// A node at the location of the extension. The error is out of memory, and drops the value.
     pub fn same_location<T: Drop>(&self, alloc: Global, value: T) -> Result<Node<T>, AllocError>
         ensures { IfOk result (λ n. n ≡ record { value = value; location = extension_location self.now }) }
     {

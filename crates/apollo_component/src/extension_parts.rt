@@ -58,7 +58,7 @@ impl ExtensionParts {
         }
     }
 
-    /// Adds a part of the extension of this identity, the last of its sort there. The error is want of memory, after which
+    /// Adds a part of the extension of this identity, the last of its sort there. The error is out of memory, after which
     /// nothing is said of the parts.
     pub(crate) fn add<P: DefinitionItem>(
         &mut self,
@@ -93,7 +93,7 @@ impl ExtensionParts {
         }
     }
 
-    /// Adds each, in order, as an extension of the schema, at its own location. The error is want of memory.
+    /// Adds each, in order, as an extension of the schema, at its own location. The error is out of memory.
     pub(crate) fn write_schemas(
         self,
         alloc: Global,
@@ -109,7 +109,7 @@ impl ExtensionParts {
 }
 
 impl HeldParts {
-    /// Adds a part of the extension of this identity. The error is want of memory.
+    /// Adds a part of the extension of this identity. The error is out of memory.
     fn add<P: DefinitionItem>(
         &mut self,
         alloc: Global,
@@ -129,7 +129,7 @@ impl HeldParts {
         Ok(())
     }
 
-    /// These with one more part. The error is want of memory.
+    /// These with one more part. The error is out of memory.
     fn with<P: DefinitionItem>(
         self,
         alloc: Global,
@@ -146,7 +146,7 @@ impl HeldParts {
         Ok(HeldParts::Many(table))
     }
 
-    /// These in a table. The error is want of memory.
+    /// These in a table. The error is out of memory.
     fn into_table(self, alloc: Global) -> Result<Table<ExtensionId, DefinitionParts>, AllocError>
         ensures { IfOk result (λ table. table ≡ entries_held self) }
     {

@@ -44,7 +44,7 @@ impl PartsByOrigin {
         }
     }
 
-    /// Adds a part of this origin, the last of its sort there. The error is want of memory: drop the parts then.
+    /// Adds a part of this origin, the last of its sort there. The error is out of memory: drop the parts then.
     pub fn add<P: DefinitionItem>(
         &mut self,
         alloc: Global,
@@ -60,7 +60,7 @@ impl PartsByOrigin {
         Ok(())
     }
 
-    /// Adds each of these components, in order, as [`add`](PartsByOrigin::add) does. The error is want of memory: drop the
+    /// Adds each of these components, in order, as [`add`](PartsByOrigin::add) does. The error is out of memory: drop the
     /// parts then.
     pub fn add_components<T: NodePart>(
         &mut self,
@@ -77,7 +77,7 @@ impl PartsByOrigin {
     }
 
     /// Adds each of the components that are left of a table's values, in order, as [`add`](PartsByOrigin::add) does. The error
-    /// is want of memory: drop the parts then.
+    /// is out of memory: drop the parts then.
     pub fn add_named_components<T: NodePart>(
         &mut self,
         alloc: Global,
@@ -92,7 +92,7 @@ impl PartsByOrigin {
         Ok(())
     }
 
-    /// Adds each of these names, in order, as [`add`](PartsByOrigin::add) does. The error is want of memory: drop the parts
+    /// Adds each of these names, in order, as [`add`](PartsByOrigin::add) does. The error is out of memory: drop the parts
     /// then.
     pub fn add_names(&mut self, alloc: Global, names: &[ComponentName]) -> Result<(), AllocError>
         ensures { OnOk result ((cs : List SourcedPart) → self.old ≡ by_origin cs → self.new ≡ by_origin (cs ++ map sourced_name names.now)) }
@@ -107,7 +107,7 @@ impl PartsByOrigin {
     /// Adds a type of this kind, description and name as syntax at the end: its definition, at this location, with the parts of
     /// the definition, and then each of its extensions, in order of first appearance, at its own location, with its parts.
     ///
-    /// The error is want of memory: `written` then begins with what it held, and the parts are dropped.
+    /// The error is out of memory: `written` then begins with what it held, and the parts are dropped.
     pub fn write_type(
         self,
         alloc: Global,
@@ -131,7 +131,7 @@ impl PartsByOrigin {
 
     /// The schema's definition as syntax: the definition with this description, at this location, if it is to be written, and
     /// then each of its extensions, in order of first appearance, at its own location, with its parts. Without the definition
-    /// its description and parts are left out. The error is want of memory, and drops the parts.
+    /// its description and parts are left out. The error is out of memory, and drops the parts.
     pub fn into_schema(
         self,
         alloc: Global,

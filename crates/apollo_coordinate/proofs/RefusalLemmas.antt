@@ -4,7 +4,7 @@ use Rattle.apollo_coordinate.specs.Refusals.{WhenRefused}
 use Rattle.apollo_coordinate.specs.declared.parse_error.SchemaCoordinateParseError.{SchemaCoordinateParseError}
 use Rattle.apollo_coordinate.specs.declared.parse_error.SchemaCoordinateParseError.TheVariants.{InvalidFormat, InvalidName, Memory}
 
--- what holds of the error that is asked for holds of the one that is answered, but for want of memory
+-- what holds of the error that is asked for holds of the one that is answered, unless memory ran out
 pub answered : (Holds : SchemaCoordinateParseError → Type 0) (e asked : SchemaCoordinateParseError)
     → Holds asked → WhenRefused (λ error. error ≡ asked) e → WhenRefused Holds e
 answered Holds InvalidFormat asked holds same = subst Holds (sym same) holds

@@ -182,7 +182,7 @@ said_bare (DirectiveArgument d) s =
 pub said_in_grammar : (t : List ℕ) (c : SchemaCoordinate) → SaysCoordinate t c → IsCoordinateText t
 said_in_grammar t c said = subst IsCoordinateText said.0 (in_grammar c (said_names c said.1))
 
--- whatever reads the text of a coordinate of valid names answers it, or want of memory
+-- whatever reads the text of a coordinate of valid names answers it, or out of memory
 pub reads : (c : SchemaCoordinate) (result : Result SchemaCoordinate SchemaCoordinateParseError) → HasNames c
     → IsReadingOf (coordinate_text c) result → IsReadBack c result
 reads c (Ok d) names reading =

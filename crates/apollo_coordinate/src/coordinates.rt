@@ -1,7 +1,7 @@
 //! The five coordinates, and any of them: the Schema Coordinates RFC of GraphQL.
 //!
 //! Coordinates are equal and hashed by the texts of their names. A clone is the original, with the locations of its names; its
-//! error is want of memory. `Display` is the text of the form, which reads back as the coordinate where the parts are names.
+//! error is out of memory. `Display` is the text of the form, which reads back as the coordinate where the parts are names.
 ghost use Rattle.std.specs.Prelude.{◌≡◌, IfOk};
 ghost use Rattle.apollo_coordinate.specs.declared.coordinates.SchemaCoordinate.TheVariants as any;
 
@@ -103,7 +103,7 @@ impl TypeCoordinate {
 }
 
 impl TypeAttributeCoordinate {
-    /// The coordinate of the type that the attribute belongs to. The error is want of memory.
+    /// The coordinate of the type that the attribute belongs to. The error is out of memory.
     pub fn type_coordinate(&self) -> Result<TypeCoordinate, AllocError>
         ensures { IfOk result (λ c. c ≡ record { ty = self.now.ty }) }
     {
@@ -126,7 +126,7 @@ impl TypeAttributeCoordinate {
 }
 
 impl FieldArgumentCoordinate {
-    /// The coordinate of the type that the field belongs to. The error is want of memory.
+    /// The coordinate of the type that the field belongs to. The error is out of memory.
     pub fn type_coordinate(&self) -> Result<TypeCoordinate, AllocError>
         ensures { IfOk result (λ c. c ≡ record { ty = self.now.ty }) }
     {
@@ -135,7 +135,7 @@ impl FieldArgumentCoordinate {
         })
     }
 
-    /// The coordinate of the field that the argument belongs to. The error is want of memory.
+    /// The coordinate of the field that the argument belongs to. The error is out of memory.
     pub fn field_coordinate(&self) -> Result<TypeAttributeCoordinate, AllocError>
         ensures { IfOk result (λ c. c ≡ record { ty = self.now.ty; attribute = self.now.field }) }
     {
@@ -169,7 +169,7 @@ impl From<Name> for DirectiveCoordinate {
 }
 
 impl DirectiveArgumentCoordinate {
-    /// The coordinate of the directive that the argument belongs to. The error is want of memory.
+    /// The coordinate of the directive that the argument belongs to. The error is out of memory.
     pub fn directive_coordinate(&self) -> Result<DirectiveCoordinate, AllocError>
         ensures { IfOk result (λ c. c ≡ record { directive = self.now.directive }) }
     {

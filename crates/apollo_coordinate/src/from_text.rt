@@ -23,7 +23,7 @@ use graphql_nodes::name::Name;
 use std::alloc::{AllocError, Global};
 
 impl<'a> AttributeParts<'a> {
-    /// The coordinate, whose names have no location. The error is want of memory.
+    /// The coordinate, whose names have no location. The error is out of memory.
     fn into_coordinate(self, alloc: Global) -> Result<TypeAttributeCoordinate, AllocError>
         ensures { IfOk result (λ c. c ≡ attribute_of self.entry) }
     {
@@ -35,7 +35,7 @@ impl<'a> AttributeParts<'a> {
 }
 
 impl<'a> FieldArgumentParts<'a> {
-    /// The coordinate, whose names have no location. The error is want of memory.
+    /// The coordinate, whose names have no location. The error is out of memory.
     fn into_coordinate(self, alloc: Global) -> Result<FieldArgumentCoordinate, AllocError>
         ensures { IfOk result (λ c. c ≡ field_argument_of self.entry) }
     {
@@ -45,7 +45,7 @@ impl<'a> FieldArgumentParts<'a> {
 }
 
 impl<'a> DirectiveArgumentParts<'a> {
-    /// The coordinate, whose names have no location. The error is want of memory.
+    /// The coordinate, whose names have no location. The error is out of memory.
     fn into_coordinate(self, alloc: Global) -> Result<DirectiveArgumentCoordinate, AllocError>
         ensures { IfOk result (λ c. c ≡ directive_argument_of self.entry) }
     {
@@ -57,7 +57,7 @@ impl<'a> DirectiveArgumentParts<'a> {
 }
 
 impl<'a> Parts<'a> {
-    /// The coordinate, whose names have no location. The error is want of memory.
+    /// The coordinate, whose names have no location. The error is out of memory.
     fn into_coordinate(self, alloc: Global) -> Result<SchemaCoordinate, AllocError>
         ensures { IfOk result (λ c. c ≡ coordinate_of self.entry) }
     {
@@ -81,7 +81,7 @@ impl TypeCoordinate {
     /// The coordinate that a text `Type` says, whose name has no location.
     ///
     /// A text that is no name is refused with [`InvalidName`](SchemaCoordinateParseError::InvalidName) of the text;
-    /// [`Memory`](SchemaCoordinateParseError::Memory) is want of memory. `InvalidFormat` doesn't come.
+    /// [`Memory`](SchemaCoordinateParseError::Memory) is out of memory. `InvalidFormat` doesn't come.
     pub fn from_str(alloc: Global, text: &str) -> Result<TypeCoordinate, SchemaCoordinateParseError>
         ensures says { IfOk result (λ c. SaysCoordinate text.now (any.Ty c)) }
         ensures refused { IfErr result (WhenRefused (IsNoName text.now)) }
@@ -195,7 +195,7 @@ impl SchemaCoordinate {
     /// The coordinate that a text of any form says, whose names have no location.
     ///
     /// A text of no form is refused with [`InvalidName`](SchemaCoordinateParseError::InvalidName) of the whole text, but for
-    /// the `@` that it may begin with. [`Memory`](SchemaCoordinateParseError::Memory) is want of memory, and is answered at
+    /// the `@` that it may begin with. [`Memory`](SchemaCoordinateParseError::Memory) is out of memory, and is answered at
     /// once. `InvalidFormat` doesn't come.
     pub fn from_str(
         alloc: Global,

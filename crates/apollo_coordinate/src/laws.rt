@@ -18,7 +18,7 @@ use apollo_types::laws::equality_of_types;
 use graphql_ast::laws::equality_of_the_type_system;
 
 /// Whatever reads the text of a coordinate of valid names, as [`SchemaCoordinate::from_str`] does, answers that
-/// coordinate, without the locations of its names, or want of memory; no text belongs to two such coordinates; and each text
+/// coordinate, without the locations of its names, or out of memory; no text belongs to two such coordinates; and each text
 /// that says a coordinate is in the grammar.
 pub fn coordinates()
     ensures read { (c : SchemaCoordinate) (result : Result SchemaCoordinate SchemaCoordinateParseError)
@@ -28,7 +28,7 @@ pub fn coordinates()
     ensures said { (t : List ℕ) (c : SchemaCoordinate) → SaysCoordinate t c → IsCoordinateText t }
 {}
 
-/// What one form refuses, other than for want of memory, is no text of that form.
+/// What one form refuses, other than because memory ran out, is no text of that form.
 pub fn refused_texts()
     ensures ty { (t : List ℕ) (e : SchemaCoordinateParseError) → IsNoName t e → ¬ IsTypeText t }
     ensures attribute { (t : List ℕ) (e : SchemaCoordinateParseError) → IsNoAttribute t e

@@ -18,7 +18,7 @@ pub(crate) enum Refusal<'a> {
 }
 
 impl<'a> Refusal<'a> {
-    /// The error that is answered, with a copy of the part that is no name; or want of memory, where there is none for that.
+    /// The error that is answered, with a copy of the part that is no name; or out of memory, where there is none for that.
     pub(crate) fn into_error(self, alloc: Global) -> SchemaCoordinateParseError
         ensures answered { WhenRefused (λ error. error ≡ error_of self.entry) result }
         ensures format { error_of self.entry ≡ SchemaCoordinateParseError.InvalidFormat

@@ -28,7 +28,7 @@ use std::alloc::{AllocError, Global};
 /// fault, but for fields of a type that the schema lacks, and for definitions of the type system where these are not. So is a
 /// kept anonymous operation that isn't the only one.
 ///
-/// After want of memory the builder holds nothing, and each later call answers `Failed`.
+/// When memory has run out the builder holds nothing, and each later call answers `Failed`.
 pub struct ExecutableDocumentBuilder<'schema> {
     schema: Option<&'schema Schema>,
     state: State,
@@ -83,7 +83,7 @@ impl<'schema> ExecutableDocumentBuilder<'schema> {
     /// Adds the definitions of a document, in order, and its sources: of two files of one number the later stays. Definitions of
     /// the type system are passed over; with `type_system_definitions_are_errors` each is a fault (section 2.2).
     ///
-    /// `Memory` is want of memory, and drops all that was added, sources too; `Failed` comes exactly after that, and changes
+    /// `Memory` is out of memory, and drops all that was added, sources too; `Failed` comes exactly after that, and changes
     /// nothing. No other error comes, and of a document without definitions and sources `Failed` alone.
     pub fn add_ast_document(
         &mut self,

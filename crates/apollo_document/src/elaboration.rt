@@ -25,7 +25,7 @@ use std::alloc::{AllocError, Global};
 /// condition is the name of a type; its selections are from that, or without a condition from the same type. A spread always
 /// is. Without a schema every selection is typable, and each field has a definition of its name, whose type is `UNKNOWN`.
 ///
-/// Whatever the answer, the path is afterwards as it was before. The error is want of memory, and leaves the faults as they were.
+/// Whatever the answer, the path is afterwards as it was before. The error is out of memory, and leaves the faults as they were.
 pub fn elaborate_selections(
     alloc: Global,
     schema: Option<&Schema>,

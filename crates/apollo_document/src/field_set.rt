@@ -22,7 +22,7 @@ use graphql_nodes::source::SourceMap;
 use std::alloc::{AllocError, Global};
 
 /// Selections from a type of a schema, without a definition around them, and the files that they come from. A clone is the
-/// original, with its sources; its error is want of memory.
+/// original, with its sources; its error is out of memory.
 #[derive(Debug)]
 pub struct FieldSet {
     pub sources: SourceMap,
@@ -53,7 +53,7 @@ impl FieldSet {
     /// The typable ones of these selections from the type of this name, typed as [`elaborate_selections`] says, without
     /// sources, and the faults of the others, in order. Each path begins as that of an anonymous query.
     ///
-    /// The error is want of memory, and drops the name.
+    /// The error is out of memory, and drops the name.
     pub fn from_ast(
         alloc: Global,
         schema: &Schema,
@@ -85,7 +85,7 @@ impl FieldSet {
         Ok((set, faults.into_vec()))
     }
 
-    /// The selections as syntax, in order. The error is want of memory, which a set without selections doesn't meet.
+    /// The selections as syntax, in order. The error is out of memory, which a set without selections doesn't meet.
     pub fn to_ast(&self, alloc: Global) -> Result<Vec<ast::Selection>, AllocError>
         ensures written { IfOk result (λ written. written.items ≡ erased_set self.now.selection_set) }
         ensures memory { OnErr result (self.now.selection_set.selections ≢ []) }

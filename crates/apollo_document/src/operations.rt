@@ -59,7 +59,7 @@ fn operation_over(
     })
 }
 
-/// Notes that an anonymous operation at this location isn't the only one. The error is want of memory.
+/// Notes that an anonymous operation at this location isn't the only one. The error is out of memory.
 pub(crate) fn note_ambiguous(
     location: Option<SourceSpan>,
     faults: &mut Items<Fault>,

@@ -10,7 +10,7 @@ use std::fmt;
 
 /// The definition that a selection stands in. `Display` is `query`, `query N` or `fragment F`, with the operation's keyword.
 ///
-/// Equality is that of the texts of names. A clone is the original, with locations; its error is want of memory.
+/// Equality is that of the texts of names. A clone is the original, with locations; its error is out of memory.
 #[derive(Debug, Drop, PartialEq, Eq)]
 pub enum ExecutableDefinitionName {
     AnonymousOperation(OperationType),
@@ -21,7 +21,7 @@ pub enum ExecutableDefinitionName {
 /// The definition that a selection stands in, and the response keys of the fields around it, from the outermost on. In a
 /// fault of a field its own key is the last.
 ///
-/// Equality is that of the texts of names. A clone is the original, with locations; its error is want of memory.
+/// Equality is that of the texts of names. A clone is the original, with locations; its error is out of memory.
 #[derive(Debug, PartialEq, Eq)]
 pub struct SelectionPath {
     pub root: ExecutableDefinitionName,

@@ -215,7 +215,7 @@ impl Tables {
         Ok(())
     }
 
-    /// Takes a document: its definitions, and then its sources. The error is want of memory, which a document without definitions
+    /// Takes a document: its definitions, and then its sources. The error is out of memory, which a document without definitions
     /// and sources doesn't meet, and after which nothing is said of the tables.
     pub fn take_document(
         &mut self,

@@ -36,7 +36,7 @@ fn unknown_field(alloc: Global, name: &Name) -> Result<Node<FieldDefinition>, Al
     Node::new(alloc, definition)
 }
 
-/// The definition of a field of this name in a type. That a type of the schema has none is noted. The error is want of memory.
+/// The definition of a field of this name in a type. That a type of the schema has none is noted. The error is out of memory.
 fn definition_in(
     alloc: Global,
     parent: &Parent,
@@ -92,7 +92,7 @@ fn unless_leaf(
     Ok(None)
 }
 
-/// The definition of a field that is typable in a type. What is wrong with another is noted. The error is want of memory.
+/// The definition of a field that is typable in a type. What is wrong with another is noted. The error is out of memory.
 pub(crate) fn typable_field(
     alloc: Global,
     parent: &Parent,
@@ -126,7 +126,7 @@ pub fn has_type(schema: Option<&Schema>, ty: &NamedType) -> bool
 }
 
 /// The type that the selections of an inline fragment are from, if it is typable in a type: that of its condition, or without
-/// one the same. A condition that is no type is noted. The error is want of memory.
+/// one the same. A condition that is no type is noted. The error is out of memory.
 pub(crate) fn typable_fragment<'a>(
     schema: Option<&Schema>,
     ty: &'a NamedType,

@@ -10,13 +10,13 @@ use Rattle.apollo_executable.specs.declared.new_field_error.NewFieldError.TheVar
 use Rattle.apollo_executable.specs.declared.request_error.RequestError.{RequestError}
 use Rattle.apollo_executable.specs.declared.request_error.RequestError.TheVariants as requests
 
--- nothing for want of memory, else the name that no operation has, if one was given
+-- nothing if memory ran out, else the name that no operation has, if one was given
 abbrev pub bare_request_error : RequestError → Option (Option NameView)
 bare_request_error (requests.NoSuchOperation name) = Some (Some (bare_name name.now))
 bare_request_error requests.Ambiguous = Some None
 bare_request_error requests.Memory = None
 
--- nothing for want of memory, else what is compared of the lookup's error
+-- nothing if memory ran out, else what is compared of the lookup's error
 abbrev pub bare_new_field_error : NewFieldError → Option (Option (NameView × BareType))
 bare_new_field_error (fields.Lookup error) = Some (bare_field_lookup_error error)
 bare_new_field_error fields.Memory = None

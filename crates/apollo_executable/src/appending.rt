@@ -6,7 +6,7 @@ use graphql_nodes::collections::items::Items;
 use graphql_nodes::node::Node;
 use std::alloc::AllocError;
 
-/// Adds the directives at the end, in order. The error is want of memory.
+/// Adds the directives at the end, in order. The error is out of memory.
 pub(crate) fn append_directives(
     list: &mut DirectiveList,
     directives: Vec<Node<Directive>>,

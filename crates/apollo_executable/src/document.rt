@@ -16,7 +16,7 @@ pub type FragmentMap = Table<Name, Node<Fragment>>;
 /// The operations and fragments of a document, and the files that they come from.
 ///
 /// Documents are equal where their operations and fragments are, in any order: locations and sources are left out. A clone is
-/// the original, with both; its error is want of memory.
+/// the original, with both; its error is out of memory.
 #[derive(Debug, Drop, Clone)]
 #[derive_where(PartialEq, Eq)]
 pub struct ExecutableDocument {

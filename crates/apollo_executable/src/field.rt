@@ -24,7 +24,7 @@ use std::alloc::{AllocError, Global};
 
 impl Field {
     /// A field of this name and definition, without alias, arguments, directives and selections. Its set selects from the type
-    /// that the definition names, inside all lists. The error is want of memory, and drops the name and the definition.
+    /// that the definition names, inside all lists. The error is out of memory, and drops the name and the definition.
     ///
     /// [`SelectionSet::new_field`] looks the definition up in a schema.
     pub fn new(
@@ -61,7 +61,7 @@ impl Field {
         self
     }
 
-    /// The same field with one more directive at the end. The error is want of memory, and drops the field.
+    /// The same field with one more directive at the end. The error is out of memory, and drops the field.
     pub fn with_directive(mut self, directive: Node<Directive>) -> Result<Field, AllocError>
         ensures { IfOk result (λ field. field
             ≡ record self { directives = record { 0 = self.directives.0 ++ directive ∷ [] } }) }
@@ -70,7 +70,7 @@ impl Field {
         Ok(self)
     }
 
-    /// The same field with these directives at the end. The error is want of memory, and drops the field.
+    /// The same field with these directives at the end. The error is out of memory, and drops the field.
     pub fn with_directives(mut self, directives: Vec<Node<Directive>>) -> Result<Field, AllocError>
         ensures { IfOk result (λ field. field
             ≡ record self { directives = record { 0 = self.directives.0 ++ directives.items } }) }
@@ -79,7 +79,7 @@ impl Field {
         Ok(self)
     }
 
-    /// The same field with one more argument at the end, without a location. The error is want of memory, and drops the field.
+    /// The same field with one more argument at the end, without a location. The error is out of memory, and drops the field.
     pub fn with_argument(
         mut self,
         alloc: Global,
@@ -97,7 +97,7 @@ impl Field {
         Ok(self)
     }
 
-    /// The same field with these arguments at the end. The error is want of memory, and drops the field.
+    /// The same field with these arguments at the end. The error is out of memory, and drops the field.
     pub fn with_arguments(mut self, arguments: Vec<Node<Argument>>) -> Result<Field, AllocError>
         ensures { IfOk result (λ field. field
             ≡ record self { arguments = self.arguments ++ arguments.items }) }
@@ -106,7 +106,7 @@ impl Field {
         Ok(self)
     }
 
-    /// The same field with one more selection at the end of its set. The error is want of memory, and drops the field.
+    /// The same field with one more selection at the end of its set. The error is out of memory, and drops the field.
     pub fn with_selection(mut self, selection: Selection) -> Result<Field, AllocError>
         ensures { IfOk result (λ field. field
             ≡ record self {
@@ -118,7 +118,7 @@ impl Field {
         Ok(self)
     }
 
-    /// The same field with these selections at the end of its set. The error is want of memory, and drops the field.
+    /// The same field with these selections at the end of its set. The error is out of memory, and drops the field.
     pub fn with_selections(mut self, selections: Vec<Selection>) -> Result<Field, AllocError>
         ensures { IfOk result (λ field. field
             ≡ record self {

@@ -16,7 +16,7 @@ use std::alloc::{AllocError, Global};
 
 impl InlineFragment {
     /// An inline fragment on this type, without directives and selections. Its set selects from the same type. The error is
-    /// want of memory, and drops the name.
+    /// out of memory, and drops the name.
     pub fn with_type_condition(
         alloc: Global,
         type_condition: NamedType,
@@ -46,7 +46,7 @@ impl InlineFragment {
         }
     }
 
-    /// The same inline fragment with one more directive at the end. The error is want of memory, and drops the fragment.
+    /// The same inline fragment with one more directive at the end. The error is out of memory, and drops the fragment.
     pub fn with_directive(
         mut self,
         directive: Node<Directive>,
@@ -58,7 +58,7 @@ impl InlineFragment {
         Ok(self)
     }
 
-    /// The same inline fragment with these directives at the end. The error is want of memory, and drops the fragment.
+    /// The same inline fragment with these directives at the end. The error is out of memory, and drops the fragment.
     pub fn with_directives(
         mut self,
         directives: Vec<Node<Directive>>,
@@ -70,7 +70,7 @@ impl InlineFragment {
         Ok(self)
     }
 
-    /// The same inline fragment with one more selection at the end of its set. The error is want of memory, and drops the
+    /// The same inline fragment with one more selection at the end of its set. The error is out of memory, and drops the
     /// fragment.
     pub fn with_selection(mut self, selection: Selection) -> Result<InlineFragment, AllocError>
         ensures { IfOk result (λ inline. inline
@@ -83,7 +83,7 @@ impl InlineFragment {
         Ok(self)
     }
 
-    /// The same inline fragment with these selections at the end of its set. The error is want of memory, and drops the
+    /// The same inline fragment with these selections at the end of its set. The error is out of memory, and drops the
     /// fragment.
     pub fn with_selections(
         mut self,
@@ -111,7 +111,7 @@ impl FragmentSpread {
         }
     }
 
-    /// The same spread with one more directive at the end. The error is want of memory, and drops the spread.
+    /// The same spread with one more directive at the end. The error is out of memory, and drops the spread.
     pub fn with_directive(
         mut self,
         directive: Node<Directive>,
@@ -123,7 +123,7 @@ impl FragmentSpread {
         Ok(self)
     }
 
-    /// The same spread with these directives at the end. The error is want of memory, and drops the spread.
+    /// The same spread with these directives at the end. The error is out of memory, and drops the spread.
     pub fn with_directives(
         mut self,
         directives: Vec<Node<Directive>>,

@@ -13,7 +13,7 @@ use std::alloc::AllocError;
 
 /// A query, mutation or subscription, anonymous where it has no name (section 2.3).
 ///
-/// Equality leaves out locations. A clone is the original, with them; its error is want of memory.
+/// Equality leaves out locations. A clone is the original, with them; its error is out of memory.
 #[derive(Debug, PartialEq, Eq)]
 pub struct Operation {
     pub operation_type: OperationType,
@@ -37,7 +37,7 @@ impl Drop for Operation {
 
 /// A named fragment (section 2.8). Its type condition is the type of its selection set.
 ///
-/// Equality leaves out locations. A clone is the original, with them; its error is want of memory.
+/// Equality leaves out locations. A clone is the original, with them; its error is out of memory.
 #[derive(Debug, PartialEq, Eq)]
 pub struct Fragment {
     pub name: Name,

@@ -16,7 +16,7 @@ use std::alloc::Global;
 /// The anonymous operation of a document, if there is one, and its named operations under their names, in order.
 ///
 /// Maps are equal where their anonymous operations are, and those under each name, in any order. A clone is the original, with
-/// locations; its error is want of memory.
+/// locations; its error is out of memory.
 #[derive(Debug, PartialEq, Eq, Clone)]
 pub struct OperationMap {
     pub anonymous: Option<Node<Operation>>,
@@ -64,7 +64,7 @@ impl OperationMap {
         }
     }
 
-    /// One operation, under its name if it has one, in a map that hashes by fixed keys. After want of memory, which an anonymous
+    /// One operation, under its name if it has one, in a map that hashes by fixed keys. When memory runs out, which an anonymous
     /// operation doesn't meet, the error is the operation.
     pub fn from_one(
         alloc: Global,
@@ -143,7 +143,7 @@ impl OperationMap {
     /// The operation that a request asks for, to write to, as [`get`](OperationMap::get) finds it. When the loan ends, it is what
     /// was written: its location, its place in the map and the key that it stands under stay, and so do all other operations.
     ///
-    /// An operation that is shared is copied first: [`RequestError::Memory`] is want of memory for that, and comes only where
+    /// An operation that is shared is copied first: [`RequestError::Memory`] is out of memory for that, and comes only where
     /// `get` finds an operation. The other errors are those of `get`. After any error the map is as it was.
     pub fn get_mut<'n>(
         &mut self,
@@ -189,7 +189,7 @@ impl OperationMap {
     /// Puts the operation under its name, or makes it the anonymous one if it has none. Answers the operation that stood there,
     /// if one did. Under a name that is there it has that one's place, and under a new one it goes last.
     ///
-    /// The error is want of memory: it is the operation, and the map is as it was. An anonymous operation takes no memory.
+    /// The error is out of memory: it is the operation, and the map is as it was. An anonymous operation takes no memory.
     pub fn insert(
         &mut self,
         operation: Node<Operation>,

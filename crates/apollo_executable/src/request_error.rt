@@ -16,7 +16,7 @@ pub enum RequestError<'n> {
     /// No name was given, and the document has no operation or several.
     #[error("Ambiguous request: multiple operations but no specified `operationName`")]
     Ambiguous,
-    /// Want of memory: from `get_mut` alone.
+    /// Out of memory: from `get_mut` alone.
     #[error("out of memory")]
     Memory,
 }

@@ -4,7 +4,7 @@
 //! definition in the schema. All fields are public: any value may be made, whether a schema has such types and fields or not.
 //!
 //! Equality leaves out locations; definitions of fields and types of sets count. A clone is the original, with locations, and
-//! its error is want of memory.
+//! its error is out of memory.
 ghost use Rattle.std.specs.Prelude.{◌≡◌};
 
 use graphql_ast::directive::{Argument, DirectiveList};

@@ -10,7 +10,7 @@ use graphql_nodes::node::Node;
 use std::alloc::{AllocError, Global};
 
 impl Selection {
-    /// A selection of this field, without a location. The error is want of memory, and drops the field.
+    /// A selection of this field, without a location. The error is out of memory, and drops the field.
     pub fn of_field(alloc: Global, field: Field) -> Result<Selection, AllocError>
         ensures { IfOk result (λ selection. selection
             ≡ selections.Field (record { value = field; location = None })) }
@@ -18,7 +18,7 @@ impl Selection {
         Ok(Selection::Field(Node::new(alloc, field)?))
     }
 
-    /// A selection of this inline fragment, without a location. The error is want of memory, and drops the fragment.
+    /// A selection of this inline fragment, without a location. The error is out of memory, and drops the fragment.
     pub fn of_inline_fragment(
         alloc: Global,
         inline_fragment: InlineFragment,
@@ -29,7 +29,7 @@ impl Selection {
         Ok(Selection::InlineFragment(Node::new(alloc, inline_fragment)?))
     }
 
-    /// A selection of this spread, without a location. The error is want of memory, and drops the spread.
+    /// A selection of this spread, without a location. The error is out of memory, and drops the spread.
     pub fn of_fragment_spread(
         alloc: Global,
         fragment_spread: FragmentSpread,

@@ -29,7 +29,7 @@ impl SelectionSet {
         self.selections.is_empty()
     }
 
-    /// Adds a selection at the end. The error is want of memory: the set is as it was, and the selection is dropped.
+    /// Adds a selection at the end. The error is out of memory: the set is as it was, and the selection is dropped.
     pub fn push(&mut self, selection: Selection) -> Result<(), AllocError>
         ensures ok { OnOk result (self.new
             ≡ record self.old { selections = self.old.selections ++ selection ∷ [] }) }
@@ -38,7 +38,7 @@ impl SelectionSet {
         self.selections.push(selection)
     }
 
-    /// Adds the selections at the end, in order. The error is want of memory: the set is as it was, and the selections are
+    /// Adds the selections at the end, in order. The error is out of memory: the set is as it was, and the selections are
     /// dropped.
     pub fn extend(&mut self, selections: Vec<Selection>) -> Result<(), AllocError>
         ensures ok { OnOk result (self.new
@@ -53,7 +53,7 @@ impl SelectionSet {
     /// inside all lists.
     ///
     /// [`NewFieldError::Lookup`] says that the schema has no such type, or the type no such field; [`NewFieldError::Memory`] is
-    /// want of memory, and comes only where the type has the field. Either drops the name.
+    /// out of memory, and comes only where the type has the field. Either drops the name.
     pub fn new_field<'schema>(
         &self,
         alloc: Global,
@@ -69,7 +69,7 @@ impl SelectionSet {
     }
 
     /// An inline fragment, to be added with [`push`](SelectionSet::push). Its set selects from the type of its condition, or
-    /// without one from that of this set. The error is want of memory, and drops the condition.
+    /// without one from that of this set. The error is out of memory, and drops the condition.
     pub fn new_inline_fragment(
         &self,
         alloc: Global,

@@ -20,7 +20,7 @@ use graphql_nodes::source::SourceSpan;
 use std::alloc::{AllocError, Global};
 
 impl SelectionSet {
-    /// The selections as syntax, in order. The error is want of memory, which a set without selections doesn't meet.
+    /// The selections as syntax, in order. The error is out of memory, which a set without selections doesn't meet.
     #[cycle(to_ast)]
     #[tactic(auto, using(crate::proofs::Erasing::set_erases))]
     pub fn to_ast(&self, alloc: Global) -> Result<Vec<ast::Selection>, AllocError>
@@ -37,7 +37,7 @@ impl SelectionSet {
 }
 
 impl Selection {
-    /// The selection as syntax, at the same location. The error is want of memory.
+    /// The selection as syntax, at the same location. The error is out of memory.
     #[cycle(to_ast)]
     pub fn to_ast(&self, alloc: Global) -> Result<ast::Selection, AllocError>
         ensures { IfOk result (λ written. written ≡ erased self.now) }
@@ -60,7 +60,7 @@ impl Selection {
 }
 
 impl Field {
-    /// The field as syntax, without its definition. The error is want of memory.
+    /// The field as syntax, without its definition. The error is out of memory.
     #[cycle(to_ast)]
     pub fn to_ast(&self, alloc: Global) -> Result<ast::Field, AllocError>
         ensures { IfOk result (λ written. written ≡ erased_field self.now) }
@@ -91,7 +91,7 @@ impl Field {
 }
 
 impl InlineFragment {
-    /// The inline fragment as syntax, without the type of its set. The error is want of memory.
+    /// The inline fragment as syntax, without the type of its set. The error is out of memory.
     #[cycle(to_ast)]
     pub fn to_ast(&self, alloc: Global) -> Result<ast::InlineFragment, AllocError>
         ensures { IfOk result (λ written. written ≡ erased_inline_fragment self.now) }
@@ -118,7 +118,7 @@ impl InlineFragment {
 }
 
 impl FragmentSpread {
-    /// The spread as syntax. The error is want of memory.
+    /// The spread as syntax. The error is out of memory.
     pub fn to_ast(&self) -> Result<ast::FragmentSpread, AllocError>
         ensures { IfOk result (λ written. written ≡ erased_spread self.now) }
     {
@@ -130,7 +130,7 @@ impl FragmentSpread {
 }
 
 impl Operation {
-    /// The operation as a definition at this location, if one is given. The error is want of memory.
+    /// The operation as a definition at this location, if one is given. The error is out of memory.
     pub fn to_ast(
         &self,
         alloc: Global,
@@ -177,7 +177,7 @@ impl Fragment {
 
 impl ExecutableDocument {
     /// The document as syntax, without its sources: the anonymous operation, the named operations and the fragments, in
-    /// order, each at the location of its node. The error is want of memory, which a document without operations and fragments
+    /// order, each at the location of its node. The error is out of memory, which a document without operations and fragments
     /// doesn't meet.
     pub fn to_ast(&self, alloc: Global) -> Result<Document, AllocError>
         ensures written { IfOk result (λ written. written ≡ erased_document self.now) }

@@ -24,7 +24,7 @@ use graphql_nodes::node::Node;
 use graphql_nodes::operation_type::OperationType;
 use std::alloc::{AllocError, Global};
 
-/// The empty definition of the kind of an extension, with its name and at its location. The error is want of memory.
+/// The empty definition of the kind of an extension, with its name and at its location. The error is out of memory.
 fn empty_definition(alloc: Global, extension: &PartView<'_>) -> Result<Definition, AllocError>
     ensures { IfOk result (λ made. item_of made ≡ Defined (adopted_part (part_seen extension.now))) }
 {
@@ -52,7 +52,7 @@ fn adopt_first(
 }
 
 /// The empty definitions of the names under which extensions wait, in order: of the kind of the first of these, with its name and
-/// at its location (section 3.4.3). The error is want of memory.
+/// at its location (section 3.4.3). The error is out of memory.
 pub fn adopted_definitions(
     alloc: Global,
     waiting: &Table<Name, Items<Definition>>,
@@ -130,7 +130,7 @@ fn implied_roots(
 /// type's (section 3.3.1).
 ///
 /// With adoption there always is one, which has no root if an extension names one. Without adoption there is none if there is no
-/// implicit root. The error is want of memory.
+/// implicit root. The error is out of memory.
 pub fn implied_definition(
     alloc: Global,
     extensions: &[Node<SchemaExtension>],

@@ -7,7 +7,7 @@ use thiserror::Error;
 /// Why a builder stopped. It answers [`Failed`](BuilderError::Failed) from then on.
 #[derive(Debug, Drop, PartialEq, Eq, Error)]
 pub enum BuilderError {
-    /// Want of memory.
+    /// Out of memory.
     #[error("out of memory")]
     Memory,
     /// The extensions that are to be folded need more numbers than the source has left.

@@ -14,7 +14,7 @@ use std::alloc::AllocError;
 /// Takes a directive definition: GraphQL specification of October 2021, section 3.13.
 ///
 /// The first of a name goes last. One whose name has a built-in definition replaces that, in its place. A further one of a name
-/// that isn't built-in is dropped, and its fault added at the end. The error is want of memory.
+/// that isn't built-in is dropped, and its fault added at the end. The error is out of memory.
 pub fn define_directive(
     table: &mut Table<Name, Node<DirectiveDefinition>>,
     node: &Node<DirectiveDefinition>,

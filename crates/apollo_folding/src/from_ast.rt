@@ -83,7 +83,7 @@ fn kind_mismatch(ty: &ExtendedType, part: &PartView<'_>) -> Result<Fault, AllocE
 /// Folds an extension in under the source's next identity, if it has the type's kind (section 3.4.3): what is there already is
 /// left out, and its faults added at the end. One of another kind is a fault, and leaves the type and the source as they were.
 ///
-/// `Memory` is want of memory. `ExtensionIds` comes only where the extension has the type's kind, and the source no number left.
+/// `Memory` is out of memory. `ExtensionIds` comes only where the extension has the type's kind, and the source no number left.
 pub fn extend_type(
     ty: &mut ExtendedType,
     extension: &PartView<'_>,
@@ -162,7 +162,7 @@ fn extend_by_all(
 /// The type of a definition with these extensions folded in, in order, as [`extend_type`] does. Its tables hash by these keys.
 /// The faults of the definition are added at the end, and then those of the extensions.
 ///
-/// `Memory` is want of memory. `ExtensionIds` comes only where the source has fewer numbers left than there are extensions of the
+/// `Memory` is out of memory. `ExtensionIds` comes only where the source has fewer numbers left than there are extensions of the
 /// definition's kind.
 pub fn begin_type(
     alloc: Global,

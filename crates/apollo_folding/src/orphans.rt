@@ -41,7 +41,7 @@ fn note_orphans_of(extensions: &[Definition], faults: &mut Items<Fault>) -> Resu
 }
 
 /// Adds the fault of each extension of a type that still waits (section 3.4.3) at the end: name by name, and of one name in
-/// order. The error is want of memory.
+/// order. The error is out of memory.
 pub fn note_orphans(
     waiting: &Table<Name, Items<Definition>>,
     faults: &mut Items<Fault>,
@@ -55,7 +55,7 @@ pub fn note_orphans(
 }
 
 /// Adds the fault of each of these extensions of a schema that has no definition (section 3.3.2) at the end, in order. The error
-/// is want of memory.
+/// is out of memory.
 pub fn note_schema_orphans(
     extensions: &[Node<SchemaExtension>],
     faults: &mut Items<Fault>,

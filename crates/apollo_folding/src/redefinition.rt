@@ -37,7 +37,7 @@ fn built_in_redefinition(
 }
 
 /// Adds the fault of a further definition of a type's name at the end, unless the type is built-in and such definitions are
-/// ignored: then nothing is added. The error is want of memory.
+/// ignored: then nothing is added. The error is out of memory.
 pub fn note_redefinition(
     previous: &ExtendedType,
     further: &PartView<'_>,

@@ -51,7 +51,7 @@ pub struct PartView<'a> {
 impl<'a> PartView<'a> {
     ghost use Rattle.apollo_folding.specs.Views.{part_seen};
 
-    /// A copy of the description, if there is one. The error is want of memory.
+    /// A copy of the description, if there is one. The error is out of memory.
     pub fn description(&self) -> Result<Option<NodeStr>, AllocError>
         ensures { IfOk result (λ copy. copy ≡ option_copied self.now.description) }
     {

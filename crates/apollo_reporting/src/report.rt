@@ -39,8 +39,8 @@ use std::fmt::{Formatter, Write};
 /// An earlier place that the fault has to do with follows in the same form, behind `note:` and what stands there. Where the
 /// sources lack the file, or its text ends before, the line isn't shown.
 ///
-/// Paths and lines are written as [`visible`] shows them, with no control character but tab. The sentence is written as the
-/// fault itself writes it; [`report_text`] shows it so too.
+/// The file's name and its lines are written as [`visible`] shows them, with no control character but tab. The sentence and
+/// the path are written as the fault has them; [`report_text`] shows the sentence as [`visible`] does.
 pub struct FaultReport<'s, 'f, S, E> {
     pub sources: &'s S,
     pub location: Option<SourceSpan>,

@@ -30,7 +30,7 @@ standing : (s : State) (xs : List ListItem) → StateStands 0 xs s → StateFail
 standing (Open tables) xs stood failed = failed
 standing (Failed source) xs stood failed = stood
 
--- such a build fails for want of memory alone
+-- such a build fails only because memory ran out
 pub only-memory : (b : SchemaBuilder) (r : Result Schema BuildFailure) → StandsFor 0 (added false built_in_definitions) b → adopts b ≡ false
     → IfErr r (λ failure. IfFaults failure (λ partial faults. (start : ℕ) (xs : List Added) → StandsFor start xs b
     → MeansSchema start (adopts b) xs partial × ((faults ≡ faults_of (adopts b) xs × faults ≢ []) × partial.sources ≡ sources_of b)))

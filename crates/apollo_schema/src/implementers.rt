@@ -32,7 +32,7 @@ impl Drop for Implementers {
 impl Clone for Implementers {
     ghost is_clone = { λ a b. b ≡ a };
 
-    /// The same names, in the same order, with their locations. The error is want of memory.
+    /// The same names, in the same order, with their locations. The error is out of memory.
     fn clone(&self) -> Result<Implementers, AllocError> {
         Ok(Implementers {
             objects: self.objects.clone()?,
@@ -69,7 +69,7 @@ impl Implementers {
         }
     }
 
-    /// Adds the name of an object type, or else of an interface type. The error is want of memory.
+    /// Adds the name of an object type, or else of an interface type. The error is out of memory.
     pub(crate) fn add(&mut self, name: &Name, is_object: bool) -> Result<(), AllocError>
         ensures { OnOk result (self.new ≡ with_implementer is_object name.now self.old) }
     {

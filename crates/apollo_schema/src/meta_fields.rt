@@ -94,7 +94,7 @@ fn type_by_name(alloc: Global) -> Result<Component<FieldDefinition>, AllocError>
 }
 
 impl MetaFields {
-    /// The three definitions. The error is want of memory.
+    /// The three definitions. The error is out of memory.
     /// No clause: each value of the type holds the three.
     pub fn new(alloc: Global) -> Result<MetaFields, AllocError> {
         let typename = non_null(alloc, "String")?;
@@ -128,7 +128,7 @@ impl MetaFields {
     }
 }
 
-/// A copy shares the three definitions. The error is want of memory.
+/// A copy shares the three definitions. The error is out of memory.
 impl Clone for MetaFields {
     ghost is_clone = { λ a b. b ≡ a };
 

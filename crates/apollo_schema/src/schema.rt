@@ -46,7 +46,7 @@ impl Schema {
     ghost use Rattle.apollo_schema.specs.SchemaWriteOut.{write_schema};
     ghost use Rattle.apollo_schema.specs.BuilderStands.{StandsFor, adopts, ignores, sources_of};
 
-    /// A builder of the built-in definitions alone, as [`SchemaBuilder::new`] makes it. The error is want of memory.
+    /// A builder of the built-in definitions alone, as [`SchemaBuilder::new`] makes it. The error is out of memory.
     pub fn builder(alloc: Global) -> Result<SchemaBuilder, AllocError>
         ensures stands { IfOk result (StandsFor 0 (added false built_in_definitions)) }
         ensures settings { IfOk result (λ builder. (adopts builder ≡ false) × (ignores builder ≡ false)) }
@@ -55,7 +55,7 @@ impl Schema {
         SchemaBuilder::new(alloc)
     }
 
-    /// The schema of no documents: that of the built-in definitions alone. The error is want of memory.
+    /// The schema of no documents: that of the built-in definitions alone. The error is out of memory.
     pub fn new(alloc: Global) -> Result<Schema, AllocError>
         ensures means { IfOk result (MeansSchema 0 false (added false built_in_definitions)) }
         ensures sources { IfOk result (λ schema. schema.sources ≡ []) }
@@ -70,7 +70,7 @@ impl Schema {
         }
     }
 
-    /// The schema of these parts, of which nothing is asked. The error is want of memory, and drops the parts.
+    /// The schema of these parts, of which nothing is asked. The error is out of memory, and drops the parts.
     pub fn from_parts(
         alloc: Global,
         sources: SourceMap,

@@ -62,7 +62,7 @@ impl SchemaBuilder {
     ghost use Rattle.apollo_meaning.specs.Order.SpentIds.{SpendsIds, SpendsIdsSoFar, folds_so_far};
 
     /// A builder of the built-in definitions alone, without sources and without either option, whose first extension has the
-    /// number 0. The error is want of memory.
+    /// number 0. The error is out of memory.
     pub fn new(alloc: Global) -> Result<SchemaBuilder, AllocError>
         ensures stands { IfOk result (StandsFor 0 (added false built_in_definitions)) }
         ensures settings { IfOk result (λ builder. (adopts builder ≡ false) × (ignores builder ≡ false)) }
@@ -192,7 +192,7 @@ impl SchemaBuilder {
     ///
     /// `Faults`, with what could be built, sources included, comes exactly where what was added has faults: first those found as
     /// definitions are added, in that order; then extensions of types without a definition; then what is found at an implied
-    /// definition of the schema, and extensions of the schema without one. `Memory` is want of memory; `ExtensionIds` comes only
+    /// definition of the schema, and extensions of the schema without one. `Memory` is out of memory; `ExtensionIds` comes only
     /// where the extensions folded pass the largest number, and a schema, with faults or without, only where they don't; `Failed`
     /// comes exactly after a refusal. With these three errors all that was added is dropped.
     pub fn build(self) -> Result<Schema, BuildFailure>
@@ -253,7 +253,7 @@ impl SchemaBuilder {
 }
 
 /// A copy stands for what the original stands for, with its options and sources, and draws the numbers that the original draws. A
-/// copy of a builder that has failed has failed. The error is want of memory.
+/// copy of a builder that has failed has failed. The error is out of memory.
 impl Clone for SchemaBuilder {
     ghost is_clone = { λ a b. b ≡ a };
 

@@ -12,7 +12,7 @@ pub enum State {
     Failed(ExtensionSource),
 }
 
-/// A copy draws the numbers that the original draws. The error is want of memory.
+/// A copy draws the numbers that the original draws. The error is out of memory.
 impl Clone for State {
     ghost is_clone = { λ a b. b ≡ a };
 

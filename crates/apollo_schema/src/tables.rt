@@ -75,7 +75,7 @@ impl Drop for Tables {
     }
 }
 
-/// Puts a type under a name. The error is want of memory.
+/// Puts a type under a name. The error is out of memory.
 fn put(
     types: &mut Table<Name, ExtendedType>,
     name: &Name,
@@ -107,7 +107,7 @@ impl Tables {
         }
     }
 
-    /// Tables of the built-in definitions, which hash by these keys, as do those of their types. The error is want of memory.
+    /// Tables of the built-in definitions, which hash by these keys, as do those of their types. The error is out of memory.
     pub fn with_built_ins(
         alloc: Global,
         keys: HashKeys,
@@ -264,7 +264,7 @@ impl Tables {
         Ok(())
     }
 
-    /// Takes a document: its definitions, and then its sources. `Memory` is want of memory; `ExtensionIds` comes only where the
+    /// Takes a document: its definitions, and then its sources. `Memory` is out of memory; `ExtensionIds` comes only where the
     /// numbers don't suffice for its extensions. Neither comes of a document without definitions and sources. After either
     /// nothing is said of the tables.
     pub fn take_document(&mut self, document: &Document, ignores: bool) -> Result<(), BuilderError>

@@ -11,7 +11,7 @@ use graphql_nodes::name::Name;
 use graphql_nodes::node::Node;
 use std::alloc::{AllocError, Global};
 
-/// Adds the directive definitions at the end, in order, without the built-in ones. The error is want of memory.
+/// Adds the directive definitions at the end, in order, without the built-in ones. The error is out of memory.
 pub(crate) fn write_directives(
     definitions: &Table<Name, Node<DirectiveDefinition>>,
     written: &mut Vec<Definition>,

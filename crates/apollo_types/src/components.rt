@@ -93,7 +93,7 @@ impl<'a> Part<'a> {
         }
     }
 
-    /// Adds each component that is left, in order. The error is want of memory, after which nothing is said of the parts.
+    /// Adds each component that is left, in order. The error is out of memory, after which nothing is said of the parts.
     fn add_to(self, alloc: Global, parts: &mut PartsByOrigin) -> Result<(), AllocError>
         ensures { OnOk result ((cs : List SourcedPart) → parts.old ≡ by_origin cs → parts.new ≡ by_origin (cs ++ part_components self.entry)) }
     {
@@ -109,7 +109,7 @@ impl<'a> Part<'a> {
     }
 }
 
-/// Adds each root that is left, in order. A root has the location of its name. The error is want of memory.
+/// Adds each root that is left, in order. A root has the location of its name. The error is out of memory.
 fn add_roots(
     alloc: Global,
     roots: RootOperations<'_>,
@@ -167,7 +167,7 @@ impl<'a> Components<'a> {
         }
     }
 
-    /// The components under their origins, by one pass through them. The error is want of memory.
+    /// The components under their origins, by one pass through them. The error is out of memory.
     pub(crate) fn by_origin(self, alloc: Global) -> Result<PartsByOrigin, AllocError>
         ensures { IfOk result (λ parts. parts ≡ by_origin self.entry) }
     {

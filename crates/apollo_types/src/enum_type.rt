@@ -39,7 +39,7 @@ impl Drop for EnumType {
 impl Clone for EnumType {
     ghost is_clone = { λ a b. b ≡ a };
 
-    /// The same type, with every location and origin. The error is want of memory.
+    /// The same type, with every location and origin. The error is out of memory.
     fn clone(&self) -> Result<EnumType, AllocError> {
         Ok(EnumType {
             description: self.description.clone()?,

@@ -36,7 +36,7 @@ pub enum ExtendedType {
 impl Clone for ExtendedType {
     ghost is_clone = { λ a b. b ≡ a };
 
-    /// The same type, with every location and origin. The node is shared. The error is want of memory.
+    /// The same type, with every location and origin. The node is shared. The error is out of memory.
     fn clone(&self) -> Result<ExtendedType, AllocError> {
         match self {
             ExtendedType::Scalar(node) => Ok(ExtendedType::Scalar(node.clone()?)),
@@ -286,7 +286,7 @@ impl ExtendedType {
     }
 
     /// The type as syntax: its definition, at the type's location, then its extensions, as `to_ast` of its kind writes them. The
-    /// error is want of memory.
+    /// error is out of memory.
     pub fn to_ast(&self, alloc: Global) -> Result<Vec<Definition>, AllocError>
         ensures { IfOk result (λ written. written.items ≡ write_type self.now) }
     {
@@ -295,7 +295,7 @@ impl ExtendedType {
         Ok(written)
     }
 
-    /// Adds the type as syntax at the end, as [`to_ast`](ExtendedType::to_ast) answers it. The error is want of memory, after
+    /// Adds the type as syntax at the end, as [`to_ast`](ExtendedType::to_ast) answers it. The error is out of memory, after
     /// which `written` begins with what it held, and may have more.
     pub fn write_to(&self, alloc: Global, written: &mut Vec<Definition>) -> Result<(), AllocError>
         ensures added { OnOk result (written.new.items ≡ written.old.items ++ write_type self.now) }

@@ -34,7 +34,7 @@ pub trait Extensible {
     }
 
     /// The identities of the extensions that the components come from, by first appearance among their
-    /// [origins](Extensible::iter_origins). The error is want of memory.
+    /// [origins](Extensible::iter_origins). The error is out of memory.
     final fn extensions(&self, alloc: Global) -> Result<KeySet<ExtensionId>, AllocError>
         ensures { IfOk result (λ ids. ids ≡ identities (origins_in (sourced self.now))) }
     {

@@ -39,7 +39,7 @@ impl Drop for InputObjectType {
 impl Clone for InputObjectType {
     ghost is_clone = { λ a b. b ≡ a };
 
-    /// The same type, with every location and origin. The error is want of memory.
+    /// The same type, with every location and origin. The error is out of memory.
     fn clone(&self) -> Result<InputObjectType, AllocError> {
         Ok(InputObjectType {
             description: self.description.clone()?,

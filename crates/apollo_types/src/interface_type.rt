@@ -42,7 +42,7 @@ impl Drop for InterfaceType {
 impl Clone for InterfaceType {
     ghost is_clone = { λ a b. b ≡ a };
 
-    /// The same type, with every location and origin. The error is want of memory.
+    /// The same type, with every location and origin. The error is out of memory.
     fn clone(&self) -> Result<InterfaceType, AllocError> {
         Ok(InterfaceType {
             description: self.description.clone()?,

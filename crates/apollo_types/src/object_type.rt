@@ -42,7 +42,7 @@ impl Drop for ObjectType {
 impl Clone for ObjectType {
     ghost is_clone = { λ a b. b ≡ a };
 
-    /// The same type, with every location and origin. The error is want of memory.
+    /// The same type, with every location and origin. The error is out of memory.
     fn clone(&self) -> Result<ObjectType, AllocError> {
         Ok(ObjectType {
             description: self.description.clone()?,

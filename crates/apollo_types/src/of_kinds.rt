@@ -13,42 +13,42 @@ use graphql_nodes::node::Node;
 use std::alloc::{AllocError, Global};
 
 impl ExtendedType {
-    /// The type, in a node with no location. The error is want of memory, and drops the type.
+    /// The type, in a node with no location. The error is out of memory, and drops the type.
     pub fn of_scalar(alloc: Global, ty: ScalarType) -> Result<ExtendedType, AllocError>
         ensures { IfOk result (λ made. made ≡ Scalar (record { value = ty; location = None })) }
     {
         Ok(ExtendedType::Scalar(Node::new(alloc, ty)?))
     }
 
-    /// The type, in a node with no location. The error is want of memory, and drops the type.
+    /// The type, in a node with no location. The error is out of memory, and drops the type.
     pub fn of_object(alloc: Global, ty: ObjectType) -> Result<ExtendedType, AllocError>
         ensures { IfOk result (λ made. made ≡ Object (record { value = ty; location = None })) }
     {
         Ok(ExtendedType::Object(Node::new(alloc, ty)?))
     }
 
-    /// The type, in a node with no location. The error is want of memory, and drops the type.
+    /// The type, in a node with no location. The error is out of memory, and drops the type.
     pub fn of_interface(alloc: Global, ty: InterfaceType) -> Result<ExtendedType, AllocError>
         ensures { IfOk result (λ made. made ≡ Interface (record { value = ty; location = None })) }
     {
         Ok(ExtendedType::Interface(Node::new(alloc, ty)?))
     }
 
-    /// The type, in a node with no location. The error is want of memory, and drops the type.
+    /// The type, in a node with no location. The error is out of memory, and drops the type.
     pub fn of_union(alloc: Global, ty: UnionType) -> Result<ExtendedType, AllocError>
         ensures { IfOk result (λ made. made ≡ Union (record { value = ty; location = None })) }
     {
         Ok(ExtendedType::Union(Node::new(alloc, ty)?))
     }
 
-    /// The type, in a node with no location. The error is want of memory, and drops the type.
+    /// The type, in a node with no location. The error is out of memory, and drops the type.
     pub fn of_enum(alloc: Global, ty: EnumType) -> Result<ExtendedType, AllocError>
         ensures { IfOk result (λ made. made ≡ Enum (record { value = ty; location = None })) }
     {
         Ok(ExtendedType::Enum(Node::new(alloc, ty)?))
     }
 
-    /// The type, in a node with no location. The error is want of memory, and drops the type.
+    /// The type, in a node with no location. The error is out of memory, and drops the type.
     pub fn of_input_object(alloc: Global, ty: InputObjectType) -> Result<ExtendedType, AllocError>
         ensures { IfOk result (λ made. made ≡ InputObject (record { value = ty; location = None })) }
     {

@@ -35,7 +35,7 @@ impl Drop for ScalarType {
 impl Clone for ScalarType {
     ghost is_clone = { λ a b. b ≡ a };
 
-    /// The same type, with every location and origin. The error is want of memory.
+    /// The same type, with every location and origin. The error is out of memory.
     fn clone(&self) -> Result<ScalarType, AllocError> {
         Ok(ScalarType {
             description: self.description.clone()?,

@@ -57,7 +57,7 @@ impl Drop for SchemaDefinition {
 impl Clone for SchemaDefinition {
     ghost is_clone = { λ a b. b ≡ a };
 
-    /// The same definition, with every location and origin. The error is want of memory.
+    /// The same definition, with every location and origin. The error is out of memory.
     fn clone(&self) -> Result<SchemaDefinition, AllocError> {
         Ok(SchemaDefinition {
             description: self.description.clone()?,
@@ -113,7 +113,7 @@ impl SchemaDefinition {
     /// `types` has an object type of this name, and else none. Where it has no root of its own, its description and its own
     /// directives are not written. The extensions are always there.
     ///
-    /// The error is want of memory.
+    /// The error is out of memory.
     pub fn to_ast(
         &self,
         alloc: Global,
@@ -140,7 +140,7 @@ impl SchemaDefinition {
         false
     }
 
-    /// Whether the root is the one that no schema definition would have to name. The error is want of memory.
+    /// Whether the root is the one that no schema definition would have to name. The error is out of memory.
     fn has_implied_root(
         &self,
         alloc: Global,
@@ -157,7 +157,7 @@ impl SchemaDefinition {
         }
     }
 
-    /// Whether all roots are those that no schema definition would have to name. The error is want of memory.
+    /// Whether all roots are those that no schema definition would have to name. The error is out of memory.
     fn has_implied_roots(
         &self,
         alloc: Global,
@@ -173,7 +173,7 @@ impl SchemaDefinition {
         Ok(true)
     }
 
-    /// Whether nothing is said that isn't implied. The error is want of memory.
+    /// Whether nothing is said that isn't implied. The error is out of memory.
     fn is_implied(
         &self,
         alloc: Global,
@@ -190,7 +190,7 @@ impl SchemaDefinition {
         self.has_implied_roots(alloc, types)
     }
 
-    /// Whether the definition is written. The error is want of memory.
+    /// Whether the definition is written. The error is out of memory.
     fn is_written(
         &self,
         alloc: Global,

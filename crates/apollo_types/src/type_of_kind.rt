@@ -32,7 +32,7 @@ pub trait TypeOfKind: Extensible {
 
     /// The type as syntax: its definition, at this location, with the components of the definition, then an extension
     /// for each identity of [`extensions`](Extensible::extensions), with that identity's components and location. Each
-    /// list is in the type's own order. The error is want of memory.
+    /// list is in the type's own order. The error is out of memory.
     final fn to_ast(
         &self,
         alloc: Global,

@@ -38,7 +38,7 @@ impl Drop for UnionType {
 impl Clone for UnionType {
     ghost is_clone = { λ a b. b ≡ a };
 
-    /// The same type, with every location and origin. The error is want of memory.
+    /// The same type, with every location and origin. The error is out of memory.
     fn clone(&self) -> Result<UnionType, AllocError> {
         Ok(UnionType {
             description: self.description.clone()?,

@@ -17,7 +17,7 @@ use graphql_nodes::source::SourceSpan;
 use graphql_nodes::type_kind::TypeKind;
 use std::alloc::{AllocError, Global};
 
-/// Adds the identity of an origin, if it is an extension and new. The error is want of memory.
+/// Adds the identity of an origin, if it is an extension and new. The error is out of memory.
 fn add_origin(ids: &mut KeySet<ExtensionId>, origin: ComponentOrigin) -> Result<(), AllocError>
     ensures { OnOk result ((os : List Origin) → ids.old ≡ identities os → ids.new ≡ identities (os ++ origin ∷ [])) }
 {
@@ -27,7 +27,7 @@ fn add_origin(ids: &mut KeySet<ExtensionId>, origin: ComponentOrigin) -> Result<
     Ok(())
 }
 
-/// The identities of the extensions among these origins, by first appearance. The error is want of memory.
+/// The identities of the extensions among these origins, by first appearance. The error is out of memory.
 pub(crate) fn identities_of(
     alloc: Global,
     origins: Origins<'_>,
@@ -50,7 +50,7 @@ pub struct Head<'a> {
 }
 
 /// Adds the type with this head that these components make as syntax at the end: its definition, at this location, then its
-/// extensions. The error is want of memory, after which `written` begins with what it held.
+/// extensions. The error is out of memory, after which `written` begins with what it held.
 pub(crate) fn add_type(
     alloc: Global,
     head: Head<'_>,
@@ -66,7 +66,7 @@ pub(crate) fn add_type(
     parts.write_type(alloc, head.kind, copy, head.name, location, written)
 }
 
-/// The type with this head that these components make as syntax, as [`add_type`] adds it. The error is want of memory.
+/// The type with this head that these components make as syntax, as [`add_type`] adds it. The error is out of memory.
 pub(crate) fn type_as_syntax(
     alloc: Global,
     head: Head<'_>,

@@ -43,7 +43,7 @@ impl DirectiveParts {
         }
     }
 
-    /// The definition of the directive of this name, at this location, with these parts. The error is want of memory.
+    /// The definition of the directive of this name, at this location, with these parts. The error is out of memory.
     pub fn into_definition(
         self,
         alloc: Global,

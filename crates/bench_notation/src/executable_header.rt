@@ -24,7 +24,7 @@ pub enum ExecutableHeader {
 
 impl ExecutableHeader {
     /// The operation or fragment, at this location, with these directives and selections and without variables. The error is
-    /// want of memory, and drops them.
+    /// out of memory, and drops them.
     pub fn into_definition(
         self,
         alloc: Global,

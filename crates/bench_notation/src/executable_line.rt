@@ -1,6 +1,6 @@
 //! The lines of operations and fragments, behind the first word: GraphQL specification of October 2021, sections 2.3 to 2.8.
 //!
-//! Words that are none such are refused, with a reason. `Memory` is want of memory, and says nothing of them.
+//! Words that are none such are refused, with a reason. `Memory` is out of memory, and says nothing of them.
 ghost use Rattle.std.specs.Prelude.{◌≡◌, ◌≢◌, ◌∷◌, ℕ, Option, true, IfErr, IfOk, MatchOption, decimal, nat_lt};
 ghost use Rattle.bench_notation.specs.declared.selection_line.Selected.{Selected};
 ghost use Rattle.graphql_nodes.specs.NameView.{NameView};

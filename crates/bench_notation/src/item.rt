@@ -178,7 +178,7 @@ impl OpenItem {
         }
     }
 
-    /// The definition or extension. The error is want of memory.
+    /// The definition or extension. The error is out of memory.
     pub fn close(self, alloc: Global) -> Result<Definition, AllocError>
         ensures { IfOk result (λ definition. definition ≡ whole_item self) }
     {

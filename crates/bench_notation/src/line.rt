@@ -79,7 +79,7 @@ pub enum Line {
 
 /// Reads a line of these words, which stands at this position. Its names get this location.
 ///
-/// [`Refused`](LineError::Refused) comes only where the line says nothing that may stand there; `Memory` is want of memory, and
+/// [`Refused`](LineError::Refused) comes only where the line says nothing that may stand there; `Memory` is out of memory, and
 /// says nothing of the line.
 pub(crate) fn read_line(
     names: &mut Names,

@@ -1,4 +1,4 @@
-//! Words that are names, and no more words. Words that are none such are refused, with a reason. `Memory` is want of memory,
+//! Words that are names, and no more words. Words that are none such are refused, with a reason. `Memory` is out of memory,
 //! and says nothing of them.
 ghost use Rattle.std.specs.Prelude.{Option, IfErr, IfOk};
 ghost use Rattle.graphql_nodes.specs.NameView.{NameView};

@@ -37,7 +37,7 @@ impl Drop for Names {
 }
 
 impl Names {
-    /// Room for about this many names, none of which is at hand yet. The error is want of memory.
+    /// Room for about this many names, none of which is at hand yet. The error is out of memory.
     /// No clause: which names are at hand changes no answer.
     pub fn new(alloc: Global, count: usize) -> Result<Names, AllocError> {
         let count = count.min(MOST_NAMES);
@@ -52,7 +52,7 @@ impl Names {
         *self.places.allocator()
     }
 
-    /// The name that a word is, at this location. A word that is no name is refused as a bad word; `Memory` is want of memory,
+    /// The name that a word is, at this location. A word that is no name is refused as a bad word; `Memory` is out of memory,
     /// and says nothing of the word.
     pub fn read(&mut self, word: &str, location: SourceSpan) -> Result<Name, LineError>
         ensures text { IfOk result (λ name. name.text ≡ word.now) }

@@ -118,7 +118,7 @@ impl Nesting {
 /// The selections that lines say. One of depth 0 stands in no other. Any other stands in the nearest one above it that is less
 /// deep, if that is less deep by one and no spread; else it is left out, with what stands in it.
 ///
-/// The error is want of memory, and drops the lines.
+/// The error is out of memory, and drops the lines.
 pub fn nested(alloc: Global, lines: Items<SelectionLine>) -> Result<Items<Selection>, AllocError>
     ensures { IfOk result (λ selections. selections ≡ selections_at 0 lines) }
 {

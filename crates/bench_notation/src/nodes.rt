@@ -1,4 +1,4 @@
-//! Nodes of what one line says, all at the location that is given. Each error is want of memory.
+//! Nodes of what one line says, all at the location that is given. Each error is out of memory.
 ghost use Rattle.std.specs.Prelude.{◌≡◌, IfOk};
 ghost use Rattle.bench_notation.specs.Components.{applied_directive, enum_value, input_value, root_operation};
 

@@ -84,7 +84,7 @@ impl OpenField {
         input_value(alloc, name, ty, directives, location)
     }
 
-    /// The field as a part of an input object type, or of another. The error is want of memory.
+    /// The field as a part of an input object type, or of another. The error is out of memory.
     pub fn close_as_part(self, alloc: Global, is_input: bool) -> Result<DefinitionPart, AllocError>
         ensures { IfOk result (λ part. part ≡ field_part is_input self) }
     {

@@ -210,7 +210,7 @@ fn take_lines<'a>(
 /// locations are lines of [`INPUT_FILE`].
 ///
 /// The first line that is refused ends the reading, and a line that would divide the text is: `Refused` has its number. It says
-/// nothing that may stand there, and each line before it says something. `Memory` is want of memory, and says nothing of the
+/// nothing that may stand there, and each line before it says something. `Memory` is out of memory, and says nothing of the
 /// text. There is no other error.
 pub fn read(alloc: Global, text: &str) -> Result<Vec<Document>, ReadError>
     ensures read { OnOk result (All IsLine (lines_of text.now)) }
@@ -244,7 +244,7 @@ impl Drop for DividedDocuments {
 ///
 /// The first line that is refused ends the reading, and a second line that would divide the text is: `Refused` has its number. It
 /// says nothing that may stand there, and each line before it says something. `NoDivision` is the error where none is refused
-/// and none divides the text. `Memory` is want of memory, and says nothing of the text.
+/// and none divides the text. `Memory` is out of memory, and says nothing of the text.
 pub fn read_divided(alloc: Global, text: &str) -> Result<DividedDocuments, ReadError>
     ensures read { OnOk result (All IsLine (lines_of text.now)) }
     ensures said { IfOk result (λ documents. AreDividedDocumentsOf text.now documents.schema.items documents.executable.items) }

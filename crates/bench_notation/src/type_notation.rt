@@ -17,7 +17,7 @@ use std::alloc::AllocError;
 pub const MOST_BRACKETS: u8 = 200;
 
 /// The type that a word is, with its name at this location. A word that is no type, or opens more than `brackets` brackets, is
-/// refused as a bad word; `Memory` is want of memory, and says nothing of the word.
+/// refused as a bad word; `Memory` is out of memory, and says nothing of the word.
 pub fn read_type(
     names: &mut Names,
     word: &str,
@@ -63,7 +63,7 @@ fn body_of<'a>(word: &'a str) -> (&'a str, bool)
     }
 }
 
-/// Adds a type to a text. The error is want of memory, after which nothing is said of the text: drop it.
+/// Adds a type to a text. The error is out of memory, after which nothing is said of the text: drop it.
 pub fn push_type(text: &mut String, ty: &Type) -> Result<(), AllocError>
     ensures { OnOk result (string_bytes text.new ≡ string_bytes text.old ++ type_text ty.now) }
 {

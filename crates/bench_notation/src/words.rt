@@ -5,7 +5,7 @@ ghost use Rattle.bench_notation.specs.Line.{bytes_left, lines_of, pieces_left, t
 use std::alloc::{AllocError, Global};
 
 /// The lines of a text, which stand between its line feeds: so the last one is empty where the text ends with a line feed. The
-/// error is want of memory.
+/// error is out of memory.
 pub fn lines_of(alloc: Global, text: &str) -> Result<Vec<&str>, AllocError>
     ensures { IfOk result (λ lines. texts_of lines.items ≡ lines_of text.now) }
 {
@@ -33,7 +33,7 @@ fn first_line<'a>(text: &'a str) -> (&'a str, Option<&'a str>)
 }
 
 /// The first line of a text, and what stands behind its line feed, if it has one. Takes the words of that line, which stand
-/// between its spaces, instead of those that were there. The error is want of memory.
+/// between its spaces, instead of those that were there. The error is out of memory.
 pub(crate) fn take_words<'a>(
     words: &mut Vec<&'a str>,
     text: &'a str,

@@ -24,7 +24,7 @@ fn run_on_streams(rt: &HostRuntime) -> io::Result<Status> {
 fn main(rt: HostRuntime) -> ExitCode {
     let status = match run_on_streams(&rt) {
         Ok(status) => status,
-        // The words are all that can fail here, and only for want of memory.
+        // The words are all that can fail here, and only because memory ran out.
         Err(_) => {
             let _ = rt.eprintln("out of memory");
             Status::Exhausted

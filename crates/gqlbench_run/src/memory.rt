@@ -6,7 +6,7 @@ use std::{fs, io};
 /// What tells how the process stands.
 pub trait ProcessStatus {
     /// The text that says it, as Linux writes it in `/proc/self/status`. The error is a system that has
-    /// none, or want of memory.
+    /// none, or out of memory.
     fn status_text(&self, alloc: Global) -> io::Result<String>;
 }
 

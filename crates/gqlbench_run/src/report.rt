@@ -22,7 +22,7 @@ pub enum Value {
 pub type Item = (&'static str, &'static str, Value);
 
 /// The text of a report: lines for those who read it, or a JSON object in the place of each. The error is
-/// want of memory.
+/// out of memory.
 pub fn report_text(alloc: Global, json: bool, items: &[Item]) -> Result<String, AllocError> {
     let mut text = String::new(alloc);
     for item in items {

@@ -26,7 +26,7 @@ use std::time::Clock;
 ///
 /// The output is written only once all of it is there. What is wrong is said on `errors`, in one line, and
 /// so is how far a long run is; that it cannot be said there changes nothing. A clock that can't be read
-/// ends the run as want of memory does, and so does a system that gives no random keys where the words ask
+/// ends the run as running out of memory does, and so does a system that gives no random keys where the words ask
 /// for them. They are drawn once, before anything is read; without the word nothing is drawn, and tables
 /// hash by fixed keys. How much memory the process had is asked last; where the system doesn't tell, the
 /// report has no line of it.

@@ -83,7 +83,7 @@ fn main(rt: HostRuntime) -> ExitCode {
             let told = told(rt.alloc(), words.as_slice(), &mut text);
             ended(&rt, told, text.as_str())
         }
-        // The words are all that can fail here, and only for want of memory.
+        // The words are all that can fail here, and only because memory ran out.
         Err(_) => Status::Exhausted,
     };
     ExitCode::from(status.code())

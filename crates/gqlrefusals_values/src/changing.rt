@@ -6,7 +6,7 @@ use telling::Tell;
 
 /// A call that changes a value.
 pub trait Change<T> {
-    /// Makes the call. After want of memory it is `Memory`, if what the call hands back is right.
+    /// Makes the call. When memory runs out it is `Memory`, if what the call hands back is right.
     fn make(&self, alloc: Global, value: &mut T) -> Told;
 }
 
@@ -36,7 +36,7 @@ fn tell_changed<T: Tell>(text: &mut String, before: &str, value: &T) -> Result<(
     text.push_str("\n")
 }
 
-/// Changes a value, of which there is a copy: the copy is as it was. After want of memory so is the value, and it can be changed
+/// Changes a value, of which there is a copy: the copy is as it was. When memory runs out so is the value, and it can be changed
 /// then.
 fn make_change<T: Tell + PartialEq, C: Change<T>>(
     alloc: Global,

@@ -12,7 +12,7 @@ use graphql_nodes::node::Node;
 use std::alloc::{AllocError, Global};
 use telling::Tell;
 
-/// The name of a text, or its refusal. A text that is a name is refused for want of memory alone.
+/// The name of a text, or its refusal. A text that is a name is refused only because memory ran out.
 fn tell_name(alloc: Global, text: &mut String, input: &str) -> Told {
     match Name::new(alloc, input) {
         Ok(name) => name.tell(text)?,

@@ -16,7 +16,7 @@ fn main(rt: HostRuntime) -> ExitCode {
             &mut rt.stdout(),
             &mut rt.stderr(),
         ),
-        // Want of memory is all that can be wrong here.
+        // Running out of memory is all that can be wrong here.
         Err(_) => Status::Exhausted,
     };
     ExitCode::from(status.code())

@@ -22,7 +22,7 @@ fn push_difference(
     Ok(())
 }
 
-/// Runs the program in memory as a row says, and answers what differs from what the row expects. Want of memory in the run is a
+/// Runs the program in memory as a row says, and answers what differs from what the row expects. Memory that runs out in the run is a
 /// status too. What the run built is left to the end of the process.
 fn differences_of(alloc: Global, row: &Row<'_>) -> Result<String, AllocError> {
     let mut input = row.input.as_bytes();

@@ -10,7 +10,7 @@ pub enum Stop {
     /// A file or a line of it is refused, for this reason.
     #[error("{0}")]
     Refused(String),
-    /// Want of memory.
+    /// Out of memory.
     #[error("out of memory")]
     Memory,
 }

@@ -40,7 +40,7 @@ pub fn answer_to<R: Input>(
     ensures prints { IfOk result (λ answer. answer.has_faults ≡ false → IsPrintTo (texts_of words.now) (string_bytes answer.text)) }
     ensures causes { IfErr result (IsCauseTo (texts_of words.now) (R.holds reader.old) (R.may_fail reader.old)) }
 
-    // Words that are no command are refused before anything is read, and so is a text of no coordinate, but for want of memory.
+    // Words that are no command are refused before anything is read, and so is a text of no coordinate, unless memory ran out.
     ensures usage { AreNoCommand (texts_of words.now) → (result ≡ Err Failure.Usage) × (reader.new ≡ reader.old) }
     ensures no_coordinate { AskNoCoordinate (texts_of words.now) → IsErr result × (reader.new ≡ reader.old) }
 {

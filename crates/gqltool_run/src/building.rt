@@ -19,7 +19,7 @@ use std::alloc::Global;
 /// keys.
 ///
 /// `RefusedLine` tells the first line that says nothing where it stands; `ExtensionIds` comes only where the numbers don't
-/// suffice for the extensions of the input; `Memory` is want of memory. There is no other error. Without an error the documents
+/// suffice for the extensions of the input; `Memory` is out of memory. There is no other error. Without an error the documents
 /// that were read are left to the end of the process.
 pub fn build_input(
     alloc: Global,

@@ -71,7 +71,7 @@ fn found_word(found: SchemaCoordinateLookup<'_>) -> &'static str
     }
 }
 
-/// Adds the line of a coordinate. The error is want of memory.
+/// Adds the line of a coordinate. The error is out of memory.
 fn push_coordinate(
     alloc: Global,
     text: &mut String,

@@ -25,7 +25,7 @@ pub fn has_faults(compiled: &Compiled) -> bool
 /// document. All tables hash by these keys.
 ///
 /// `RefusedLine` tells the first line that says nothing where it stands; `NoDivision` comes where no line divides the input;
-/// `ExtensionIds` comes only where the numbers don't suffice for the extensions of the schema; `Memory` is want of memory.
+/// `ExtensionIds` comes only where the numbers don't suffice for the extensions of the schema; `Memory` is out of memory.
 /// There is no other error. Without an error the documents that were read are left to the end of the process.
 pub fn compile_documents(alloc: Global, keys: HashKeys, input: &str) -> Result<Compiled, Failure>
     ensures read { OnOk result (All IsLine (lines_of input.now)) }

@@ -26,7 +26,7 @@ pub enum Failure {
     /// No line divides the input, which is to be divided.
     #[error("missing ===")]
     NoDivision,
-    /// Want of memory.
+    /// Out of memory.
     #[error("out of memory")]
     Memory,
     /// The extensions of the input would pass the largest number.

@@ -8,7 +8,7 @@ use graphql_nodes::source::SourceSpan;
 use std::alloc::{AllocError, Global};
 use std::fmt::Display;
 
-/// Adds the lines of faults, in order, each with its location. The error is want of memory.
+/// Adds the lines of faults, in order, each with its location. The error is out of memory.
 pub fn push_faults<E: Display>(
     alloc: Global,
     text: &mut String,
@@ -23,7 +23,7 @@ pub fn push_faults<E: Display>(
     }
 }
 
-/// Adds the same lines, and lets the text out where it has grown long. The error is want of memory, or the outlet's.
+/// Adds the same lines, and lets the text out where it has grown long. The error is out of memory, or the outlet's.
 pub(crate) fn say_faults<O: Outlet, E: Display>(
     alloc: Global,
     text: &mut String,

@@ -7,7 +7,7 @@ use std::io::Write;
 /// Why a text is not said to its end.
 #[derive(Debug, Clone, Copy)]
 pub(crate) enum CutShort {
-    /// Want of memory.
+    /// Out of memory.
     Memory,
     /// The outlet failed.
     NotWritten,

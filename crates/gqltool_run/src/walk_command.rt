@@ -29,7 +29,7 @@ use std::alloc::{AllocError, Global};
 /// The answer of `walk` on what an input is compiled to: for each operation and then each fragment of the typed document the
 /// lines of its walks, then a line for each fault of the schema, and then one for each fault of the document.
 ///
-/// Its text goes out while it is made, and what is still held of it is answered. The error is want of memory, or the outlet's:
+/// Its text goes out while it is made, and what is still held of it is answered. The error is out of memory, or the outlet's:
 /// then a beginning of the text went out.
 pub(crate) fn walk_answer<O: Outlet>(
     alloc: Global,
@@ -55,7 +55,7 @@ pub(crate) fn walk_answer<O: Outlet>(
     })
 }
 
-/// The same answer with its whole text. The error is want of memory. What the input was compiled to is left to the end of the
+/// The same answer with its whole text. The error is out of memory. What the input was compiled to is left to the end of the
 /// process, but after the error.
 pub(crate) fn whole_walk_answer(alloc: Global, compiled: Compiled) -> Result<Answer, Failure>
     ensures text { IfOk result (λ answer. AreLinesOf compiled (string_bytes answer.text)) }

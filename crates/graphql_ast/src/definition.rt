@@ -37,7 +37,7 @@ pub enum Definition {
     InputObjectTypeExtension(Node<InputObjectTypeExtension>),
 }
 
-/// What a copy of the node becomes. The error is want of memory.
+/// What a copy of the node becomes. The error is out of memory.
 fn copied<T: Drop, D: From<Node<T>>>(node: &Node<T>) -> Result<D, AllocError>
     ensures { IfOk result (λ made. D.from_gives node.now made) }
 {
@@ -47,7 +47,7 @@ fn copied<T: Drop, D: From<Node<T>>>(node: &Node<T>) -> Result<D, AllocError>
 impl Clone for Definition {
     ghost is_clone = { λ a b. b ≡ a };
 
-    /// The same definition, with every location. The node is shared. The error is want of memory.
+    /// The same definition, with every location. The node is shared. The error is out of memory.
     fn clone(&self) -> Result<Definition, AllocError> {
         match self {
             Definition::OperationDefinition(node) => copied(node),

@@ -78,7 +78,7 @@ impl DefinitionParts {
         }
     }
 
-    /// Adds a part at the end of the list of its sort. The error is want of memory: the parts are as they were, and this one is
+    /// Adds a part at the end of the list of its sort. The error is out of memory: the parts are as they were, and this one is
     /// dropped.
     pub fn push(&mut self, part: DefinitionPart) -> Result<(), AllocError>
         ensures added { OnOk result (self.new ≡ with_part part self.old) }
@@ -97,7 +97,7 @@ impl DefinitionParts {
     /// The definition of a type of this kind, description and name, at this location, with these parts: each list that the kind
     /// has, in order. The others are left out.
     ///
-    /// The error is want of memory, and drops the parts.
+    /// The error is out of memory, and drops the parts.
     pub fn into_definition(
         self,
         alloc: Global,
@@ -178,7 +178,7 @@ impl DefinitionParts {
     /// The extension of a type of this kind and name, at this location, with these parts: each list that the kind has, in order.
     /// The others are left out.
     ///
-    /// The error is want of memory, and drops the parts.
+    /// The error is out of memory, and drops the parts.
     pub fn into_extension(
         self,
         alloc: Global,
@@ -247,7 +247,7 @@ impl DefinitionParts {
     }
 
     /// The definition of the schema with this description, at this location, with the directives and roots of these parts, in
-    /// order. The others are left out. The error is want of memory, and drops the parts.
+    /// order. The others are left out. The error is out of memory, and drops the parts.
     pub fn into_schema_definition(
         self,
         alloc: Global,
@@ -273,7 +273,7 @@ impl DefinitionParts {
     }
 
     /// The extension of the schema at this location, with the directives and roots of these parts, in order. The others are left
-    /// out. The error is want of memory, and drops the parts.
+    /// out. The error is out of memory, and drops the parts.
     pub fn into_schema_extension(
         self,
         alloc: Global,
@@ -297,7 +297,7 @@ impl DefinitionParts {
     }
 }
 
-/// What a value becomes that stands at a location, if one is given. The error is want of memory.
+/// What a value becomes that stands at a location, if one is given. The error is out of memory.
 fn placed<T: Drop, D: From<Node<T>>>(
     alloc: Global,
     value: T,

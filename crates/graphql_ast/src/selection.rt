@@ -130,7 +130,7 @@ impl InlineFragment {
 impl Clone for Selection {
     ghost is_clone = { λ a b. b ≡ a };
 
-    /// The same selection, with every location. The node is shared. The error is want of memory.
+    /// The same selection, with every location. The node is shared. The error is out of memory.
     fn clone(&self) -> Result<Selection, AllocError> {
         match self {
             Selection::Field(node) => Ok(Selection::Field(node.clone()?)),
@@ -143,7 +143,7 @@ impl Clone for Selection {
 impl Clone for Field {
     ghost is_clone = { λ a b. b ≡ a };
 
-    /// The same field, with every location. The error is want of memory.
+    /// The same field, with every location. The error is out of memory.
     fn clone(&self) -> Result<Field, AllocError> {
         Ok(Field {
             alias: self.alias.clone()?,
@@ -158,7 +158,7 @@ impl Clone for Field {
 impl Clone for InlineFragment {
     ghost is_clone = { λ a b. b ≡ a };
 
-    /// The same fragment, with every location. The error is want of memory.
+    /// The same fragment, with every location. The error is out of memory.
     fn clone(&self) -> Result<InlineFragment, AllocError> {
         Ok(InlineFragment {
             type_condition: self.type_condition.clone()?,

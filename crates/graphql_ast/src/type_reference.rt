@@ -25,7 +25,7 @@ impl Type {
         Type::Named(name)
     }
 
-    /// The type of lists of this type. The error is want of memory, and drops the type.
+    /// The type of lists of this type. The error is out of memory, and drops the type.
     pub fn list(self, alloc: Global) -> Result<Type, AllocError>
         ensures { IfOk result (λ list. list ≡ ListOf self) }
     {
@@ -66,7 +66,7 @@ impl Type {
 impl Clone for Type {
     ghost is_clone = { λ a b. b ≡ a };
 
-    /// The same type, with the location of its name. The error is want of memory.
+    /// The same type, with the location of its name. The error is out of memory.
     fn clone(&self) -> Result<Type, AllocError> {
         match self {
             Type::Named(name) => Ok(Type::Named(name.clone()?)),

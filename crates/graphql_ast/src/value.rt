@@ -24,7 +24,7 @@ pub enum Value {
 impl Clone for Value {
     ghost is_clone = { λ a b. b ≡ a };
 
-    /// The same value, with every location in it. The error is want of memory.
+    /// The same value, with every location in it. The error is out of memory.
     fn clone(&self) -> Result<Value, AllocError> {
         match self {
             Value::Null => Ok(Value::Null),

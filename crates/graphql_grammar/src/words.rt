@@ -269,8 +269,8 @@ impl<'a> Words<'a> {
         }
     }
 
-    /// The name of this text at this location. A name that comes again shares its text, where that is at hand.
-    /// The error is want of memory.
+    /// The name of this text at this location. A name that comes again shares its text with the first one, if
+    /// that was kept. The error is out of memory.
     pub fn name(
         &mut self,
         alloc: Global,

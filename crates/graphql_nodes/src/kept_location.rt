@@ -72,7 +72,7 @@ impl Model for KeptLocation {
 }
 
 impl KeptLocation {
-    /// The location. The error is want of memory, which only a far one meets.
+    /// The location. The error is out of memory, which only a far one meets.
     pub fn new(alloc: Global, location: Option<SourceSpan>) -> Result<KeptLocation, AllocError>
         ensures { IfOk result (λ kept. kept ≡ location) }
     {
@@ -99,7 +99,7 @@ impl Kept {
     ghost use Rattle.graphql_nodes.specs.KeptLocations.{kept_span};
     ghost use Rattle.std.specs.Prelude.{Some};
 
-    /// A known location. The error is want of memory, which only a far one meets.
+    /// A known location. The error is out of memory, which only a far one meets.
     fn of_span(alloc: Global, span: SourceSpan) -> Result<Kept, AllocError>
         ensures { IfOk result (λ kept. kept_span kept ≡ Some span) }
     {
@@ -113,7 +113,7 @@ impl Kept {
 impl Clone for KeptLocation {
     ghost is_clone = { λ a b. b ≡ a };
 
-    /// The same location. The error is want of memory, which only a far one meets.
+    /// The same location. The error is out of memory, which only a far one meets.
     fn clone(&self) -> Result<KeptLocation, AllocError> {
         let kept = match &self.kept {
             Kept::Unknown => Kept::Unknown,

@@ -36,7 +36,7 @@ pub struct InvalidNameError {
     pub location: Option<SourceSpan>,
 }
 
-/// Why [`Name::new`] answers no name: `Invalid`, the text is none; `Memory`, want of memory, which says nothing of the text.
+/// Why [`Name::new`] answers no name: `Invalid`, the text is none; `Memory`, out of memory, which says nothing of the text.
 #[derive(Debug, Drop, Error)]
 pub enum NameError {
     #[error(transparent)]
@@ -114,7 +114,7 @@ impl Name {
     /// A name with this text, and no location.
     ///
     /// A text that is no GraphQL name is refused with [`NameError::Invalid`], which carries it without a location.
-    /// [`NameError::Memory`] is want of memory, and says nothing of the text.
+    /// [`NameError::Memory`] is out of memory, and says nothing of the text.
     pub fn new(alloc: Global, text: &str) -> Result<Name, NameError>
         ensures ok { IfOk result (λ n. n ≡ record { text = text.now; location = None }) }
         ensures valid { OnOk result (IsName text.now) }
@@ -142,7 +142,7 @@ impl Name {
         }
     }
 
-    /// A name with this text, whatever it is, and no location. The error is want of memory.
+    /// A name with this text, whatever it is, and no location. The error is out of memory.
     pub fn new_unchecked(alloc: Global, text: &str) -> Result<Name, AllocError>
         ensures { IfOk result (λ n. n ≡ record { text = text.now; location = None }) }
     {
@@ -178,7 +178,7 @@ impl Name {
 impl Clone for Name {
     ghost is_clone = { λ a b. b ≡ a };
 
-    /// The same name, with its location. The error is want of memory.
+    /// The same name, with its location. The error is out of memory.
     fn clone(&self) -> Result<Name, AllocError> {
         Ok(Name {
             shared: self.shared.clone()?,

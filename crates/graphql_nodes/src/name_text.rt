@@ -14,7 +14,7 @@ pub(crate) enum NameText {
 }
 
 impl NameText {
-    /// A copy of a text. The error is want of memory, which a short text can't have.
+    /// A copy of a text. The error is out of memory, which a short text can't have.
     pub fn from_str(alloc: Global, text: &str) -> Result<NameText, AllocError>
         ensures { IfOk result (λ copy. name_text copy ≡ text.now) }
     {

@@ -64,7 +64,7 @@ impl<T> Model for Node<T> {
 }
 
 impl<T> Node<T> {
-    /// A node with no location. The error is want of memory, and drops the value.
+    /// A node with no location. The error is out of memory, and drops the value.
     pub fn new(alloc: Global, value: T) -> Result<Node<T>, AllocError>
     where
         T: Drop,
@@ -73,7 +73,7 @@ impl<T> Node<T> {
         Node::new_opt_location(alloc, value, None)
     }
 
-    /// A node at this location, if one is given. The error is want of memory, and drops the value.
+    /// A node at this location, if one is given. The error is out of memory, and drops the value.
     pub fn new_opt_location(
         alloc: Global,
         value: T,
@@ -109,7 +109,7 @@ impl<T> Node<T> {
         }
     }
 
-    /// A node with another value at this node's location. The error is want of memory, and drops the value.
+    /// A node with another value at this node's location. The error is out of memory, and drops the value.
     pub fn same_location<U: Drop>(&self, alloc: Global, value: U) -> Result<Node<U>, AllocError>
         ensures { IfOk result (λ n. n ≡ record { value = value; location = self.now.location }) }
     {
@@ -123,7 +123,7 @@ impl<T: Drop + Clone> Node<T> {
     /// The value, to write to. When the loan ends, the node holds what was written, and its location stays.
     ///
     /// Where the value is shared, this node gets a copy of its own first, so the nodes that shared it keep what they have.
-    /// Premise: a clone of a `T` is the original, which holds of each type of the syntax tree. The error is want of memory,
+    /// Premise: a clone of a `T` is the original, which holds of each type of the syntax tree. The error is out of memory,
     /// and leaves the node as it was.
     pub fn make_mut(&mut self) -> Result<&mut T, AllocError>
         requires { (x y : T) → T.Clone.is_clone x y → y ≡ x }
@@ -170,7 +170,7 @@ impl<T: Hash> Hash for Node<T> {
 impl<T: Drop> Clone for Node<T> {
     ghost is_clone = { λ a b. b ≡ a };
 
-    /// A node that shares the value, at the same location. The error is want of memory.
+    /// A node that shares the value, at the same location. The error is out of memory.
     fn clone(&self) -> Result<Node<T>, AllocError> {
         Ok(Node {
             shared: self.shared.clone()?,

@@ -56,7 +56,7 @@ impl Model for NodeStr {
 }
 
 impl NodeStr {
-    /// A copy of the text, with no location. The error is want of memory.
+    /// A copy of the text, with no location. The error is out of memory.
     pub fn new(alloc: Global, text: &str) -> Result<NodeStr, AllocError>
         ensures { IfOk result (λ n. n ≡ record { text = text.now; location = None }) }
     {
@@ -95,7 +95,7 @@ impl NodeStr {
 impl Clone for NodeStr {
     ghost is_clone = { λ a b. b ≡ a };
 
-    /// The same text, with its location. The error is want of memory.
+    /// The same text, with its location. The error is out of memory.
     fn clone(&self) -> Result<NodeStr, AllocError> {
         let placed = Placed {
             shared: self.placed.shared.clone()?,

@@ -39,7 +39,7 @@ impl Drop for SourceFile {
 }
 
 impl SourceFile {
-    /// The file of this path and text. The error is want of memory.
+    /// The file of this path and text. The error is out of memory.
     pub fn new(alloc: Global, path: &str, text: &str) -> Result<SourceFile, AllocError>
         ensures { IfOk result (λ file. file ≡ record { path = path.now; text = text.now }) }
     {
@@ -54,7 +54,7 @@ pub type SourceMap = Table<FileId, Shared<SourceFile>>;
 
 /// Adds the files of other sources, in order. Of two files of one number the later stays, where the earlier stood.
 ///
-/// The error is want of memory, and leaves the sources as they were. It comes only where there are files to add.
+/// The error is out of memory, and leaves the sources as they were. It comes only where there are files to add.
 pub fn merge_sources(sources: &mut SourceMap, more: &SourceMap) -> Result<(), AllocError>
     ensures merged { OnOk result (sources.new ≡ merged sources.old more.now) }
     ensures err { OnErr result (sources.new ≡ sources.old) }

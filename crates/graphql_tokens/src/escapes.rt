@@ -84,7 +84,7 @@ fn escaped(text: &[u8]) -> Option<char>
     }
 }
 
-/// Adds the character of the escape at the front. The error is want of memory.
+/// Adds the character of the escape at the front. The error is out of memory.
 pub(crate) fn push_escaped(value: &mut String, text: &[u8]) -> Result<(), AllocError>
     ensures { OnOk result (string_bytes value.new ≡ string_bytes value.old ++ bytes_of (escaped text.now)) }
 {

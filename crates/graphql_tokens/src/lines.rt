@@ -101,7 +101,7 @@ fn unindented<'a>(count: usize, line: &'a str) -> &'a str
     &line[indent(line).min(count)..]
 }
 
-/// Adds the lines of a text, if there is one, without an indent. The error is want of memory.
+/// Adds the lines of a text, if there is one, without an indent. The error is out of memory.
 fn push_unindented<'a>(
     list: &mut Vec<&'a str>,
     count: usize,
@@ -118,7 +118,7 @@ fn push_unindented<'a>(
     Ok(())
 }
 
-/// The lines of a text without the common indent of all but the first, which keeps its own. The error is want of memory.
+/// The lines of a text without the common indent of all but the first, which keeps its own. The error is out of memory.
 fn without_indent<'a>(alloc: Global, text: &'a str) -> Result<Vec<&'a str>, AllocError>
     ensures { IfOk result (λ list. texts_of list.items ≡ without_indent (lines text.now)) }
 {
@@ -157,7 +157,7 @@ fn without_blank_end<'b, 'a>(list: &'b [&'a str]) -> &'b [&'a str]
     rest
 }
 
-/// Adds lines, each behind a line feed. The error is want of memory.
+/// Adds lines, each behind a line feed. The error is out of memory.
 fn push_lines(value: &mut String, list: &[&str]) -> Result<(), AllocError>
     ensures { OnOk result (string_bytes value.new ≡ string_bytes value.old ++ behind_feeds (texts_of list.now)) }
 {
@@ -168,7 +168,7 @@ fn push_lines(value: &mut String, list: &[&str]) -> Result<(), AllocError>
     Ok(())
 }
 
-/// Lines with a line feed between each two, in a text with room for so many bytes. The error is want of memory.
+/// Lines with a line feed between each two, in a text with room for so many bytes. The error is out of memory.
 fn joined(alloc: Global, list: &[&str], capacity: usize) -> Result<String, AllocError>
     ensures { IfOk result (λ value. string_bytes value ≡ joined (texts_of list.now)) }
 {
@@ -180,7 +180,7 @@ fn joined(alloc: Global, list: &[&str], capacity: usize) -> Result<String, Alloc
     Ok(value)
 }
 
-/// What a block string says whose characters say this. The error is want of memory.
+/// What a block string says whose characters say this. The error is out of memory.
 pub(crate) fn dedented(alloc: Global, text: &str) -> Result<String, AllocError>
     ensures { IfOk result (λ value. string_bytes value ≡ dedented text.now) }
 {

@@ -10,13 +10,13 @@ pub(crate) trait Says {
     ghost say: { List ℕ → List ℕ };
 
     /// Adds what one character or more say that stand at the front. Answers what stands behind them, and nothing where no character
-    /// stands there. The error is want of memory.
+    /// stands there. The error is out of memory.
     fn push<'a>(value: &mut String, text: &'a str) -> Result<Option<&'a str>, AllocError>
         ensures said { IfOk result (λ left. string_bytes value.old ++ say text.now ≡ string_bytes value.new ++ left_says say left) }
         ensures shorter { IfOk result (λ left. bytes_left left ≤ length text.now) };
 }
 
-/// What the characters at the front say. The error is want of memory.
+/// What the characters at the front say. The error is out of memory.
 pub(crate) fn spoken<S: Says>(alloc: Global, text: &str) -> Result<String, AllocError>
     ensures { IfOk result (λ value. string_bytes value ≡ S.say text.now) }
 {

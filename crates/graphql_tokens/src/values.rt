@@ -64,7 +64,7 @@ fn plain_block_bytes(text: &[u8]) -> usize
         .count()
 }
 
-/// Adds what a character of a block string says. The error is want of memory.
+/// Adds what a character of a block string says. The error is out of memory.
 fn push_block_character(value: &mut String, character: &str) -> Result<(), AllocError>
     ensures { OnOk result (string_bytes value.new ≡ string_bytes value.old ++ block_says character.now) }
 {

@@ -24,6 +24,6 @@ pub mod walks;
 
 /// A value that is told in full.
 pub trait Tell {
-    /// Adds all of it. The error is want of memory, which is asked for nothing but the text: where that has room, none is.
+    /// Adds all of it. The error is out of memory, which is asked for nothing but the text: where that has room, none is.
     fn tell(&self, text: &mut String) -> Result<(), AllocError>;
 }

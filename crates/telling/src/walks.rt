@@ -34,7 +34,7 @@ pub fn push_fields(text: &mut String, fields: &[&Node<Field>]) -> Result<(), All
     Ok(())
 }
 
-/// Adds the fields that a walk gives, one by one. The error is want of memory for the text.
+/// Adds the fields that a walk gives, one by one. The error is out of memory for the text.
 /// No clause: it serves tests.
 pub fn push_walk(text: &mut String, walk: &mut FieldWalk<'_>) -> Result<End, AllocError> {
     for _ in 0..MANY {

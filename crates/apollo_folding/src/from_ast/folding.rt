@@ -25,7 +25,7 @@ use std::alloc::AllocError;
 const FIRST_ROOM: usize = 9;
 
 /// Gives an empty table room for so many entries at once, where they are more than it would first have room for. The error
-/// is want of memory.
+/// is out of memory.
 fn make_room<T: Drop>(table: &mut Table<Name, Component<T>>, count: usize) -> Result<(), AllocError>
     ensures { OnOk result (table.new ≡ table.old) }
 {
@@ -38,7 +38,7 @@ fn make_room<T: Drop>(table: &mut Table<Name, Component<T>>, count: usize) -> Re
     Ok(())
 }
 
-/// Adds directives at the end, in order, each with this origin. The error is want of memory.
+/// Adds directives at the end, in order, each with this origin. The error is out of memory.
 pub fn fold_directives(
     list: &mut DirectiveList,
     directives: &[Node<Directive>],
@@ -151,7 +151,7 @@ fn fold_entry<T: Named + Drop>(
 }
 
 /// Adds definitions under their names in order, with this origin, each unless its name is there, and a fault at the end for each
-/// whose name is. The error is want of memory.
+/// whose name is. The error is out of memory.
 pub fn fold_named<T: Named + Drop>(
     table: &mut Table<Name, Component<T>>,
     nodes: &[Node<T>],

@@ -33,12 +33,12 @@ pub trait Kind<Body: Copy>: Clone + Drop {
     /// The type of any kind that a node of this kind is.
     ghost wrapped: { NodeView Self → ExtendedType };
 
-    /// The type of a definition without its components, whose tables hash by these keys. The error is want of memory.
+    /// The type of a definition without its components, whose tables hash by these keys. The error is out of memory.
     fn bare(alloc: Global, keys: HashKeys, head: &PartView<'_>) -> Result<Self, AllocError>
         ensures { IfOk result (λ ty. (body : TypeBody) → ty ≡ made (part_with body head.now) []) };
 
     /// Folds the components of a part with this body in under an origin, each unless it is there, and adds a fault at the end for
-    /// each that is. The error is want of memory.
+    /// each that is. The error is out of memory.
     fn fold(
         &mut self,
         part: &PartView<'_>,
@@ -61,7 +61,7 @@ pub trait Kind<Body: Copy>: Clone + Drop {
 }
 
 /// The type of a definition with this body alone, at the definition's location. Components that are there already are left out,
-/// and their faults added at the end. The error is want of memory.
+/// and their faults added at the end. The error is out of memory.
 pub fn type_of_definition<Body: Copy, K: Kind<Body>>(
     alloc: Global,
     keys: HashKeys,
@@ -80,7 +80,7 @@ pub fn type_of_definition<Body: Copy, K: Kind<Body>>(
 /// Folds an extension with this body into a type of its kind, under the source's next identity. Components that are there already
 /// are left out, and their faults added at the end.
 ///
-/// `Memory` is want of memory, and `ExtensionIds` that the source has no number left.
+/// `Memory` is out of memory, and `ExtensionIds` that the source has no number left.
 pub fn extend_node<Body: Copy, K: Kind<Body>>(
     node: &mut Node<K>,
     extension: &PartView<'_>,

@@ -149,7 +149,7 @@ fn schema_from_ast(
 /// Folds an extension of the schema in under the source's next identity (section 3.3.2). A root whose operation has one is left
 /// out, and its fault added at the end.
 ///
-/// `Memory` is want of memory. `ExtensionIds` comes only where the source has no number left.
+/// `Memory` is out of memory. `ExtensionIds` comes only where the source has no number left.
 pub fn extend_schema(
     node: &mut Node<SchemaDefinition>,
     extension: &Node<SchemaExtension>,
@@ -195,7 +195,7 @@ fn extend_schema_by_all(
 /// The schema definition of a definition with these extensions folded in, in order, as [`extend_schema`] does, at the
 /// location of the definition. The faults of the definition are added at the end, and then those of the extensions.
 ///
-/// `Memory` is want of memory. `ExtensionIds` comes only where the source has fewer numbers left than there are extensions.
+/// `Memory` is out of memory. `ExtensionIds` comes only where the source has fewer numbers left than there are extensions.
 pub fn begin_schema(
     alloc: Global,
     node: &Node<ast::SchemaDefinition>,

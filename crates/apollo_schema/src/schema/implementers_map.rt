@@ -24,7 +24,7 @@ fn declared_interfaces(ty: &ExtendedType) -> &[ComponentName]
     }
 }
 
-/// Notes a name under an interface: that of an object type, or else of an interface type. The error is want of memory.
+/// Notes a name under an interface: that of an object type, or else of an interface type. The error is out of memory.
 fn note(
     alloc: Global,
     map: &mut Table<Name, Implementers>,
@@ -44,7 +44,7 @@ fn note(
     Ok(())
 }
 
-/// Notes the name of a type under each interface that the type declares. The error is want of memory.
+/// Notes the name of a type under each interface that the type declares. The error is out of memory.
 fn note_type(
     alloc: Global,
     map: &mut Table<Name, Implementers>,
@@ -66,7 +66,7 @@ impl Schema {
     ///
     /// The names of interfaces stand in the order in which the types, in the schema's order, declare them first, each as it is
     /// written there. The types under each stand in the schema's order, by their keys. The map hashes as the schema's types do.
-    /// The error is want of memory.
+    /// The error is out of memory.
     pub fn implementers_map(&self, alloc: Global) -> Result<Table<Name, Implementers>, AllocError>
         ensures { IfOk result (λ map. map ≡ implementers_map self.now.types) }
     {

@@ -115,7 +115,7 @@ fn refusal(error: BuilderError) -> BuildFailure
 
 impl Tables {
     /// What was built, and the source: the schema where nothing was found, or else what could be built beside the faults.
-    /// The error is want of memory, and puts the source back at this number.
+    /// The error is out of memory, and puts the source back at this number.
     fn into_schema(self, before: u64) -> (Result<Schema, BuildFailure>, ExtensionSource)
         ensures built { IfOk result.0 (λ schema. ForCompleted self (λ start adopts xs. MeansSchema start adopts xs schema)) }
         ensures faultless { OnOk result.0 (ForCompleted self (λ start adopts xs. faults_of adopts xs ≡ [])) }

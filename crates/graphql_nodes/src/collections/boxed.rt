@@ -55,14 +55,14 @@ impl<T> Boxed<T> {
 }
 
 impl<T: Drop> Boxed<T> {
-    /// Puts another value into a box of the same allocator. The error is want of memory, and drops the value.
+    /// Puts another value into a box of the same allocator. The error is out of memory, and drops the value.
     pub fn same_allocator(&self, value: T) -> Result<Boxed<T>, AllocError>
         ensures { IfOk result (λ b. b ≡ value) }
     {
         Boxed::new(*Box::allocator(&self.inner), value)
     }
 
-    /// Puts a value into a box. The error is want of memory, and drops the value.
+    /// Puts a value into a box. The error is out of memory, and drops the value.
     pub fn new(alloc: Global, value: T) -> Result<Boxed<T>, AllocError>
         ensures { IfOk result (λ b. b ≡ value) }
     {
@@ -102,7 +102,7 @@ impl<T> DerefMut for Boxed<T> {
 impl<T: Clone + Drop> Clone for Boxed<T> {
     ghost is_clone = { T.is_clone };
 
-    /// A box of a clone of the value. The error is want of memory.
+    /// A box of a clone of the value. The error is out of memory.
     fn clone(&self) -> Result<Boxed<T>, AllocError> {
         let value = (*self.inner).clone()?;
         self.same_allocator(value)

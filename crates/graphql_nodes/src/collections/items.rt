@@ -53,7 +53,7 @@ impl<T> Items<T> {
         }
     }
 
-    /// The elements of the array, in order. After want of memory the error gives the array back.
+    /// The elements of the array, in order. When memory runs out the error gives the array back.
     pub fn from_array<const N: usize>(
         alloc: Global,
         items: [T; N],
@@ -119,7 +119,7 @@ impl<T> Items<T> {
         self.as_slice().iter()
     }
 
-    /// Adds an element at the end. The error is want of memory: the list is as it was, and the element is dropped.
+    /// Adds an element at the end. The error is out of memory: the list is as it was, and the element is dropped.
     pub fn push(&mut self, item: T) -> Result<(), AllocError>
     where
         T: Drop,
@@ -132,7 +132,7 @@ impl<T> Items<T> {
 
     /// Moves all elements of the other list to the end. The other list is then empty.
     ///
-    /// The error is want of memory, and leaves both lists as they were.
+    /// The error is out of memory, and leaves both lists as they were.
     pub fn append(&mut self, other: &mut Items<T>) -> Result<(), AllocError>
         ensures ok { OnOk result (self.new ≡ self.old ++ other.old) }
         ensures emptied { OnOk result (other.new ≡ []) }
@@ -178,7 +178,7 @@ impl<T: Hash> Hash for Items<T> {
 impl<T: Clone + Drop> Clone for Items<T> {
     ghost is_clone = { AllZip T.is_clone };
 
-    /// A clone of each element, in order. The error is want of memory.
+    /// A clone of each element, in order. The error is out of memory.
     fn clone(&self) -> Result<Items<T>, AllocError> {
         let items = self.items.clone()?;
         Ok(Items { items })
@@ -244,7 +244,7 @@ impl<T: Drop> Extend<T> for Items<T> {
 
     /// Adds what the iterator gives at the end, in order. Premise: the iterator may be called, and ends.
     ///
-    /// The error is want of memory: the list then has what it had and, at the end, what the iterator gave before.
+    /// The error is out of memory: the list then has what it had and, at the end, what the iterator gave before.
     fn extend<U: IntoIterator<Item = T>>(&mut self, iter: U) -> Result<(), AllocError> {
         self.items.extend(iter)
     }
@@ -256,7 +256,7 @@ impl<T: Drop> FromIterator<T> for Items<T> {
     ghost from_iter_gives = { λ xs it. it ≡ xs };
 
     /// What the iterator gives, in order, as `collect` answers it. Premise: the iterator may be called, and ends. The error is
-    /// want of memory, and drops what was given.
+    /// out of memory, and drops what was given.
     fn from_iter<U: IntoIterator<Item = T>>(
         alloc: Global,
         iter: U,

@@ -183,7 +183,7 @@ impl<T: Eq + Hash> KeySet<T> {
 impl<T: Eq + Hash + Drop> KeySet<T> {
     /// Puts the key last, or leaves the equal one that is there. Answers whether there was none.
     ///
-    /// The error is want of memory, which only a new key meets. It gives the key back, and leaves the set as it was.
+    /// The error is out of memory, which only a new key meets. It gives the key back, and leaves the set as it was.
     pub fn insert(&mut self, key: T) -> Result<bool, AllocFailed<T>>
         ensures added { IfOk result (λ added. added ≡ not (has_key (T.eq key) self.old)) }
         ensures keys { OnOk result (self.new ≡ insert_key T.eq self.old key) }

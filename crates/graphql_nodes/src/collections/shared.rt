@@ -47,7 +47,7 @@ impl<T> Shared<T> {
 }
 
 impl<T: Drop> Shared<T> {
-    /// Puts a value where copies share it. The error is want of memory, and drops the value.
+    /// Puts a value where copies share it. The error is out of memory, and drops the value.
     pub fn new(alloc: Global, value: T) -> Result<Shared<T>, AllocError>
         ensures { IfOk result (λ s. s ≡ value) }
     {
@@ -105,7 +105,7 @@ impl<T: Hash> Hash for Shared<T> {
 impl<T: Drop> Clone for Shared<T> {
     ghost is_clone = { λ a b. b ≡ a };
 
-    /// A copy that shares the value. The error is want of memory.
+    /// A copy that shares the value. The error is out of memory.
     fn clone(&self) -> Result<Shared<T>, AllocError> {
         Ok(Shared {
             inner: self.inner.clone()?,

@@ -257,7 +257,7 @@ impl<K: Eq + Hash + Drop, V> Table<K, V> {
     /// Puts the value at the key. An equal key that is there stays, in its place, and a new one goes last. Answers the value
     /// that stood there, if one did.
     ///
-    /// The error is want of memory, which only a new key meets. It gives the key and the value back, and leaves the table as
+    /// The error is out of memory, which only a new key meets. It gives the key and the value back, and leaves the table as
     /// it was.
     pub fn insert(&mut self, key: K, value: V) -> Result<Option<V>, AllocFailed<(K, V)>>
         ensures old { IfOk result (λ old. old ≡ lookup (K.eq key) self.old) }
@@ -272,7 +272,7 @@ impl<K: Eq + Hash + Drop, V> Table<K, V> {
 
     /// Inserts each entry of the other table in turn, as [`insert`](Table::insert) does. The other table is then empty.
     ///
-    /// The error is want of memory, and leaves both tables as they were.
+    /// The error is out of memory, and leaves both tables as they were.
     pub fn append(&mut self, other: &mut Table<K, V>) -> Result<(), AllocError>
     where
         V: Drop,
@@ -320,7 +320,7 @@ impl<K: Eq + Hash + Clone + Drop, V: Clone + Drop> Clone for Table<K, V> {
     ghost is_clone = { IsTableClone K.is_clone V.is_clone };
 
     /// A table of clones. Where clones of the keys and the values are the originals, it has the same entries in the same order.
-    /// The error is want of memory.
+    /// The error is out of memory.
     #[tactic(auto, using(crate::proofs::TableLemmas::exact_clones))]
     fn clone(&self) -> Result<Table<K, V>, AllocError> {
         let map = self.map.clone()?;

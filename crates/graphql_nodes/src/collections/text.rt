@@ -47,7 +47,7 @@ impl Text {
         inner
     }
 
-    /// A copy of a text. The error is want of memory.
+    /// A copy of a text. The error is out of memory.
     pub fn from_str(alloc: Global, text: &str) -> Result<Text, AllocError>
         ensures { IfOk result (λ t. t ≡ text.now) }
     {
@@ -81,7 +81,7 @@ impl Text {
 impl Clone for Text {
     ghost is_clone = { λ a b. b ≡ a };
 
-    /// A copy of the text. The error is want of memory.
+    /// A copy of the text. The error is out of memory.
     fn clone(&self) -> Result<Text, AllocError> {
         Ok(Text {
             inner: self.inner.clone()?,

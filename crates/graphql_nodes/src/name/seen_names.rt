@@ -30,7 +30,7 @@ pub struct SeenNames {
 }
 
 impl SeenNames {
-    /// No name, and room for those of a text of so many bytes. The error is want of memory.
+    /// No name, and room for those of a text of so many bytes. The error is out of memory.
     /// No clause: which names were seen changes no answer.
     pub fn new(alloc: Global, bytes: usize) -> Result<SeenNames, AllocError> {
         let count = (bytes / BYTES_PER_SLOT).max(FEWEST_SLOTS).min(MOST_SLOTS);
@@ -40,7 +40,7 @@ impl SeenNames {
     }
 
     /// A name with this text, whatever it is, and no location. It shares its text with one that was seen, if the slot of the
-    /// text holds it. The error is want of memory.
+    /// text holds it. The error is out of memory.
     pub fn name(&mut self, alloc: Global, text: &str) -> Result<Name, AllocError>
         ensures { IfOk result (λ name. name ≡ record { text = text.now; location = None }) }
     {
