@@ -83,6 +83,14 @@ impl DirectiveList {
     {
         self.0.push(directive)
     }
+
+    /// The directives, in order.
+    pub fn into_items(self) -> Items<Node<Directive>>
+        ensures { result ≡ self.0 }
+    {
+        let Self(directives) = self;
+        directives
+    }
 }
 
 impl Deref for DirectiveList {
