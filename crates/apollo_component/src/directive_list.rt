@@ -39,7 +39,7 @@ impl DirectiveList {
         DirectiveList(Items::new(alloc))
     }
 
-    /// The directives that an iterator gives, in order. Premise: the iterator may be called, and ends. The error is want of
+    /// The directives that an iterator gives, in order. Premise: the iterator may be called, and ends. The error is out of
     /// memory, and drops what was given.
     pub fn try_from_iter<U: IntoIterator<Item = Component<Directive>>>(
         alloc: Global,

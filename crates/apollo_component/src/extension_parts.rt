@@ -71,7 +71,7 @@ impl ExtensionParts {
         self.held.add(alloc, id, part)
     }
 
-    /// Adds each, in order, as an extension of a type of this kind and name, at its own location. The error is want of
+    /// Adds each, in order, as an extension of a type of this kind and name, at its own location. The error is out of
     /// memory, after which `written` begins with what it held.
     pub(crate) fn write_types(
         self,

@@ -100,7 +100,7 @@ impl TypeAttributeCoordinate {
     ///
     /// A text without a `.` is refused with [`InvalidFormat`](SchemaCoordinateParseError::InvalidFormat). Of what stands
     /// before and after the first `.` the first that is no name is refused with
-    /// [`InvalidName`](SchemaCoordinateParseError::InvalidName) of it. [`Memory`](SchemaCoordinateParseError::Memory) is want of
+    /// [`InvalidName`](SchemaCoordinateParseError::InvalidName) of it. [`Memory`](SchemaCoordinateParseError::Memory) is out of
     /// memory.
     pub fn from_str(
         alloc: Global,
@@ -124,7 +124,7 @@ impl FieldArgumentCoordinate {
     /// A text without a `(` is refused with [`InvalidFormat`](SchemaCoordinateParseError::InvalidFormat). What stands before
     /// the first one is read as a [`TypeAttributeCoordinate`], with its refusals; then what stands after it, where no `:`, or
     /// anything but `)` alone after the first one, is `InvalidFormat`, and an argument that is no name is
-    /// [`InvalidName`](SchemaCoordinateParseError::InvalidName) of it. [`Memory`](SchemaCoordinateParseError::Memory) is want of
+    /// [`InvalidName`](SchemaCoordinateParseError::InvalidName) of it. [`Memory`](SchemaCoordinateParseError::Memory) is out of
     /// memory.
     pub fn from_str(
         alloc: Global,
@@ -147,7 +147,7 @@ impl DirectiveCoordinate {
     ///
     /// A text that doesn't begin with `@` is refused with
     /// [`InvalidFormat`](SchemaCoordinateParseError::InvalidFormat), and what is no name after it with
-    /// [`InvalidName`](SchemaCoordinateParseError::InvalidName) of it. [`Memory`](SchemaCoordinateParseError::Memory) is want of
+    /// [`InvalidName`](SchemaCoordinateParseError::InvalidName) of it. [`Memory`](SchemaCoordinateParseError::Memory) is out of
     /// memory.
     pub fn from_str(
         alloc: Global,
@@ -173,7 +173,7 @@ impl DirectiveArgumentCoordinate {
     /// A text without a `(` is refused with [`InvalidFormat`](SchemaCoordinateParseError::InvalidFormat). What stands before
     /// the first one is read as a [`DirectiveCoordinate`], with its refusals; then what stands after it, where no `:`, or
     /// anything but `)` alone after the first one, is `InvalidFormat`, and an argument that is no name is
-    /// [`InvalidName`](SchemaCoordinateParseError::InvalidName) of it. [`Memory`](SchemaCoordinateParseError::Memory) is want of
+    /// [`InvalidName`](SchemaCoordinateParseError::InvalidName) of it. [`Memory`](SchemaCoordinateParseError::Memory) is out of
     /// memory.
     pub fn from_str(
         alloc: Global,

@@ -153,7 +153,7 @@ impl Operation {
 }
 
 impl Fragment {
-    /// The fragment as a definition at this location, if one is given. Its condition is the type of its set. The error is want
+    /// The fragment as a definition at this location, if one is given. Its condition is the type of its set. The error is out
     /// of memory.
     pub fn to_ast(
         &self,

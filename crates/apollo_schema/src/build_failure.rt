@@ -17,7 +17,7 @@ pub struct WithErrors<T> {
     pub errors: Faults,
 }
 
-/// A copy has a copy of what could be built, and the same faults in the same order, with their locations. The error is want of
+/// A copy has a copy of what could be built, and the same faults in the same order, with their locations. The error is out of
 /// memory.
 impl<T: Clone + Drop> Clone for WithErrors<T> {
     ghost use Rattle.std.specs.Prelude.{◌≡◌};

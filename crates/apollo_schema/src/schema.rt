@@ -104,7 +104,7 @@ impl Schema {
     ///
     /// The schema definition is left out where it would be implied, or has no root of its own, as
     /// [`SchemaDefinition::to_ast`] says: its description and its own directives are not written then. Its extensions are always
-    /// there. Built-in definitions of types and directives are left out, but not the extensions of those types. The error is want
+    /// there. Built-in definitions of types and directives are left out, but not the extensions of those types. The error is out
     /// of memory.
     pub fn to_ast(&self, alloc: Global) -> Result<Vec<Definition>, AllocError>
         ensures { IfOk result (λ written. written.items ≡ write_schema self.now) }

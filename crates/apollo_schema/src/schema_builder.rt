@@ -71,7 +71,7 @@ impl SchemaBuilder {
         SchemaBuilder::with_source(alloc, ExtensionSource::new())
     }
 
-    /// The same, drawing the numbers of extensions from this source: the first one is the source's next number. The error is want
+    /// The same, drawing the numbers of extensions from this source: the first one is the source's next number. The error is out
     /// of memory, and drops the source.
     pub fn with_source(alloc: Global, source: ExtensionSource) -> Result<SchemaBuilder, AllocError>
         ensures stands { IfOk result (StandsFor (next_number source) (added false built_in_definitions)) }

@@ -26,7 +26,7 @@ pub(crate) fn write_directives(
     Ok(())
 }
 
-/// Adds a type at the end: its definition, unless that is a built-in one, and then its extensions. The error is want of
+/// Adds a type at the end: its definition, unless that is a built-in one, and then its extensions. The error is out of
 /// memory.
 pub(crate) fn write_type(
     alloc: Global,

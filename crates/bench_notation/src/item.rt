@@ -88,7 +88,7 @@ impl OpenItem {
         }
     }
 
-    /// Adds a component, at this location. A directive of a field, where there is no field, adds nothing. The error is want of
+    /// Adds a component, at this location. A directive of a field, where there is no field, adds nothing. The error is out of
     /// memory.
     pub fn add(
         &mut self,

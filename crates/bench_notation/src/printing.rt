@@ -20,7 +20,7 @@ use graphql_nodes::operation_type::OperationType;
 use graphql_nodes::type_kind::TypeKind;
 use std::alloc::{AllocError, Global};
 
-/// The text of definitions and extensions, in order. What the notation has no line for is left out. The error is want of
+/// The text of definitions and extensions, in order. What the notation has no line for is left out. The error is out of
 /// memory.
 pub fn print(alloc: Global, definitions: &[Definition]) -> Result<String, AllocError>
     ensures { IfOk result (λ text. string_bytes text ≡ printed_definitions definitions.now) }

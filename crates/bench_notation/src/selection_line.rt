@@ -68,7 +68,7 @@ impl SelectionLine {
         }
     }
 
-    /// The selection that it says, at its location, with these selections. Of a spread they are dropped. The error is want of
+    /// The selection that it says, at its location, with these selections. Of a spread they are dropped. The error is out of
     /// memory, and drops them.
     pub fn into_selection(
         self,

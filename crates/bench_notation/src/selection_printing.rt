@@ -6,7 +6,7 @@ use graphql_ast::selection::{Field, FragmentSpread, InlineFragment, Selection};
 use graphql_nodes::name::Name;
 use std::alloc::{AllocError, Global};
 
-/// Adds the lines of these selections, which stand at this depth, in order, each before those in it. The error is want of
+/// Adds the lines of these selections, which stand at this depth, in order, each before those in it. The error is out of
 /// memory, after which nothing is said of the text: drop it.
 #[cycle(push_selections)]
 pub fn push_selections(

@@ -56,7 +56,7 @@ fn push_fault<E: Display>(
     text.push_str("\n")
 }
 
-/// Adds the number with which a location starts, or `-` where there is none: of what was read the line. The error is want of
+/// Adds the number with which a location starts, or `-` where there is none: of what was read the line. The error is out of
 /// memory.
 pub(crate) fn push_location(
     alloc: Global,

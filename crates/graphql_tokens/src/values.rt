@@ -116,7 +116,7 @@ fn behind_quotes<'a>(token: &'a str) -> &'a str
     }
 }
 
-/// The value of a string token, of its bytes with the quotes. Of a text that is no such token it means nothing. The error is want of
+/// The value of a string token, of its bytes with the quotes. Of a text that is no such token it means nothing. The error is out of
 /// memory.
 pub fn string_value(alloc: Global, token: &str) -> Result<Text, AllocError>
     ensures { IfOk result (λ value. value ≡ string_value token.now) }
@@ -125,7 +125,7 @@ pub fn string_value(alloc: Global, token: &str) -> Result<Text, AllocError>
     Ok(Text::from_string(value))
 }
 
-/// The value of a block string token, of its bytes with the quotes. Of a text that is no such token it means nothing. The error is want
+/// The value of a block string token, of its bytes with the quotes. Of a text that is no such token it means nothing. The error is out
 /// of memory.
 pub fn block_string_value(alloc: Global, token: &str) -> Result<Text, AllocError>
     ensures { IfOk result (λ value. value ≡ block_string_value token.now) }

@@ -91,7 +91,7 @@ fn fold_name(
     Ok(())
 }
 
-/// Adds names in order, with this origin, each unless it is there, and a fault at the end for each that is. The error is want of
+/// Adds names in order, with this origin, each unless it is there, and a fault at the end for each that is. The error is out of
 /// memory.
 pub fn fold_names(
     set: &mut KeySet<ComponentName>,

@@ -229,7 +229,7 @@ impl<T: Eq + Hash> Eq for KeySet<T> {
 impl<T: Eq + Hash + Clone + Drop> Clone for KeySet<T> {
     ghost is_clone = { IsSetClone T.is_clone };
 
-    /// A set of clones. Where clones of the keys are the originals, it has the same keys in the same order. The error is want
+    /// A set of clones. Where clones of the keys are the originals, it has the same keys in the same order. The error is out
     /// of memory.
     #[tactic(auto, using(crate::proofs::KeySetClones::exact_keys))]
     fn clone(&self) -> Result<KeySet<T>, AllocError> {
