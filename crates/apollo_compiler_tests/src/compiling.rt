@@ -1,4 +1,4 @@
-//! What is told of what documents are compiled to. One function owns what is compiled, which is dear to prove.
+//! What is said of what documents are compiled to. One function owns what is compiled, which is dear to prove.
 
 use apollo_compiler::{CompileOptions, Compiled, Document, ExecutableOptions, compile};
 use bench_notation::printing::print;
@@ -52,7 +52,7 @@ fn push_document(
     compiled.document.tell(text)
 }
 
-/// What is told of documents of both sorts, or the error.
+/// What is said of documents of both sorts, or the error.
 /// No clause: it serves tests.
 pub fn told(
     alloc: Global,
@@ -73,14 +73,14 @@ pub fn told(
     Ok(text)
 }
 
-/// What is told of the documents of the type system that a text says.
+/// What is said of the documents of the type system that a text says.
 /// No clause: it serves tests.
 pub fn told_of(alloc: Global, options: CompileOptions, input: &str) -> Result<String, ReadError> {
     let documents = read(alloc, input)?;
     Ok(told(alloc, options, documents.as_slice(), &[])?)
 }
 
-/// What is told of one document of each sort, if there was memory for both.
+/// What is said of one document of each sort, if there was memory for both.
 /// No clause: it serves tests.
 pub fn told_of_both(
     alloc: Global,

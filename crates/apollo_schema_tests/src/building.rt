@@ -234,7 +234,7 @@ pub fn told(
     Ok(text)
 }
 
-/// Expects this to be told of the documents that a text says.
+/// Expects this to be said of the documents that a text says.
 /// No clause: it serves tests.
 pub fn expect(rt: &(impl Abort + AllocGlobal), settings: &Settings, input: &str, account: &str) {
     let documents = read(rt.alloc(), input).expect(rt, "documents");

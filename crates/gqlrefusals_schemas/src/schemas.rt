@@ -81,7 +81,7 @@ fn tell_extensions(
     tell_line(text, ids)
 }
 
-/// Asks something of a type. What is to be written behind what others are goes there, and is told at the end.
+/// Asks something of a type. What is to be written behind what others are goes there, and is written at the end.
 fn ask_type(
     alloc: Global,
     text: &mut String,

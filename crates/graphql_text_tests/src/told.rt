@@ -59,7 +59,7 @@ fn told_text(
     }
 }
 
-/// Whether each text is read, or refused, as is told beside it.
+/// Whether each text is read, or refused, as is said beside it.
 /// No clause: it serves tests.
 pub(crate) fn are_told(
     alloc: Global,

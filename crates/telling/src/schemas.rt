@@ -1,4 +1,4 @@
-//! Types and schemas. Of what is built in, only what isn't as in every schema is told in full.
+//! Types and schemas. Of what is built in, only what isn't as in every schema is written in full.
 
 use crate::Tell;
 use crate::containers::At;

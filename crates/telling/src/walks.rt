@@ -6,7 +6,7 @@ use apollo_executable::{Field, FieldWalk};
 use graphql_nodes::node::Node;
 use std::alloc::AllocError;
 
-/// More fields than any walk gives that is told.
+/// More fields than any walk gives that is written.
 const MANY: usize = 1000;
 
 /// How a walk ended.
