@@ -53,7 +53,6 @@ fn push_document(
 }
 
 /// What is said of documents of both sorts, or the error.
-/// No clause: it serves tests.
 pub fn told(
     alloc: Global,
     options: CompileOptions,
@@ -74,14 +73,12 @@ pub fn told(
 }
 
 /// What is said of the documents of the type system that a text says.
-/// No clause: it serves tests.
 pub fn told_of(alloc: Global, options: CompileOptions, input: &str) -> Result<String, ReadError> {
     let documents = read(alloc, input)?;
     Ok(told(alloc, options, documents.as_slice(), &[])?)
 }
 
 /// What is said of one document of each sort, if there was memory for both.
-/// No clause: it serves tests.
 pub fn told_of_both(
     alloc: Global,
     schema: Result<Document, AllocError>,
@@ -93,7 +90,6 @@ pub fn told_of_both(
 }
 
 /// Expects this text, if there was one to be read and memory for it.
-/// No clause: it serves tests.
 pub fn expect_told(rt: &impl Abort, told: Result<String, ReadError>, wanted: &str) {
     match told {
         Ok(text) => assert_eq!(rt; text.as_str(), wanted),

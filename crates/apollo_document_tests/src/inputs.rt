@@ -53,7 +53,6 @@ fn told<A: Account>(alloc: Global, account: &A, input: &str) -> Result<String, A
 }
 
 /// Expects of the input of each row what stands beside it.
-/// No clause: it serves tests.
 pub fn expect<A: Account>(
     rt: &(impl Abort + AllocGlobal),
     account: &A,

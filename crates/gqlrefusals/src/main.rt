@@ -1,4 +1,4 @@
-//! `gqlrefusals`: calls that can want memory, each in a scenario that tells its answer in full, or, where a request for memory
+//! `gqlrefusals`: calls that can run out of memory, each in a scenario that writes its answer in full, or, where a request for memory
 //! was refused, looks at what is promised after that. No function has a clause: the program is a test, whose answers are
 //! compared, with ample memory and with each request refused in turn.
 #![tactic(auto)]

@@ -60,7 +60,6 @@ fn told_text(
 }
 
 /// Whether each text is read, or refused, as is said beside it.
-/// No clause: it serves tests.
 pub(crate) fn are_told(
     alloc: Global,
     whole: Whole,

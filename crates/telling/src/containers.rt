@@ -91,7 +91,6 @@ impl<T: Tell> Tell for &[T] {
 }
 
 /// Tells each value of a list. A slice in a variable goes to this function, since a method would lend the variable.
-/// No clause: it serves tests.
 pub fn tell_all<T: Tell>(values: &[T], text: &mut String) -> Result<(), AllocError> {
     for value in values {
         value.tell(text)?;

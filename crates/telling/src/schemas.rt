@@ -124,7 +124,6 @@ fn push_definitions(text: &mut String, schema: &Schema, all: bool) -> Result<(),
 }
 
 /// Adds what a schema has that isn't as in every schema.
-/// No clause: it serves tests.
 pub fn push_own(text: &mut String, schema: &Schema) -> Result<(), AllocError> {
     tell!(text; schema.sources, schema.schema_definition)?;
     push_definitions(text, schema, false)
