@@ -26,7 +26,11 @@ pub enum OfBuilder {
 }
 
 /// A builder that has taken nothing, over a source that starts at this number, or over one of its own.
-fn empty_builder(alloc: Global, adopts: bool, first: Option<u64>) -> Result<SchemaBuilder, AllocError> {
+fn empty_builder(
+    alloc: Global,
+    adopts: bool,
+    first: Option<u64>,
+) -> Result<SchemaBuilder, AllocError> {
     let builder = match first {
         Some(first) => SchemaBuilder::with_source(alloc, ExtensionSource::starting_at(first))?,
         None => SchemaBuilder::new(alloc)?,
