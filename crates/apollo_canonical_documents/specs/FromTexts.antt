@@ -48,9 +48,9 @@ pub record IsReadingOfDocument (document : ExecutableDocument) (r : Reading) : T
   pub deep : document_nesting (erased_definitions document) ≤ r.depth
   pub long : length r.text ≤ r.allowed
 
--- definitions that mean, over the schema that the document was typed over, or without one if it was typed
--- without, a document that is equal to it and has its text, whether or not definitions of the type system
--- are at fault
+-- definitions that mean a document that is equal to this one and has its text: over the schema that this one
+-- was typed over, or without one if it was typed without; whether or not definitions of the type system are
+-- at fault
 pub record BuildDocumentAgain (schema : Option Schema) (document : ExecutableDocument) (definitions : List Definition) : Type 0 where
   -- there is a document that they mean
   pub means : (errors : Bool)

@@ -42,8 +42,8 @@ AreRead = AllByRecursion (λ t. Reads t.reading t.definitions)
 abbrev pub added_texts : List AddedText → List Added
 added_texts = flat_map (λ t. added t.ignores t.definitions)
 
--- a schema that is built of texts, with extensions numbered from some number and any setting of adoption,
--- whole or what could be built of texts with faults
+-- a schema that is built of texts, with extensions numbered from some number and any setting of adoption; it
+-- is whole or what could be built of texts with faults
 pub record IsBuiltOfTexts (schema : Schema) : Type 0 where
   pub texts : List AddedText
   pub read : AreRead texts
@@ -64,8 +64,8 @@ pub record IsReadingOf (schema : Schema) (r : Reading) : Type 0 where
   pub deep : document_nesting (write_schema schema) ≤ r.depth
   pub long : length r.text ≤ r.allowed
 
--- definitions that, added after the built-in ones, with adoption, have no fault and mean a schema that is
--- equal to this one and has its text, however extensions are numbered
+-- definitions that are added after the built-in ones, with adoption: they have no fault and mean a schema
+-- that is equal to this one and has its text, however extensions are numbered
 pub record BuildAgain (schema : Schema) (definitions : List Definition) : Type 0 where
   pub faultless : faults_of true (with_built_ins (added false definitions)) ≡ []
   -- there is a schema that they mean

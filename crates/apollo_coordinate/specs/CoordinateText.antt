@@ -1,5 +1,5 @@
--- Schema coordinates as texts: the grammar of the Schema Coordinates RFC of GraphQL, `T`, `T.a`, `T.f(a:)`, `@d` and `@d(a:)`,
--- where each part is a Name of the GraphQL specification of October 2021, section 2.1.9.
+-- Schema coordinates as texts: the grammar of the Schema Coordinates RFC of GraphQL, `T`, `T.a`, `T.f(a:)`,
+-- `@d` and `@d(a:)`. Each part is a Name of the GraphQL specification of October 2021, section 2.1.9.
 --
 -- **Coordinate text.** `T`, `T.a`, `T.f(a:)`, `@d` or `@d(a:)`, each letter a *name*, with nothing
 -- before, between or after. The **text** of a coordinate (`text`) has the texts of its names there. No

@@ -13,7 +13,7 @@
 -- | then, of what stands before the first `(` | as `T.a` or `@d` | as `T.a` or `@d` |
 -- | then, of what stands after it | something else than `)` alone follows the first `:`, or there is none | what stands before the first `:` |
 --
--- A text of none of these forms, read as a coordinate of any form, is refused as `InvalidName` of the
+-- Take a text of none of these forms, read as a coordinate of any form. It is refused as `InvalidName` of the
 -- whole text, without the `@` that it may begin with.
 use Rattle.std.specs.Prelude.{◌≡◌, ◌≢◌, ◌⊎◌, ◌++◌, ◌==◌, ℕ, List, [], ◌∷◌, None, All, codes, if◌then◌else◌}
 use Rattle.graphql_nodes.specs.NameSyntax.{IsName}

@@ -1,13 +1,13 @@
 -- What is wrong with a list of definitions that a document is built of, in order: GraphQL specification of October 2021, sections
 -- 2.2 to 2.8. What is kept before a definition is what the list up to it keeps.
 --
--- **Faults of a document's list.** `document_faults`: those of each definition in order, by what the
--- list up to it keeps (`faults_at`). After a kept anonymous operation each named one gives an ambiguity
--- at the kept one's node, before its own faults, and so does the first further anonymous one; each
--- further one is ambiguous at its own node. So is an anonymous operation after a kept named one. An
--- operation or fragment whose name is taken by a kept one of its sort collides with it, at its name. Any
--- other one has no root type (at its node), or no type for its condition (at that), or else the faults
--- of its selections. A definition of the type system is at fault at its node, if it is to be.
+-- **Faults of a document's list.** `document_faults`: those of each definition in order, by what the list up
+-- to it keeps (`faults_at`). After a kept anonymous operation each named one gives an ambiguity at the kept
+-- one's node, before its own faults. So does the first further anonymous one; each further one is ambiguous
+-- at its own node. So is an anonymous operation after a kept named one. An operation or fragment whose name
+-- is taken by a kept one of its sort collides with it, at its name. Any other one has no root type (at its
+-- node), or no type for its condition (at that), or else the faults of its selections. A definition of the
+-- type system is at fault at its node, if it is to be.
 use Rattle.std.specs.Prelude.{Bool, true, false, List, [], ◌∷◌, ◌++◌, Option, None, Some, option_map}
 use Rattle.graphql_nodes.specs.NameView.{NameView}
 use Rattle.graphql_nodes.specs.NodeView.{NodeView}
@@ -59,7 +59,7 @@ faults_in_operation s name n = rooted_faults s name n (root_type_of s n.value.op
 abbrev pub faults_of_named : Option Schema → Option NameView → NameView → NodeView OperationDefinition → List Fault
 faults_of_named s taken name n = unless_taken e.OperationNameCollision name taken (faults_in_operation s (NamedOperation n.value.operation_type name) n)
 
--- what is wrong with a named operation, after an anonymous one at this location if there is one, and where
+-- what is wrong with a named operation: after an anonymous one at this location if there is one; and where
 -- its name is taken if it is
 abbrev pub named_faults : Option Schema → Option (Option SourceSpan) → Option NameView → NameView → NodeView OperationDefinition → List Fault
 named_faults s anonymous taken name n = ambiguous_if anonymous ++ faults_of_named s taken name n

@@ -3,8 +3,8 @@
 --
 -- **Typable.** Of a selection in a type, which is given by its name, over a schema value:
 --
--- - A field is typable (`typable_field`) if the schema gives a definition for its name there, and it has
---   no subselections or the definition's inner name is that of no scalar and no enum.
+-- - A field is typable (`typable_field`) under two conditions: the schema gives a definition for its name
+--   there; and it has no subselections or the definition's inner name is that of no scalar and no enum.
 -- - An inline fragment is typable (`typable_fragment`) if it has no condition, or one that names a type
 --   of the schema.
 -- - A spread is always typable.

@@ -1,7 +1,7 @@
 -- What the constructors of typed selections make: GraphQL specification of October 2021, sections 2.4 to 2.8.
 --
--- **New field.** A new field (`new_field`) has a name and a definition, no alias, arguments and
--- directives, and a set without selections that selects from the inner name of the definition's type.
+-- **New field.** A new field (`new_field`) has a name and a definition, and no alias, arguments and
+-- directives. It has a set without selections that selects from the inner name of the definition's type.
 --
 -- **New inline fragment.** A new inline fragment selects from its condition, or from the type of the set
 -- that it is made for.

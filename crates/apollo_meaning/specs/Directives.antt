@@ -4,8 +4,8 @@
 -- definition of that name that is handed in. If there is none, it means the last definition of that
 -- name, if there is one.
 --
--- `AreDirectivesOf`: there is one for each name that is defined, under that name as its first definition
--- in the list writes it, in the order of first definition; and looking up any text gives what this name
+-- `AreDirectivesOf`: there is one for each name that is defined, under that name as its first definition in
+-- the list writes it. They are in the order of first definition. Looking up any text gives what this name
 -- means, or nothing. So a directive that replaces a built-in one stands where the built-in one would.
 use Rattle.std.specs.Prelude.{ℕ, Bool, List, None, map, ◌≡◌, Option, filter, not, ◌&&◌, Some}
 use Rattle.std.specs.List.{filter_map, find, last_or}

@@ -10,12 +10,12 @@
 -- options. Adoption is settled at the end: the setting at `build` counts, for the whole list. Whether
 -- further definitions of built-in types are ignored counts when a definition is added.
 --
--- `HasFailed builder` says that a call was refused, and `IsLeftWith source builder` that this source is
--- then left. `HasBuilt` says of an answer of `build` that it is a schema or faults, and `WasRefused`
--- that it is neither. `types_held` and `waiting_held` are the types that a builder has so far, under
--- their names, and what waits for a definition. Of an iterator over orphan names `names_left` are the
--- names that it has still to give, and `IsExtendedUnder held name` says that what waits under a name is
--- an extension that has this very name, and further extensions of types alone.
+-- `HasFailed builder` says that a call was refused, and `IsLeftWith source builder` that this source is then
+-- left. `HasBuilt` says of an answer of `build` that it is a schema or faults, and `WasRefused` that it is
+-- neither. `types_held` and `waiting_held` are the types that a builder has so far, under their names, and
+-- what waits for a definition. Of an iterator over orphan names `names_left` are the names that it has still
+-- to give. `IsExtendedUnder held name` says that what waits under a name is an extension that has this very
+-- name, and further extensions of types alone.
 use Rattle.std.specs.Prelude.{◌≡◌, ℕ, Bool, List, []}
 use Rattle.apollo_component.specs.declared.extension.ExtensionSource.{ExtensionSource}
 use Rattle.apollo_schema.specs.declared.schema_builder.SchemaBuilder.{SchemaBuilder}

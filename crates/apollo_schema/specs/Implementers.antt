@@ -1,8 +1,8 @@
 -- The types that implement interfaces, over the types of any schema value alone: GraphQL specification of October 2021,
 -- sections 3.6 and 3.7.
 --
--- **Implementers.** The implementers of a name (`implementers_of`) are the keys of the object types, and
--- the keys of the interface types, that declare it, in the order of the types, each once. The
+-- **Implementers.** The implementers of a name (`implementers_of`) are the keys of the object types, and the
+-- keys of the interface types, that declare it. They are in the order of the types, each once. The
 -- **implementers map** has them under each name that some type declares, in the order of the first
 -- declarations.
 use Rattle.std.specs.Prelude.{Bool, false, ◌&&◌, ◌||◌, List, map, filter, Option, None, Some}

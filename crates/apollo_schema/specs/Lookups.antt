@@ -7,10 +7,10 @@
 -- object or an interface that declares f, and that is the field; or else if one of its meta-fields is
 -- called f.
 --
--- **Subtype.** A type **declares** an interface if it is an object or an interface and lists the
--- interface's name. A name t is a subtype of a name a (`is_subtype`) if the type of a is an interface
--- which the type of t declares, or if the type of a is a union that lists t, whether t has a type or
--- not. Nothing is a subtype through something else, and of itself only what lists its own name.
+-- **Subtype.** A type **declares** an interface if it is an object or an interface and lists the interface's
+-- name. A name t is a subtype of a name a (`is_subtype`) in two cases: the type of a is an interface which
+-- the type of t declares; or the type of a is a union that lists t, whether t has a type or not. Nothing is a
+-- subtype through something else, and of itself only what lists its own name.
 use Rattle.std.specs.Prelude.{◌≡◌, Bool, false, List, [], ◌∷◌, ◌++◌, Option, None, Some, if◌then◌else◌}
 use Rattle.std.specs.List.{find}
 use Rattle.std.specs.Option.{option_map_or, option_or}
@@ -134,7 +134,8 @@ declared_interfaces _ = []
 abbrev pub declares : NameView → ExtendedType → Bool
 declares i type = is_listed i (declared_interfaces type)
 
--- the type of a name is a subtype of an interface if it declares it, and a name is one of a union if that lists it
+-- the type of a name is a subtype of an interface if it declares it; and a name is one of a union if that
+-- lists it
 abbrev pub is_subtype_of : Option ExtendedType → Types → NameView → NameView → Bool
 is_subtype_of (Some (Interface n)) types a t = option_map_or (declares a) (type_at types t) false
 is_subtype_of (Some (Union n)) types a t = is_listed t n.value.members

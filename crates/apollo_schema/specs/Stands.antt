@@ -36,13 +36,13 @@ pub record Stands (start : ℕ) (xs : List ListItem) (t : Tables) : Type 0 where
   -- the number of the next extension that is folded
   pub next : t.ids ≡ source_at (start + length (folded xs))
 
--- these tables are those of a list that ends with these items, which are implied, and hold what was found and what is
--- left without a definition
+-- these tables are those of a list that ends with these items, which are implied; they hold what was found
+-- and what is left without a definition
 pub record Ends (start : ℕ) (implied xs : List ListItem) (t : Tables) : Type 0 where
   pub definition : t.schema_definition ≡ schema_of start (folded (xs ++ implied)) (xs ++ implied)
   pub types : AreTypesOf start (folded (xs ++ implied)) (xs ++ implied) t.types
   pub directives : AreDirectivesOf (directive_definitions (xs ++ implied)) t.directive_definitions
-  -- what was found before, the extensions of types without a definition, what is found at the implied items,
+  -- what was found before; the extensions of types without a definition; what is found at the implied items;
   -- and the extensions of the schema without a definition
   pub faults : t.faults
       ≡ found xs ++ (map orphan (flat_map (orphans_of xs) (extended_names xs)) ++ (each_after found_at xs implied ++ map schema_orphan (schema_orphans (xs ++ implied))))

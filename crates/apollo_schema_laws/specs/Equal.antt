@@ -1,10 +1,10 @@
 -- Lists of equal definitions: GraphQL specification of October 2021, sections 3 and 3.13.
 --
--- **Equal.** Two lists are equal (`AreEqualLists`) if they have equally many definitions and each is
--- equal to the one at its place in the other, as `==` compares them, so without locations; and of two
--- definitions of a directive both or neither are marked built-in (`is_built_in_directive`), since by
--- this mark a name means one of its definitions. `compared` is what is compared of each. The settings
--- under which definitions were added don't count.
+-- **Equal.** Two lists are equal (`AreEqualLists`) under three conditions. They have equally many
+-- definitions. Each is equal to the one at its place in the other, as `==` compares them, so without
+-- locations. Of two definitions of a directive both or neither are marked built-in (`is_built_in_directive`),
+-- since by this mark a name means one of its definitions. `compared` is what is compared of each. The
+-- settings under which definitions were added don't count.
 use Rattle.std.specs.Prelude.{◌≡◌, Bool, false, List, map}
 use Rattle.graphql_nodes.specs.BuiltIn.{is_built_in}
 use Rattle.graphql_ast.specs.BareDocuments.{bare_definition}

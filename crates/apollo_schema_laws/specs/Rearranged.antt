@@ -4,18 +4,18 @@
 -- type's name, the directive definitions of a name, the schema definitions, the schema extensions
 -- (`Group`; `is_in` says whether an item is in a group). An executable definition is in none.
 --
--- **Rearranged.** Two lists are rearranged (`AreRearranged`) if one is a permutation of the other, and
--- they have the same sublist of each group, in the same order. It is said of what definitions say
--- (items, with what they hold and where), so two definitions that say the same may stand for one
--- another. So definitions of different names may change places, a definition and the extensions of its
--- own name, and types and the schema.
+-- **Rearranged.** Two lists are rearranged (`AreRearranged`) under two conditions: one is a permutation of
+-- the other; and they have the same sublist of each group, in the same order. It is said of what definitions
+-- say: items, with what they hold and where. So two definitions that say the same may stand for one another.
+-- So definitions of different names may change places, a definition and the extensions of its own name, and
+-- types and the schema.
 --
--- `type_meant`, `directive_meant` and `schema_meant` are what `==` compares of the type of a name, of
--- the directive definition of a name and of the schema definition that a list means, if it means one.
--- `MeanEqualSchemas adopts xs ys` says that any schemas that the two lists mean are equal, wherever
--- their numbers start. `StandFor xs ys b c` says that one builder stands for the first list and the
--- other for the second, and that both adopt or neither does; `BuildEqualSchemas` and `BuildSameFaults`
--- say what is said of the two answers.
+-- `type_meant`, `directive_meant` and `schema_meant` are what `==` compares of what a list means, if it means
+-- one: of the type of a name, of the directive definition of a name and of the schema definition.
+-- `MeanEqualSchemas adopts xs ys` says that any schemas that the two lists mean are equal, wherever their
+-- numbers start. `StandFor xs ys b c` says that one builder stands for the first list and the other for the
+-- second. It says that both adopt or neither does. `BuildEqualSchemas` and `BuildSameFaults` say what is said
+-- of the two answers.
 use Rattle.std.specs.Prelude.{◌≡◌, ℕ, Bool, false, List, Option, filter, is_some, option_map}
 use Rattle.std.specs.List.Sorted.{IsPermutation}
 use Rattle.std.specs.Option.{option_map_or}

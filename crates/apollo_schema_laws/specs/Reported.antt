@@ -1,11 +1,11 @@
 -- The faults of a list by their sorts: GraphQL specification of October 2021, sections 2.2, 3, 3.3, 3.4.3, 3.5 to 3.10 and 3.13.
 --
 -- **Reported.** The **sort** of a fault is what it is that is dropped (`sort_of`): an operation or a
--- fragment; a further definition of the schema, of a directive or of a type; an extension of a type or
--- of the schema that has no definition; an extension of the type of a name that is of another kind; a
--- component that is given to the type of a name a second time; a root that is given a second time.
--- `reported sort adopts list` are the faults of a list that are of this sort, in order of discovery, and
--- `reported_sorts` the sorts that it has faults of.
+-- fragment; a further definition of the schema, of a directive or of a type; an extension of a type or of the
+-- schema that has no definition; an extension of the type of a name that is of another kind; a component that
+-- is given to the type of a name a second time; a root that is given a second time. `reported sort adopts
+-- list` are the faults of a list that are of this sort, in order of discovery. `reported_sorts` are the sorts
+-- that it has faults of.
 --
 -- What is dropped as a whole is said by places of the whole list:
 --

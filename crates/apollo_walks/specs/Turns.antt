@@ -1,8 +1,8 @@
 -- The turns of a walk. A turn is one look at the innermost open list: one selection taken, or one list found empty and closed.
 -- A list is opened for each inline fragment, for each fragment that is opened, and for each field that has selections.
 --
--- **All turns.** All turns (`AreAllTurns`) of a walk are the sum of one, one for each reachable
--- fragment, and, of the start and of each reachable fragment, one for each selection, for each inline
+-- **All turns.** All turns (`AreAllTurns`) of a walk are the sum of these: one; one for each reachable
+-- fragment; and, of the start and of each reachable fragment, one for each selection, for each inline
 -- fragment and for each field that has selections.
 use Rattle.std.specs.Prelude.{◌≡◌, ◌≤◌, ℕ, suc, ◌+◌, ◌*◌, List, sum_by}
 use Rattle.apollo_walks.specs.Selections.{Selections, none, field, spread, inline, Fragments, fragment_of}

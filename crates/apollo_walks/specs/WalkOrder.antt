@@ -1,10 +1,10 @@
 -- The order of a walk, in which each field comes before those below it, and a fragment where it is spread first.
 --
--- **Order of walks.** `Order` relates the names that are opened before, selections, the fields that
--- these give, and the names that they open, both one after the other. No selection gives no field. A
--- field gives itself, then what is below it, then the rest. An inline fragment gives its selections,
--- then the rest. A spread of a name that no fragment has, or that is opened, gives the rest. Any other
--- one opens its name and gives the fragment's selections, then the rest.
+-- **Order of walks.** `Order` relates the names that are opened before, selections, the fields that these
+-- give, and the names that they open. Both the fields and these names come one after the other. No selection
+-- gives no field. A field gives itself, then what is below it, then the rest. An inline fragment gives its
+-- selections, then the rest. A spread of a name that no fragment has, or that is opened, gives the rest. Any
+-- other one opens its name and gives the fragment's selections, then the rest.
 use Rattle.std.specs.Prelude.{◌≡◌, ◌⊎◌, ℕ, true, false, List, [], ◌∷◌, ◌++◌, None, Some}
 use Rattle.apollo_walks.specs.Selections.{Selections, none, field, spread, inline, Fragments, Names, with_name, with_names, fragment_of}
 

@@ -47,8 +47,8 @@ abbrev pub IsFindingLine : Schema → SchemaCoordinate → Bool → List ℕ →
 IsFindingLine schema c true line = (found : SchemaCoordinateLookup) × (PointsTo schema c found × (line ≡ found_line found))
 IsFindingLine schema c false line = (error : SchemaLookupError) × (PointsToNothing schema c error × ((said : List ℕ) × (line ≡ missing_line said)))
 
--- the text is the line of the coordinate, that of what it points to in the schema that the input means, and then those of the
--- schema's faults; something is at fault unless it was found and there is no fault
+-- the text is the line of the coordinate and that of what it points to in the schema that the input means;
+-- then come those of the schema's faults; something is at fault unless it was found and there is no fault
 pub record IsCoordAnswer (coordinate : SchemaCoordinate) (input text : List ℕ) (has_faults : Bool) : Type 0 where
   pub schema : Schema
   pub faults : List Fault

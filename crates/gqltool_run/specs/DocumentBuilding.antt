@@ -20,8 +20,8 @@ use Rattle.bench_notation.specs.declared.refusal.ReadError.TheVariants as readin
 use Rattle.gqltool_run.specs.declared.failure.Failure.{Failure}
 use Rattle.gqltool_run.specs.declared.failure.Failure.TheVariants as failures
 
--- the schema that the input means, which has no options, its typed document over that, the faults of the schema, and those of the
--- document, in which definitions of the type system are at fault
+-- the schema that the input means, which has no options; its typed document over that; the faults of the
+-- schema; and those of the document, in which definitions of the type system are at fault
 pub record IsBuiltDocument (input : List ℕ) (schema : Schema) (document : ExecutableDocument) (schema_faults : List Fault) (faults : List DocumentFault) : Type 0 where
   -- the documents before the line that divides the input
   pub schema_documents : List Document

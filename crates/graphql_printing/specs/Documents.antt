@@ -42,8 +42,8 @@ definition_text braces (d.UnionTypeExtension n) = codes "extend " ++ type_shape 
 definition_text braces (d.EnumTypeExtension n) = codes "extend " ++ type_shape t.Enum n.value.name (record no_parts { directives = n.value.directives; values = n.value.values })
 definition_text braces (d.InputObjectTypeExtension n) = codes "extend " ++ type_shape t.InputObject n.value.name (record no_parts { directives = n.value.directives; input_fields = n.value.fields })
 
--- definitions, each behind an empty line, of which the first stands behind one that would take a `{` for its own where the
--- flag is set
+-- definitions, each behind an empty line; where the flag is set, the first of them stands behind a definition
+-- that would take a `{` for its own
 abbrev pub definitions_behind : Bool → List Definition → List ℕ
 definitions_behind braces [] = []
 definitions_behind braces (x ∷ xs) = codes "\n\n" ++ definition_text braces x ++ definitions_behind (takes_braces x) xs

@@ -10,8 +10,9 @@ use Rattle.graphql_tokens.specs.declared.token.TokenKind.TheVariants as t
 use Rattle.graphql_grammar.specs.TextsOfWords.{IsTextOf}
 use Rattle.graphql_productions.specs.TreeParts.{Description, EnumName, Float, FragmentName, Int, Name, Node, TreePart, Variable, Wanted}
 
--- a part that could have come of a text: names are names and numbers are tokens, no name of a fragment is `on`, none of an enum
--- value is `true`, `false` or `null`, no variable stands in a constant value, and what the grammar wants is there
+-- a part that could have come of a text: names are names and numbers are tokens; no name of a fragment is
+-- `on`; none of an enum value is `true`, `false` or `null`; no variable stands in a constant value; and what
+-- the grammar wants is there
 abbrev pub IsWellFormedPart : TreePart → Type 0
 IsWellFormedPart (Node at) = Unit {0}
 IsWellFormedPart (Name n) = IsName n.text

@@ -2,8 +2,8 @@
 -- before those below it, through inline fragments, but not through spreads. GraphQL specification of October 2021, sections 2.4
 -- to 2.8.
 --
--- A path begins with the operation or fragment, by its own name, and goes on with the response keys of the fields
--- around the field, its own key last.
+-- A path begins with the operation or fragment, by its own name. It goes on with the response keys of the
+-- fields around the field, its own key last.
 use Rattle.std.specs.Prelude.{List, [], ◌∷◌}
 use Rattle.std.specs.List.{flat_map}
 use Rattle.graphql_nodes.specs.NameView.{NameView}

@@ -15,9 +15,9 @@ use Rattle.peglinden_run.specs.Naming.{names_input}
 use Rattle.peglinden_run.specs.Requests.{IsAnswerTo, IsCauseTo}
 use Rattle.peglinden_run.specs.Status.{message_of, status_of}
 
--- In all of this `held` says which bytes the file of a path may hold, and `may_fail` whether reading it may fail; `old` is what stood on
--- standard output before, and `new` what stands there now, and so `old_errors` and `new_errors` on standard error, if these bytes are
--- known.
+-- In all of this `held` says which bytes the file of a path may hold, and `may_fail` whether reading it may
+-- fail; `old` is what stood on standard output before, and `new` what stands there now, if these bytes are
+-- known. So are `old_errors` and `new_errors` on standard error.
 
 -- the run has no answer
 abbrev pub IsUnanswered : Status → Type 0

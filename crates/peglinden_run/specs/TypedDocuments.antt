@@ -30,8 +30,9 @@ schema_part schema_paths documents = take (length schema_paths) documents
 abbrev pub document_part : List (List ℕ) → List Document → List Document
 document_part schema_paths documents = drop (length schema_paths) documents
 
--- the typed document of files over the schema of files, which has no options, with the faults of that schema, of the document, in which
--- definitions of the type system are at fault, and of its leaves, and the source files of both
+-- the typed document of files over the schema of files, which has no options; the faults of that schema;
+-- those of the document, in which definitions of the type system are at fault; those of its leaves; and the
+-- source files of both
 pub record IsTyped (held : List ℕ → List ℕ → Type 0) (schema_paths document_paths : List (List ℕ)) (typed : TypedDocument) : Type 0 where
   pub schema : Schema
   -- the documents of all files

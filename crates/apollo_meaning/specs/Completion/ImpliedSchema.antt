@@ -1,8 +1,8 @@
 -- The definition of the schema that is implied where none stands: GraphQL specification of October 2021, section 3.3.1.
 --
--- **Implicit roots.** For query, mutation and subscription, in this order, the root of the default name
--- (`Query`, `Mutation`, `Subscription`), if this name means an object type. An adopted type counts. Such
--- a root has no location.
+-- **Implicit roots.** For query, mutation and subscription, in this order: the root of the default name
+-- (`Query`, `Mutation`, `Subscription`), if this name means an object type. An adopted type counts. Such a
+-- root has no location.
 --
 -- **Implied schema definition.** None, if the list has a schema definition. Else it has no location, no
 -- description and no directives, and

@@ -5,11 +5,10 @@
 --
 -- **Order of discovery.** Three phases:
 --
--- 1. What is found at the moments of the list with what is adopted, by moment. At a moment come first
---    the faults of the definition that stands there, and then those of the extensions that are met at
---    this moment, by place: a kind mismatch, the collisions of the extension's components, or its
---    repeated roots. Of one definition or extension the interfaces come before the fields, each in
---    order.
+-- 1. What is found at the moments of the list with what is adopted, by moment. At a moment come first the
+--    faults of the definition that stands there. Then come those of the extensions that are met at this
+--    moment, by place: a kind mismatch, the collisions of the extension's components, or its repeated roots.
+--    Of one definition or extension the interfaces come before the fields, each in order.
 -- 2. The orphans, by name, names in the order of first extension, and of one name by place.
 -- 3. What is found at the implied schema definition: the repeated roots of the schema's extensions, by
 --    place. Where there is no schema definition, the orphans of the schema, by place.

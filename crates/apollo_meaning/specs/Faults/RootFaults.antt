@@ -1,10 +1,10 @@
 -- What is wrong with the definitions and extensions of the schema: GraphQL specification of October 2021, sections 3.3.1
 -- and 3.3.2.
 --
--- **Repeated root.** `root_fault`: a root is at fault if one of the same operation is before it, in the
--- same part of the schema or in an earlier one, by the order of parts that collisions have.
--- `DuplicateRootOperation`, at the root's node, with the text of the operation (as `query`) and the
--- location of the kept name.
+-- **Repeated root.** `root_fault`: a root is at fault if one of the same operation is before it: in the same
+-- part of the schema or in an earlier one. The order of parts is that which collisions have.
+-- `DuplicateRootOperation`, at the root's node, with the text of the operation (as `query`) and the location
+-- of the kept name.
 --
 -- **Further schema definition.** `further_schema`: a schema definition that isn't the first one.
 -- `SchemaDefinitionCollision`, at its node, with the location of the first one's node. Its directives

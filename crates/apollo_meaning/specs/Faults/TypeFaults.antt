@@ -10,8 +10,8 @@
 -- definition's location that counts as built-in or not, never that of the further one.
 --
 -- **Kind mismatch.** `kind_mismatch`: an extension whose name has a first definition of another kind.
--- `TypeExtensionKindMismatch`, at the extension's name, with that name, the texts of both kinds (as `an
--- enum type extension` and `an object type`), and the location of the first definition's name. The
+-- `TypeExtensionKindMismatch`, at the extension's name. It has that name, and the location of the first
+-- definition's name. It has the texts of both kinds, as `an enum type extension` and `an object type`. The
 -- components of the extension are not looked at.
 --
 -- **Orphan.** `orphan`: an extension whose name has no definition in the whole list.

@@ -1,11 +1,11 @@
 -- A definition or extension of a type, whatever its kind, and of the schema: GraphQL specification of October 2021,
 -- sections 3.3, 3.4, and 3.5 to 3.10.
 --
--- **Part.** The part of a type that one definition or extension holds: name, location, description (none
--- for an extension), directives, and what belongs to its kind: interfaces and fields of an object or
--- interface type, members of a union type, values of an enum type, fields of an input object type, and
--- nothing more of a scalar type. A part of the schema holds location, description (none for an
--- extension), directives and roots.
+-- **Part.** The part of a type that one definition or extension holds: name, location, description (none for
+-- an extension), directives, and what belongs to its kind: interfaces and fields of an object or interface
+-- type; members of a union type; values of an enum type; fields of an input object type; and nothing more of
+-- a scalar type. A part of the schema holds location, description (none for an extension), directives and
+-- roots.
 use Rattle.std.specs.Prelude.{ℕ, Bool, false, List, None, Option, true}
 use Rattle.std.specs.List.{flat_map}
 use Rattle.graphql_nodes.specs.declared.operation_type.OperationType.{OperationType}

@@ -1,5 +1,5 @@
--- The order in which extensions of types and of the schema (GraphQL specification of October 2021, sections 3.4.3 and
--- 3.3.2) are folded, by places of the whole list.
+-- The order in which extensions of types and of the schema are folded, by places of the whole list: GraphQL
+-- specification of October 2021, sections 3.4.3 and 3.3.2.
 --
 -- **Folded.** An extension is folded if its name has a definition and the first one has the extension's
 -- kind. An extension of the schema is folded if the schema has a definition.
@@ -60,8 +60,8 @@ extension_places f xs = filter_map (placed_by f.extended) (enumerate_from 0 xs)
 abbrev pub first_place : {P : Type 0} → Family P → List ListItem → List ℕ → Option (Placed P)
 first_place f xs n = lookup (same n) (map (λ e. (f.key e.1, e)) (definition_places f xs))
 
--- an extension is met at its own place or at that of its key's first definition, whichever is later, and never where
--- its key has none
+-- an extension is met at its own place or at that of its key's first definition, whichever is later; and
+-- never where its key has none
 abbrev pub is_met : {P : Type 0} → Family P → List ListItem → ℕ → Placed P → Bool
 is_met f xs i e = option_map_or (λ d. max e.0 d.0 == i) (first_place f xs (f.key e.1)) false
 

@@ -1,10 +1,10 @@
 -- Where the numbers of identities don't suffice for the extensions of a list: GraphQL specification of
 -- October 2021, sections 3.3.2 and 3.4.3.
 --
--- **Spent numbers.** `folds adopts list` is how many extensions the completed list folds, and
--- `folds_so_far list` how many the list folds before that. `SpendsIds start adopts list` says that the
--- first number plus the former is at least 2^64, so that the last number would pass what a source can
--- give. `SpendsIdsSoFar start list` says it of the latter.
+-- **Spent numbers.** `folds adopts list` is how many extensions the completed list folds, and `folds_so_far
+-- list` how many the list folds before that. `SpendsIds start adopts list` says that the first number plus
+-- the former is at least 2^64. Then the last number would pass what a source can give. `SpendsIdsSoFar start
+-- list` says the same of the latter.
 use Rattle.std.specs.Prelude.{ℕ, Bool, List, length, ◌+◌, ◌^◌, ◌≤◌}
 use Rattle.apollo_meaning.specs.Items.ListItems.{Added, added_items}
 use Rattle.apollo_meaning.specs.Order.Places.{folding_order}

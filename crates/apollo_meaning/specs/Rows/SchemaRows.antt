@@ -28,11 +28,11 @@
 --     ext object A             line 8
 --     field y Int              line 9
 --
--- With adoption the types are `B` and `A`, the extensions are folded in the order of the lines 6, 8, 1,
--- 4, and the schema definition has no location, the directive `d` and the query root `A`, both of the
--- extension of line 1 with the number 2. The second query root, at line 5, is the only fault. Without
--- adoption there is neither of the types and no schema definition, and each extension is a fault, in the
--- order of the lines 6, 8, 1, 4. The laws `extensions_alone_adopted` and `extensions_alone_orphaned`
+-- With adoption the types are `B` and `A`. The extensions are folded in the order of the lines 6, 8, 1, 4.
+-- The schema definition has no location, the directive `d` and the query root `A`. The directive and the root
+-- are both of the extension of line 1 with the number 2. The second query root, at line 5, is the only fault.
+-- Without adoption there is neither of the types and no schema definition. Then each extension is a fault, in
+-- the order of the lines 6, 8, 1, 4. The laws `extensions_alone_adopted` and `extensions_alone_orphaned`
 -- compute this.
 --
 -- **Example `query_type_alone`.** The object type `Query` alone is the query root of an implied

@@ -1,8 +1,8 @@
 -- The schema definition that a list means: its first one with the schema extensions folded in. GraphQL specification of
 -- October 2021, sections 3.3 and 3.3.2.
 --
--- **Schema definition that a list means.** The **parts of the schema** are its first definition, with
--- the origin "definition", and then its extensions by number, each with its identity as origin. The
+-- **Schema definition that a list means.** The **parts of the schema** are its first definition, with the
+-- origin "definition", and then its extensions by number. Each extension has its identity as origin. The
 -- schema definition (`schema_of`) has
 --
 -- - description and location: those of the first definition;

@@ -6,8 +6,8 @@
 -- its components, and an extension that is not folded has none. An extension gets its number even if it
 -- holds nothing, or if everything it holds is dropped.
 --
--- **Parts of a name.** The parts of a name are its first definition, with the origin "definition", and
--- then its folded extensions by number, each with its identity as origin. The first definition comes
+-- **Parts of a name.** The parts of a name are its first definition, with the origin "definition", and then
+-- its folded extensions by number. Each extension has its identity as origin. The first definition comes
 -- first even if extensions stand before it.
 --
 -- **Type that a name means.** The type that a name means is of the kind of its first definition, and has
