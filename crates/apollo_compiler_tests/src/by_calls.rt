@@ -53,7 +53,8 @@ fn definitions_that_are_marked_built_in_are_compiled(rt: HostRuntime) {
     );
 }
 
-/// Whether the coordinate of the field `→` of the type of the empty name is printed so, and is there in the schema of such names.
+/// Whether the coordinate of the field `→` of the type of the empty name is printed so; and whether it is
+/// there in the schema of such names.
 fn is_arrow_found(alloc: Global) -> Result<bool, CompileError> {
     let names = unchecked_names(alloc)?;
     let documents = slice::from_ref(&names);

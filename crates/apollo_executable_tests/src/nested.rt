@@ -61,8 +61,9 @@ fn first_keys(alloc: Global) -> Result<String, AllocError> {
     Ok(text)
 }
 
-/// The keys of the first thousand fields, those in a field behind it: below a deepest field is none, so the next one is the
-/// second of the two at the depth where the fewest are left, by how often two goes into the number of deepest ones so far.
+/// The keys of the first thousand fields, those in a field behind it. Below a deepest field is none. So the
+/// next one is the second of the two at the depth where the fewest are left. How often two goes into the
+/// number of deepest ones so far says which depth that is.
 fn expected_keys(alloc: Global) -> Result<String, AllocError> {
     let mut text = String::new(alloc);
     let (mut depth, mut deepest) = (1, 0_u32);

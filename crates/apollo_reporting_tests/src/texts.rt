@@ -2,8 +2,9 @@
 
 use crate::rows::{Row, Sort, first_wrong};
 
-/// Each refusal of a text once: with characters of several bytes at the mark and before it, behind a tab, behind line
-/// ends of both kinds, in an empty text, and at the end of a text with and without a last line end.
+/// Each refusal of a text once. Some have characters of several bytes at the mark and before it. Some stand
+/// behind a tab, behind line ends of both kinds, or in an empty text. Some stand at the end of a text, with
+/// and without a last line end.
 static ROWS: [Row; 16] = [
     Row {
         text: "query {\r\n  é}",

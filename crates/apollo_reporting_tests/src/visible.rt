@@ -12,8 +12,8 @@ const FIRST: SourceSpan = SourceSpan {
     end: 1,
 };
 
-/// The report of a fault at the first character of a text with control characters of one and of two bytes, and a tab, in a
-/// file whose path has such.
+/// The report of a fault at the first character of a text. The text has control characters of one and of two
+/// bytes, and a tab. It is in a file whose path has such.
 fn report_of_controls(alloc: Global) -> Result<String, AllocError> {
     let sources = sources_of(alloc, "\x1b[31m.graphql", "\x1b\t\u{9b}\x7f√\n")?;
     let fault = BuildError::SchemaDefinitionCollision {

@@ -10,8 +10,8 @@ use std::alloc::{AllocError, Global};
 use std::process::Abort;
 use telling::keys::is_schema_keyed;
 
-/// Definitions and extensions of each kind, some before their definitions, one with more fields than a table first has room for,
-/// and names that are there already.
+/// Definitions and extensions of each kind, some before their definitions, and names that are there already.
+/// One has more fields than a table first has room for.
 const INPUT: &str =
     "ext object Query\nfield late Int\ndef object Query\nfield node Node\nfield all [Hit]\nimplements Gone\n---\ndef interface Node\nfield id ID!\ndef object User\nimplements Node\nfield id ID!\nfield id Int\nfield node Node\narg to Int\ndef union Hit\nmember User\nmember Query\ndef enum Tone\nvalue LOW\nvalue HIGH\next enum Tone\nvalue MID\nvalue LOW\ndef input Filter\nfield tone Tone\ndef scalar Date\ndef input Wide\nfield a Int\nfield b Int\nfield c Int\nfield d Int\nfield e Int\nfield f Int\nfield g Int\nfield h Int\nfield i Int\nfield j Int\n---\ndirective key\non OBJECT\next object User\n@ key\nfield since Date\next object Left\nfield over Int\next union Hit\nmember Left\n";
 

@@ -24,12 +24,12 @@ use std::time::Clock;
 /// was a report, and the writer failed, or its flush did; nothing is said of what went out. `Faults` doesn't
 /// come: a report tells how many faults there are.
 ///
-/// The output is written only once all of it is there. What is wrong is said on `errors`, in one line, and
-/// so is how far a long run is; that it cannot be said there changes nothing. A clock that can't be read
-/// ends the run as running out of memory does, and so does a system that gives no random keys where the words ask
-/// for them. They are drawn once, before anything is read; without the word nothing is drawn, and tables
-/// hash by fixed keys. How much memory the process had is asked last; where the system doesn't tell, the
-/// report has no line of it.
+/// The output is written only once all of it is there. What is wrong is said on `errors`, in one line, and so
+/// is how far a long run is; that it cannot be said there changes nothing. A clock that can't be read ends
+/// the run as running out of memory does. So does a system that gives no random keys where the words ask for
+/// them. They are drawn once, before anything is read; without the word nothing is drawn, and tables hash by
+/// fixed keys. How much memory the process had is asked last; where the system doesn't tell, the report has
+/// no line of it.
 pub fn run<S: Clock + RandomSource + ProcessStatus, R: Read, O: Write, E: Write>(
     alloc: Global,
     system: &S,

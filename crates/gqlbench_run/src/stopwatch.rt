@@ -119,8 +119,8 @@ fn count_of(items: &[Item], key: &str) -> usize {
     }
 }
 
-/// The least of these times, the one in the middle (of an even number of times the greater of the two
-/// there), and the mean, rounded down. They are put in ascending order. An empty list has none.
+/// The least of these times, the one in the middle, and the mean, rounded down. Of an even number of times
+/// the greater of the two in the middle counts. They are put in ascending order. An empty list has none.
 pub fn summary(times: &mut [u64]) -> Option<(u64, u64, u64)> {
     times.sort_unstable();
     let least = *times.first()?;

@@ -1,6 +1,7 @@
-//! `gqlrefusals`: calls that can run out of memory, each in a scenario that writes its answer in full, or, where a request for memory
-//! was refused, looks at what is promised after that. No function has a clause: the program is a test, whose answers are
-//! compared, with ample memory and with each request refused in turn.
+//! `gqlrefusals`: calls that can run out of memory, each in a scenario. The scenario writes its answer in
+//! full, or, where a request for memory was refused, looks at what is promised after that. No function has a
+//! clause: the program is a test, whose answers are compared, with ample memory and with each request refused
+//! in turn.
 #![tactic(auto)]
 
 mod compiling;

@@ -1,5 +1,5 @@
-//! `gqlrows`: runs of `gqltool`, read as rows from the files that the words name, or without a word from standard input, and which
-//! of them differ, written to standard output.
+//! `gqlrows`: runs of `gqltool`, read as rows, and which of them differ, written to standard output. The rows
+//! are read from the files that the words name, or without a word from standard input.
 #![tactic(auto)]
 
 use gqlrows_run::running::run_rows;

@@ -1,12 +1,12 @@
-//! `gqltext`: GraphQL texts from standard input, each written as the tree that it is read as, as the text that
-//! is printed of that tree, or as refused. It serves `tools/fuzz`, and no function has a clause but that it is
-//! safe.
+//! `gqltext`: GraphQL texts from standard input. Each is written as the tree that it is read as, as the text
+//! that is printed of that tree, or as refused. It serves `tools/fuzz`, and no function has a clause but that
+//! it is safe.
 //!
 //! The input is texts, each behind a line with the number of its bytes. The output is a line for each: `tree`
 //! and the tree, or `refused`, where, and why. With `print` it is `text` in place of `tree`, the text that is
 //! printed, escaped, and `again`: that text is read as an equal tree, of which the same is printed. Where it
-//! isn't, `another tree`, `another text` or a refusal stands there. The status is 0, or 2 for words or an input
-//! that say something else, 3 where memory ran out, and 4 where the output can't be written.
+//! isn't, `another tree`, `another text` or a refusal stands there. The status is 0, or 2 for words or an
+//! input that say something else. It is 3 where memory ran out, and 4 where the output can't be written.
 #![tactic(auto)]
 
 /// Tells the parts one after the other.

@@ -16,8 +16,8 @@ use leafcheck::checking::leaf_faults;
 use leafcheck::leaf_fault::{LeafFault, LeafKind};
 use std::alloc::{AllocError, Global};
 
-/// The answer of `leaf` to an input: a line for each leaf fault of the typed document over its schema, then one for each
-/// fault of the schema, and then one for each fault of the document.
+/// The answer of `leaf` to an input: a line for each leaf fault of the typed document over its schema. Then
+/// comes one for each fault of the schema, and then one for each fault of the document.
 ///
 /// The errors are those of [`compile_documents`]. What was built is left to the end of the process, but after an error.
 pub fn leaf_answer(alloc: Global, keys: HashKeys, input: &str) -> Result<Answer, Failure>

@@ -37,8 +37,8 @@ use std::io::Write;
 /// That something cannot be said on `errors` changes nothing, and but for `Done` and `Faults` no clause says what stands there.
 /// Tables hash by fixed keys: for an input from strangers, take [`run_with_keys`].
 ///
-/// What was built of the input is left to the end of the process, since a program ends after its run, which is faster by a third.
-/// A process that goes on takes the calls of `apollo_compiler`, which free what they make.
+/// A program ends after its run, so what was built of the input is left to the end of the process. That is
+/// faster by a third. A process that goes on takes the calls of `apollo_compiler`, which free what they make.
 pub fn run<R: Input, O: Write, E: Write>(
     alloc: Global,
     words: &[&str],

@@ -30,9 +30,9 @@ pub enum Task {
 
 /// What these words ask for.
 ///
-/// `Usage` comes exactly for words that are no command, and `NoCoordinate` for `coord` with a text of no coordinate, which it
-/// carries whole, but for the `@` that it may begin with. `Memory` is out of memory, and comes only for `coord`. There is no
-/// other error.
+/// `Usage` comes exactly for words that are no command, and `NoCoordinate` for `coord` with a text of no
+/// coordinate. `NoCoordinate` carries that text whole, but for the `@` that it may begin with. `Memory` is
+/// out of memory, and comes only for `coord`. There is no other error.
 pub fn read_task(alloc: Global, words: &[&str]) -> Result<Task, Failure>
     ensures asked { IfOk result (Ask (texts_of words.now)) }
     ensures refused { IfErr result (IsRefusalOf (texts_of words.now)) }

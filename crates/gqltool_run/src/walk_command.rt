@@ -26,8 +26,9 @@ use apollo_walks::laws::{walks_reach_each_field_once, walks_take_few_turns};
 use graphql_nodes::node::Node;
 use std::alloc::{AllocError, Global};
 
-/// The answer of `walk` on what an input is compiled to: for each operation and then each fragment of the typed document the
-/// lines of its walks, then a line for each fault of the schema, and then one for each fault of the document.
+/// The answer of `walk` on what an input is compiled to: for each operation and then each fragment of the
+/// typed document the lines of its walks. Then comes a line for each fault of the schema, and then one for
+/// each fault of the document.
 ///
 /// Its text goes out while it is made, and what is still held of it is answered. The error is out of memory, or the outlet's:
 /// then a beginning of the text went out.

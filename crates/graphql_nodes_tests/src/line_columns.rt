@@ -67,8 +67,8 @@ fn span(file: u64, start: usize, end: usize) -> SourceSpan {
     }
 }
 
-/// Whether a span within the text has its lines and columns, one of another file has no line, and one that ends beyond the text
-/// has no range.
+/// Whether a span within the text has its lines and columns; and whether one of another file has no line, and
+/// one that ends beyond the text has no range.
 fn are_found(sources: &SourceMap) -> bool {
     let (inner, other, long) = (span(1, 1, 3), span(2, 0, 1), span(1, 4, 5));
     inner.line_column(sources) == Some(at(1, 2))

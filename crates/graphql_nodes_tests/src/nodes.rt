@@ -23,7 +23,8 @@ const FAR: SourceSpan = SourceSpan {
     end: 0,
 };
 
-/// Whether a node of 7 is at this location, is shown as 7, and is equal to a node of 7 at none, and hashed the same.
+/// Whether a node of 7 is at this location and is shown as 7; and whether it is equal to a node of 7 at none,
+/// and hashed the same.
 fn is_at(
     alloc: Global,
     location: Option<SourceSpan>,

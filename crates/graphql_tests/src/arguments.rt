@@ -64,8 +64,8 @@ fn said(answer: Result<Option<&Node<Value>>, ArgumentByNameError>) -> &str {
     }
 }
 
-/// Whether this is the answer on the argument of this text as name, at a location, and of this definition, where two of the
-/// name `first` are given, 1 and 2.
+/// Whether this is the answer on the argument of this text as name, at a location, and of this definition.
+/// Two of the name `first` are given there, 1 and 2.
 fn is_answer(
     alloc: Global,
     text: &str,

@@ -17,10 +17,10 @@ use std::alloc::Global;
 /// The answer to a request over these files. All tables hash by these keys; the answer is the same under
 /// any.
 ///
-/// `NoCoordinate` comes for `lookup` with a text that is no coordinate, before a file is read. `Files`
-/// comes where a file can't be read or is no document, and reports each. `ExtensionIds` comes only where
-/// the numbers don't suffice for the extensions of the schema, and `Memory` where memory ran out, which
-/// says nothing of the files. There is no other error.
+/// `NoCoordinate` comes for `lookup` with a text that is no coordinate, before a file is read. `Files` comes
+/// where a file can't be read or is no document, and reports each. `ExtensionIds` comes only where the
+/// numbers don't suffice for the extensions of the schema. `Memory` comes where memory ran out, and says
+/// nothing of the files. There is no other error.
 pub fn answer_to<F: Files>(
     alloc: Global,
     keys: HashKeys,

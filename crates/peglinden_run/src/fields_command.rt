@@ -8,9 +8,9 @@ use apollo_executable::operation::Operation;
 use apollo_field_usage::counting::{FieldUsage, field_usage};
 use std::alloc::{AllocError, Global};
 
-/// For each operation of a document a line that names it, and below it one for each field that it
-/// reaches, in order of first reach: its coordinate, and how often it stands there. The error is out of
-/// memory.
+/// For each operation of a document a line that names it. Below it stands one for each field that the
+/// operation reaches, in order of first reach: its coordinate, and how often it stands there. The error is
+/// out of memory.
 pub(crate) fn fields_text(
     alloc: Global,
     document: &ExecutableDocument,

@@ -20,9 +20,9 @@ use std::alloc::{AllocError, Global};
 /// it its definition. Nothing is written where it points to nothing, which is at fault, and is reported. What is at fault in the schema
 /// is passed over.
 ///
-/// `NoCoordinate` comes for a text that is no coordinate, before a file is read. `Files` comes where a file can't be read or is no
-/// document, `ExtensionIds` only where the numbers don't suffice for the extensions, and `Memory` where memory ran out. There is no other
-/// error.
+/// `NoCoordinate` comes for a text that is no coordinate, before a file is read. `Files` comes where a file
+/// can't be read or is no document. `ExtensionIds` comes only where the numbers don't suffice for the
+/// extensions. `Memory` comes where memory ran out. There is no other error.
 pub(crate) fn lookup_answer<F: Files>(
     alloc: Global,
     keys: HashKeys,

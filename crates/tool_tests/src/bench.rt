@@ -271,8 +271,8 @@ drop           min            7 median            7 mean            7 ns
     ),
 ];
 
-/// Expects a run on these words to write this, over a system that gives no random bytes, and with
-/// `--random-keys` between them over one that does.
+/// Expects a run on these words to write this, over a system that gives no random bytes. It expects the same
+/// with `--random-keys` between them, over a system that does.
 fn expect_report<'a>(
     rt: &(impl Abort + AllocGlobal),
     before: &[&'a str],
