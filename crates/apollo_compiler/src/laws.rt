@@ -124,13 +124,14 @@ use apollo_walks::laws::{
 };
 use graphql_nodes::node::Node;
 
-/// Every list of documents builds to the schema in which each name's type is its first definition with all its kind's
-/// extensions folded in, in order, wherever they stand, each under an identity of its own, and in which each name that is
-/// defined has a type, and no other (`means`, `schema`), with exactly one fault for each thing that is dropped (`faults`); the
-/// schema's write-out rebuilds with adoption, without fault, to an equal schema and the same write-out (`rebuilds`); kept
-/// operations and fragments erase to exactly their typable selections (`keeps`); and a walk gives each field that is reached
-/// exactly as often as it stands there, in one order, within two turns for each selection in reach and one (`walks`, `begins`).
-/// GraphQL specification of October 2021, sections 2.2 to 2.8, 3, 3.4.3 and 6.3.2.
+/// Every list of documents builds to the schema in which each name's type is its first definition with all
+/// its kind's extensions folded in, in order, wherever they stand, each under an identity of its own, and in
+/// which each name that is defined has a type, and no other (`means`, `schema`), with exactly one fault for
+/// each thing that is dropped (`faults`). The schema's write-out rebuilds with adoption, without fault, to an
+/// equal schema and the same write-out (`rebuilds`). Kept operations and fragments erase to exactly their
+/// typable selections (`keeps`). And a walk gives each field that is reached exactly as often as it stands
+/// there, in one order, within two turns for each selection in reach and one (`walks`, `begins`). GraphQL
+/// specification of October 2021, sections 2.2 to 2.8, 3, 3.4.3 and 6.3.2.
 ///
 /// Nothing is assumed of a call. Every list means a schema (`means`), and no two but for their sources
 /// ([`a_list_means_one_schema`](apollo_schema::laws::a_list_means_one_schema)): faulty lists too, with adoption or without, and with
