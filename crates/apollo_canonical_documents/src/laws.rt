@@ -35,10 +35,10 @@ fn laws_below()
     graphql_round_trip::laws::texts_are_read_again();
 }
 
-/// Two lists of definitions that are equal but for locations, and were added in the same way, mean documents
-/// that `==` calls equal, over one schema or without one. Their operations and fragments stand in one order,
-/// and they have one text. The same is wrong with the two lists, in one order, but for locations. GraphQL
-/// specification of October 2021, sections 2.2 to 2.8.
+/// Take two lists of definitions that are equal but for locations, and were added in the same way. They mean
+/// documents that `==` calls equal, over one schema or without one. Their operations and fragments stand in
+/// one order, and they have one text. The same is wrong with the two lists, in one order, but for locations.
+/// GraphQL specification of October 2021, sections 2.2 to 2.8.
 pub fn equal_definitions_mean_equal_documents()
     ensures equal { (schema : Option Schema) (xs ys : List DocumentItem) → AreEqualItems xs ys
         → (a b : ExecutableDocument) → IsDocumentOf schema xs a → IsDocumentOf schema ys b → AreEqualDocuments a b }
@@ -54,11 +54,11 @@ pub fn equal_definitions_mean_equal_documents()
 }
 
 /// From text to text. Texts that are read mean a document, typed over any schema or without one, whole or
-/// what could be built of them with faults. Where something is written and no operation, fragment or inline
-/// fragment was left without a selection, the text of its write-out is read again, in any file but that of
-/// the built-in definitions. Whatever it is read as means, over the same schema, an equal document with the
-/// same text. Nothing is wrong with it, but that an operation without a name is ambiguous where named ones
-/// stand beside it. GraphQL specification of October 2021, sections 2.2 to 2.8.
+/// what could be built of them with faults. The text of its write-out is read again, in any file but that of
+/// the built-in definitions, under two conditions: something is written; and no operation, fragment or inline
+/// fragment was left without a selection. Whatever it is read as means, over the same schema, an equal
+/// document with the same text. Nothing is wrong with it, but that an operation without a name is ambiguous
+/// where named ones stand beside it. GraphQL specification of October 2021, sections 2.2 to 2.8.
 pub fn canonical_document_text()
     ensures read { (schema : Option Schema) (document : ExecutableDocument) → IsDocumentOfTexts schema document
         → IsFilledDocument document → erased_definitions document ≢ [] → (r : Reading) → r.file.0 ≢ 0

@@ -33,9 +33,10 @@ pub fn equality_of_components<T: PartialEq>()
     ensures { (f : T → T) → ComparesBy T.eq f → ComparesBy ⟦<Component<T> as PartialEq>⟧.eq (bare_component f) }
 {}
 
-/// Component names are equal where their texts are, sets of them where they have the same texts, and lists of directives
-/// where the directives are, in order: origins and locations are left out. Identities of extensions are equal by their
-/// numbers, and origins where both are the definition or extensions of one number.
+/// Component names are equal where their texts are, and sets of them where they have the same texts. Lists of
+/// directives are equal where the directives are, in order: origins and locations are left out. Identities of
+/// extensions are equal by their numbers, and origins where both are the definition or extensions of one
+/// number.
 pub fn equality_of_names_and_origins()
     ensures component_name { ComparesBy ⟦<ComponentName as PartialEq>⟧.eq bare_component_name }
     ensures key_set { ComparesBy ⟦<KeySet<ComponentName> as PartialEq>⟧.eq (members_by_text (λ c. c.name)) }
@@ -45,8 +46,8 @@ pub fn equality_of_names_and_origins()
     ensures ids_spent { ComparesBy ⟦<IdsSpent as PartialEq>⟧.eq (λ error. error) }
 {}
 
-/// Each clone of an origin or an identity is the original, with its location, and so is each clone of a list of directives, with
-/// all locations and origins in it.
+/// Each clone of an origin or an identity is the original, with its location. So is each clone of a list of
+/// directives, with all locations and origins in it.
 ///
 /// The `Clone` of components and of their names says so itself.
 pub fn clones_are_exact()

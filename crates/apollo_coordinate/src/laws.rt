@@ -17,9 +17,9 @@ use crate::parse_error::SchemaCoordinateParseError;
 use apollo_types::laws::equality_of_types;
 use graphql_ast::laws::equality_of_the_type_system;
 
-/// Whatever reads the text of a coordinate of valid names, as [`SchemaCoordinate::from_str`] does, answers that
-/// coordinate, without the locations of its names, or out of memory; no text belongs to two such coordinates; and each text
-/// that says a coordinate is in the grammar.
+/// Take the text of a coordinate of valid names. Whatever reads it, as [`SchemaCoordinate::from_str`] does,
+/// answers that coordinate, without the locations of its names, or out of memory. No text belongs to two such
+/// coordinates. Each text that says a coordinate is in the grammar.
 pub fn coordinates()
     ensures read { (c : SchemaCoordinate) (result : Result SchemaCoordinate SchemaCoordinateParseError)
         → HasNames c → IsReadingOf (coordinate_text c) result → IsReadBack c result }

@@ -19,9 +19,10 @@ use apollo_schema::schema::Schema;
 
 /// No list builds two documents, but for their sources.
 ///
-/// A built document's write-out, built again over the same schema, or without one if it was built without one, gives that
-/// document itself, with every location, and no other. What is wrong with the write-out is one ambiguity for each named operation
-/// if the document has an anonymous one, and nothing otherwise. GraphQL specification of October 2021, sections 2.2 to 2.8.
+/// Take a built document's write-out, built again over the same schema, or without one if it was built
+/// without one. It gives that document itself, with every location, and no other. What is wrong with the
+/// write-out is one ambiguity for each named operation if the document has an anonymous one, and nothing
+/// otherwise. GraphQL specification of October 2021, sections 2.2 to 2.8.
 pub fn document_again()
     ensures unique { (schema : Option Schema) (xs : List DocumentItem) (a b : ExecutableDocument) → IsDocumentOf schema xs a → IsDocumentOf schema xs b → AreOneButSources a b }
     ensures itself { (s : Option Schema) (xs : List DocumentItem) (errors : Bool) (document : ExecutableDocument) → IsDocumentOf s xs document → IsBuiltAgain s errors document document }

@@ -39,8 +39,9 @@ pub fn typed_sets()
     ensures unique { (schema : Option Schema) (ty : NameView) (a b : SelectionSet) → IsTypedSet schema ty a → IsTypedSet schema ty b → erased_set a ≡ erased_set b → a ≡ b }
 {}
 
-/// The set that selections are elaborated to from a type is erased to the typable ones of them, each stripped in its child type,
-/// and is typed in that type; and no other set is both. GraphQL specification of October 2021, sections 2.4 to 2.8.
+/// Take the set that selections are elaborated to from a type. It is erased to the typable ones of them, each
+/// stripped in its child type, and is typed in that type. No other set is both. GraphQL specification of
+/// October 2021, sections 2.4 to 2.8.
 pub fn elaborated_sets()
     ensures kept { (schema : Option Schema) (ty : NameView) (xs : List Selection) → erased_set (elaborated schema ty xs) ≡ stripped schema ty xs }
     ensures typed { (schema : Option Schema) (ty : NameView) (xs : List Selection) → IsTypedSet schema ty (elaborated schema ty xs) }
@@ -48,12 +49,14 @@ pub fn elaborated_sets()
         → set ≡ elaborated schema ty xs }
 {}
 
-/// What is typable in a type, plainly. Over a schema, a field is if the type has a field of its name, and it has no subselections or
-/// the name inside all lists of its type is no scalar or enum (`field`). An inline fragment is without a condition, from that type
-/// (`without_condition`), and with one if the schema has a type of that name, from that (`condition`). A spread always is
-/// (`spread`). Without a schema each selection is, and the type of each field is `UNKNOWN` (`any_field`). So a list is stripped: each
-/// selection alone, a field from the inner type of its definition, an inline fragment from its child type (`stripped_field`,
-/// `stripped_fragment`). GraphQL specification of October 2021, sections 2.4 to 2.8.
+/// What is typable in a type, plainly. Over a schema, a field is typable under two conditions (`field`): the
+/// type has a field of its name; and it has no subselections or the name inside all lists of its type is no
+/// scalar or enum. An inline fragment without a condition is typable, from that type (`without_condition`).
+/// One with a condition is typable if the schema has a type of that name, from that (`condition`). A spread
+/// always is (`spread`). Without a schema each selection is, and the type of each field is `UNKNOWN`
+/// (`any_field`). So a list is stripped: each selection alone, a field from the inner type of its definition,
+/// an inline fragment from its child type (`stripped_field`, `stripped_fragment`). GraphQL specification of
+/// October 2021, sections 2.4 to 2.8.
 pub fn what_is_typable()
     ensures field { (s : Schema) (ty name : NameView) (bare : Bool) (d : NodeView FieldDefinition) → (typable_field (Some s) ty name bare ≡ Ok d)
         ↔ ((option_map (λ c. c.node) (field_at s ty name) ≡ Some d) × ((bare ≡ true) ⊎ (refers_to is_leaf s.types d.value.ty ≡ false))) }

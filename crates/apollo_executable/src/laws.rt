@@ -35,9 +35,9 @@ pub fn equality_of_selections()
     syntax::equality_of_the_type_system();
 }
 
-/// Operations and fragments are equal exactly where they are one without their locations, and documents where they have
-/// equal operations and equal fragments under each name, in any order: the sources are left out. GraphQL specification of
-/// October 2021, sections 2.2, 2.3 and 2.8.
+/// Operations and fragments are equal exactly where they are one without their locations. Documents are equal
+/// exactly where they have equal operations and equal fragments under each name, in any order: the sources
+/// are left out. GraphQL specification of October 2021, sections 2.2, 2.3 and 2.8.
 pub fn equality_of_documents()
     ensures operation { ComparesBy ⟦<Operation as PartialEq>⟧.eq bare_operation }
     ensures fragment { ComparesBy ⟦<Fragment as PartialEq>⟧.eq bare_fragment }

@@ -68,9 +68,9 @@ pub fn folded_extensions_have_numbers_of_their_own()
     ensures of_the_schema { (start : ℕ) (xs : List ListItem) → HasUniqueKeys same_origin (schema_sourced start (folding_order xs)) }
 {}
 
-/// A type has the kind, the description, the name and the location of the definition that its parts begin with, and each kind
-/// is the same as itself. Whether that definition is ignorable changes nothing of the type. GraphQL specification of October
-/// 2021, sections 3.5 to 3.10.
+/// A type has the kind, the description, the name and the location of the definition that its parts begin
+/// with. Whether that definition is ignorable changes nothing of the type. Each kind is the same as itself.
+/// GraphQL specification of October 2021, sections 3.5 to 3.10.
 pub fn types_are_headed_by_their_definitions()
     ensures kind { (head : TypePart) (ps : List Sourced) → type_kind (type_from head ps) ≡ kind_of head }
     ensures own { (k : TypeKind) → same_kind k k ≡ true }
@@ -87,9 +87,10 @@ pub fn type_names_are_the_first_of_each_text()
     ensures { (xs : List ListItem) → type_names xs ≡ first_of_each same_text (map (λ p. p.name) (filter_map defined_part xs)) }
 {}
 
-/// The definition that the type of a name has in a completed list, case by case: the first one of the list; where there is none
-/// and extensions are adopted, an empty one of the kind, with the name and at the location of the name's first extension; and
-/// else none. GraphQL specification of October 2021, sections 3.4 and 3.4.3.
+/// The definition that the type of a name has in a completed list, case by case: the first one of the list.
+/// Where there is none and extensions are adopted, it is an empty one of the kind: with the name and at the
+/// location of the name's first extension. Else there is none. GraphQL specification of October 2021,
+/// sections 3.4 and 3.4.3.
 pub fn definitions_by_cases()
     ensures defined { (adopts : Bool) (xs : List ListItem) (n : List ℕ) (d : TypePart) → first xs n ≡ Some d → first (completed adopts xs) n ≡ Some d }
     ensures adopted { (xs : List ListItem) (n : List ℕ) (e : TypePart) (es : List TypePart) → first xs n ≡ None → extensions_of xs n ≡ e ∷ es
@@ -98,10 +99,11 @@ pub fn definitions_by_cases()
     ensures unknown { (adopts : Bool) (xs : List ListItem) (n : List ℕ) → first xs n ≡ None → extensions_of xs n ≡ [] → first (completed adopts xs) n ≡ None }
 {}
 
-/// The definition that the schema has in a completed list, case by case: the first one of the list. Where there is none and the
-/// schema's extensions are adopted, it has no root of its own if they name one, and else the implicit roots, of which there may be
-/// none. Where they are not adopted, it has the implicit roots, and without one there is no definition. GraphQL specification of
-/// October 2021, sections 3.3, 3.3.1 and 3.3.2.
+/// The definition that the schema has in a completed list, case by case: the first one of the list. Where
+/// there is none and the schema's extensions are adopted, it has no root of its own if they name one. If they
+/// name none, it has the implicit roots, of which there may be none. Where the extensions are not adopted, it
+/// has the implicit roots, and without one there is no definition. GraphQL specification of October 2021,
+/// sections 3.3, 3.3.1 and 3.3.2.
 pub fn schema_definitions_by_cases()
     ensures written { (adopts : Bool) (xs : List ListItem) (s : SchemaPart) → first_schema xs ≡ Some s → first_schema (completed adopts xs) ≡ Some s }
     ensures named { (xs : List ListItem) (r : Root) (rs : List Root) → first_schema xs ≡ None → roots_in (schema_extensions xs) ≡ r ∷ rs
@@ -191,10 +193,11 @@ pub fn later_components_of_a_type_are_at_fault()
         → found_of_type xs d.1 ≡ joined_faults (d.1 ∷ of_kind (kind_of d.1) (extensions_of xs (key_of d.1))) }
 {}
 
-/// The roots of the schema that are at fault are those that have the operation of an earlier one, in order. Each fault is at
-/// its root, and has the location of the name that is kept, the first of its operation. Roots that join others are at fault
-/// as where all of them stand in one list, and so are those of a list of definitions, in the schema's first definition and
-/// then in its extensions. GraphQL specification of October 2021, sections 3.3.1 and 3.3.2.
+/// The roots of the schema that are at fault are those that have the operation of an earlier one, in order.
+/// Each fault is at its root, and has the location of the name that is kept, the first of its operation.
+/// Roots that join others are at fault as where all of them stand in one list. So are those of a list of
+/// definitions, in the schema's first definition and then in its extensions. GraphQL specification of October
+/// 2021, sections 3.3.1 and 3.3.2.
 pub fn later_roots_are_at_fault()
     ensures same { IsEquivalence same_root }
     ensures faults { (rs : List Root) → root_faults [] rs ≡ map (dropped_root (first_of_each same_root rs)) (later_of_each same_root rs) }

@@ -2,9 +2,9 @@
 ghost use Rattle.std.specs.Prelude.{◌≡◌, ◌∷◌, ◌++◌, [], codes};
 ghost use Rattle.apollo_reporting.specs.WorkedExcerpts.{drawn, wide_text};
 
-/// A tab stays a tab under the line, a wide character has one mark, a span of several lines is marked up to the end of its
-/// first, and an empty span has one mark, also at the end of the text. Lines end with a line feed, a carriage return, or
-/// both: GraphQL specification of October 2021, section 2.1.3.
+/// A tab stays a tab under the line, and a wide character has one mark. A span of several lines is marked up
+/// to the end of its first. An empty span has one mark, also at the end of the text. Lines end with a line
+/// feed, a carriage return, or both: GraphQL specification of October 2021, section 2.1.3.
 pub fn worked_excerpts()
     ensures tab { drawn (codes "{\n\tab\n}") 3 5 ≡ record { line = codes "\tab"; before = codes "\t"; marks = codes "^^" } }
     ensures both { drawn (codes "a\r\nbc\r\n") 4 5 ≡ record { line = codes "bc"; before = codes " "; marks = codes "^" } }

@@ -62,8 +62,9 @@ pub fn clones_of_field_lookup_errors_are_exact<'schema>()
     ensures { IsExact ⟦<FieldLookupError<'schema> as Clone>⟧.is_clone }
 {}
 
-/// A type is a subtype of an interface exactly where it is among the interface's implementers, for any types of which no
-/// two have one name, as those of every table. GraphQL specification of October 2021, sections 3.6 and 3.7.
+/// A type is a subtype of an interface exactly where it is among the interface's implementers. It holds for
+/// any types of which no two have one name, as those of every table. GraphQL specification of October 2021,
+/// sections 3.6 and 3.7.
 pub fn implementers()
     ensures { (types : Types) → HasUniqueKeys same_text types → (i t : NameView) → IsSome (interface_node (type_at types i))
         → IsTrue (is_subtype types i t) ↔ IsTrue (is_implementer types i t) }
@@ -80,9 +81,10 @@ pub fn implementers_in_a_schema(schema: &Schema)
     let _count = schema.types.len();
 }
 
-/// A list of definitions means one schema, but for the source files: schemas that it means, with its extensions numbered from
-/// one number, have the same schema definition, the same directive definitions and the same types, in the same order, with every
-/// location and origin. GraphQL specification of October 2021, section 3.3.
+/// A list of definitions means one schema, but for the source files. Take schemas that it means, with its
+/// extensions numbered from one number. They have the same schema definition, the same directive definitions
+/// and the same types, in the same order, with every location and origin. GraphQL specification of October
+/// 2021, section 3.3.
 pub fn a_list_means_one_schema()
     ensures { (start : ℕ) (adopts : Bool) (xs : List Added) (s t : Schema) → MeansSchema start adopts xs s → MeansSchema start adopts xs t
         → s ≡ record t { sources = s.sources } }

@@ -20,11 +20,12 @@ use crate::rearrangement::{
 };
 use apollo_schema::laws::a_list_means_one_schema;
 
-/// Two lists of the same definitions that keep, for each type name, the order of its definitions and the order of its
-/// extensions, and so for the directive definitions of each name, the schema definitions and the schema extensions, mean
-/// equal schemas, whatever numbers their extensions get; and have the same faults, with their locations, in some order.
-/// So do builders that stand for them and both adopt or both don't, and where one has no fault, none are found of the other.
-/// GraphQL specification of October 2021, section 3.
+/// Take two lists of the same definitions. Let them keep, for each type name, the order of its definitions
+/// and the order of its extensions. Let them keep the order of the directive definitions of each name, of the
+/// schema definitions and of the schema extensions. They mean equal schemas, whatever numbers their
+/// extensions get, and have the same faults, with their locations, in some order. So do builders that stand
+/// for them and both adopt or both don't, and where one has no fault, none are found of the other. GraphQL
+/// specification of October 2021, section 3.
 pub fn rearranged()
     ensures schemas { (adopts : Bool) (xs ys : List Added) → AreRearranged (added_items xs) (added_items ys) → MeanEqualSchemas adopts xs ys }
     ensures faults { (adopts : Bool) (xs ys : List Added) → AreRearranged (added_items xs) (added_items ys) → IsPermutation (faults_of adopts xs) (faults_of adopts ys) }
@@ -39,10 +40,10 @@ pub fn rearranged()
     rearranged_faults_are_the_same();
 }
 
-/// Documents that are added one by one, with one setting, mean the schema of one document of all their definitions, and have
-/// its faults in the same order; and a builder to which they were added stands for what that one adds. It is the same schema, with
-/// every location, origin and number, where the extensions of both are numbered from one number, and an equal one where they
-/// aren't.
+/// Documents that are added one by one, with one setting, mean the schema of one document of all their
+/// definitions. They have its faults in the same order. A builder to which they were added stands for what
+/// that one adds. The schema is the same, with every location, origin and number, where the extensions of
+/// both are numbered from one number. Where they aren't, it is an equal one.
 pub fn documents_one_by_one()
     ensures schemas { (adopts ignores : Bool) (xs : List Added) (documents : Documents)
         → MeanEqualSchemas adopts (xs ++ added_each ignores documents) (xs ++ added_joined ignores documents) }
@@ -60,9 +61,10 @@ pub fn documents_one_by_one()
     a_list_means_one_schema();
 }
 
-/// Two lists whose definitions are equal one by one, whatever their locations, and whose directive definitions are marked
-/// built-in alike, mean equal schemas, whatever numbers their extensions get; and builders that stand for them, and both adopt
-/// or both don't, are built to equal schemas. GraphQL specification of October 2021, section 3.
+/// Take two lists whose definitions are equal one by one, whatever their locations, and whose directive
+/// definitions are marked built-in alike. They mean equal schemas, whatever numbers their extensions get.
+/// Builders that stand for them, and both adopt or both don't, are built to equal schemas. GraphQL
+/// specification of October 2021, section 3.
 pub fn equal_lists()
     ensures schemas { (adopts : Bool) (xs ys : List Added) → AreEqualLists xs ys → MeanEqualSchemas adopts xs ys }
     ensures built { (xs ys : List Added) → AreEqualLists xs ys → (b c : SchemaBuilder) → StandFor xs ys b c → BuildEqualSchemas b c }

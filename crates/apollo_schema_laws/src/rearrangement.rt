@@ -1,5 +1,5 @@
-//! Laws of lists of definitions that are equal or rearranged, and of the faults of a list name by name, for those who build on
-//! what such a list means.
+//! Laws of lists of definitions that are equal or rearranged, and of the faults of a list name by name. They
+//! are for those who build on what such a list means.
 ghost use Rattle.std.specs.Prelude.{◌≡◌, ◌++◌, ◌∷◌, [], ℕ, Bool, List, None, Some, codes, filter, filter_map, flat_map, map, not, true, false};
 ghost use Rattle.std.specs.List.Sorted.{IsPermutation};
 ghost use Rattle.apollo_meaning.specs.Completion.ImpliedSchema.{completed};
@@ -99,10 +99,11 @@ pub fn reported_executables_are_the_operations_and_fragments()
         → reported Executable adopts xs ≡ filter_map (λ a. executable_fault a.1) xs }
 {}
 
-/// Those faults of a list that say that something is defined a second time are those of the further definitions: one for each
-/// definition that stands after the first one of the schema, of its type's name, or after the first one of its directive's name
-/// that was handed in, in order and in view of that first one. Only a further definition of a built-in type that may be ignored
-/// has none. GraphQL specification of October 2021, sections 3.3, 3.5 and 3.13.
+/// Those faults of a list that say that something is defined a second time are those of the further
+/// definitions. There is one for each definition that stands after the first one of the schema or of its
+/// type's name. There is one for each that stands after the first one of its directive's name that was handed
+/// in. They are in order, each in view of that first one. Only a further definition of a built-in type that
+/// may be ignored has none. GraphQL specification of October 2021, sections 3.3, 3.5 and 3.13.
 pub fn reported_collisions_are_the_further_definitions()
     ensures schemas { (adopts : Bool) (xs : List Added)
         → reported FurtherSchema adopts xs ≡ map (λ p. further_schema p.0.1 p.1.1) (further_schemas (whole adopts xs)) }
@@ -113,9 +114,10 @@ pub fn reported_collisions_are_the_further_definitions()
         ≡ map (λ p. further_type p.0.1 p.1.1) (filter (λ p. not (is_passed_over p)) (further_types (whole adopts xs))) }
 {}
 
-/// Those faults of a list that say that an extension has no definition are those of the extensions of names, and of the schema,
-/// that have none in the whole list: one for each, those of types by name in order of first extension. Where extensions are
-/// adopted there are none. GraphQL specification of October 2021, sections 3.3.2 and 3.4.3.
+/// Take those faults of a list that say that an extension has no definition. They are those of the extensions
+/// of names, and of the schema, that have none in the whole list: one for each, those of types by name in
+/// order of first extension. Where extensions are adopted there are none. GraphQL specification of October
+/// 2021, sections 3.3.2 and 3.4.3.
 pub fn reported_orphans_are_the_extensions_without_a_definition()
     ensures types { (adopts : Bool) (xs : List Added)
         → reported OrphanOfType adopts xs ≡ map (λ e. orphan e.1) (orphans_by_name (whole adopts xs)) }
@@ -125,9 +127,9 @@ pub fn reported_orphans_are_the_extensions_without_a_definition()
     ensures adopted_schemas { (xs : List Added) → reported OrphanOfSchema true xs ≡ [] }
 {}
 
-/// Those faults of a list that say that an extension of this name is of another kind are those of the name's extensions that
-/// are not of the kind of its first definition: one for each, in order. Of a name without a definition there are none. GraphQL
-/// specification of October 2021, section 3.4.3.
+/// Take those faults of a list that say that an extension of this name is of another kind. They are those of
+/// the name's extensions that are not of the kind of its first definition: one for each, in order. Of a name
+/// without a definition there are none. GraphQL specification of October 2021, section 3.4.3.
 pub fn reported_mismatches_are_the_extensions_of_another_kind()
     ensures dropped { (adopts : Bool) (xs : List Added) (d : Placed TypePart) → first_place types (whole adopts xs) (key_of d.1) ≡ Some d
         → reported (OtherKind (key_of d.1)) adopts xs
@@ -136,10 +138,10 @@ pub fn reported_mismatches_are_the_extensions_of_another_kind()
         → reported (OtherKind n) adopts xs ≡ [] }
 {}
 
-/// Those faults of a list that say that a type of this name is given a component a second time are those of the components
-/// that are dropped from the type, from the name's first definition and from the extensions that are folded into it: each as
-/// often, and in the same order. Of a name without a definition there are none. GraphQL specification of October 2021,
-/// sections 3.4.3 and 3.6 to 3.10.
+/// Take those faults of a list that say that a type of this name is given a component a second time. They are
+/// those of the components that are dropped from the type: from the name's first definition and from the
+/// extensions that are folded into it; each as often, and in the same order. Of a name without a definition
+/// there are none. GraphQL specification of October 2021, sections 3.4.3 and 3.6 to 3.10.
 pub fn reported_collisions_are_the_dropped_components()
     ensures dropped { (adopts : Bool) (xs : List Added) (d : Placed TypePart) → first_place types (whole adopts xs) (key_of d.1) ≡ Some d
         → reported (RepeatedComponent (key_of d.1)) adopts xs ≡ found_of_type (whole adopts xs) d.1 }
@@ -147,9 +149,10 @@ pub fn reported_collisions_are_the_dropped_components()
         → reported (RepeatedComponent n) adopts xs ≡ [] }
 {}
 
-/// Those faults of a list that say that the schema is given a root a second time are those of the roots that are dropped from
-/// the schema, from its first definition and from its extensions: each as often, and in the same order. Without a definition
-/// of the schema there are none. GraphQL specification of October 2021, sections 3.3.1 and 3.3.2.
+/// Take those faults of a list that say that the schema is given a root a second time. They are those of the
+/// roots that are dropped from the schema: from its first definition and from its extensions; each as often,
+/// and in the same order. Without a definition of the schema there are none. GraphQL specification of October
+/// 2021, sections 3.3.1 and 3.3.2.
 pub fn reported_repeated_roots_are_the_dropped_roots()
     ensures dropped { (adopts : Bool) (xs : List Added) (s : Placed SchemaPart) → first_place schemas (whole adopts xs) [] ≡ Some s
         → reported RepeatedRoot adopts xs ≡ found_of_schema (whole adopts xs) s.1 }
@@ -157,9 +160,9 @@ pub fn reported_repeated_roots_are_the_dropped_roots()
         → first_place schemas (whole adopts xs) [] ≡ None → reported RepeatedRoot adopts xs ≡ [] }
 {}
 
-/// The faults of the list `faulty_list` by their sorts, computed: the sort of each, in order; and those that are reported of a
-/// further definition of the type `T`, of an extension of `T` that is of another kind, and of one of `U`, which has no
-/// definition.
+/// The faults of the list `faulty_list` by their sorts, computed: the sort of each, in order; and those that
+/// are reported of three things: a further definition of the type `T`; an extension of `T` that is of another
+/// kind; and one of `U`, which has no definition.
 pub fn faults_by_sort()
     ensures sorts { map (λ f. sort_of f.1) (faults_of false (added false faulty_list)) ≡ its_sorts }
     ensures further { reported FurtherType false (added false faulty_list) ≡ its_further_definition }
@@ -183,9 +186,10 @@ pub fn documents_one_by_one()
     ensures { (ignores : Bool) (documents : Documents) → added_each ignores documents ≡ added_joined ignores documents }
 {}
 
-/// Lists whose definitions are equal one by one, whatever their locations, and whose directive definitions are marked built-in
-/// alike, mean equal types and directive definitions under each name, and equal schema definitions or none, whatever numbers
-/// their extensions get. GraphQL specification of October 2021, sections 3, 3.3 and 3.13.
+/// Take lists whose definitions are equal one by one, whatever their locations, and whose directive
+/// definitions are marked built-in alike. They mean equal types and directive definitions under each name,
+/// and equal schema definitions or none, whatever numbers their extensions get. GraphQL specification of
+/// October 2021, sections 3, 3.3 and 3.13.
 pub fn equal_lists_mean_equal_definitions()
     ensures types { (start other : ℕ) (adopts : Bool) (xs ys : List Added) (n : List ℕ) → AreEqualLists xs ys → type_meant start (whole adopts xs) n ≡ type_meant other (whole adopts ys) n }
     ensures definition { (start other : ℕ) (adopts : Bool) (xs ys : List Added) → AreEqualLists xs ys → schema_meant start (whole adopts xs) ≡ schema_meant other (whole adopts ys) }

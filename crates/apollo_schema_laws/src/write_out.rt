@@ -50,9 +50,9 @@ pub fn written_parts_keep_directives_in_order()
         → section_directives (sections_of p) ≡ section_directives s }
 {}
 
-/// A type of any kind that has, sort by sort, what another one is written out as, is written out as that one is, whatever
-/// the numbers of its extensions; and it has all components of that one, and no others. GraphQL specification of October
-/// 2021, sections 3.4.3 and 3.5 to 3.10.
+/// Take a type of any kind that has, sort by sort, what another one is written out as. It is written out as
+/// that one is, whatever the numbers of its extensions. It has all components of that one, and no others.
+/// GraphQL specification of October 2021, sections 3.4.3 and 3.5 to 3.10.
 pub fn written_types_are_written_again()
     ensures same { (t u : ExtendedType) → HasWhatIsWritten t u → write_type u ≡ write_type t }
     ensures components { (t u : ExtendedType) → HasWhatIsWritten t u → HasSameComponents (type_sections t) (type_sections u) }
@@ -65,20 +65,22 @@ pub fn written_types_have_each_name_once()
     ensures again { (t u : ExtendedType) → HasWhatIsWritten t u → HasEachNameOnce (type_sections t) → HasEachNameOnce (type_sections u) }
 {}
 
-/// What the worked list with extensions on either side of a definition is written out as, read as a list and computed: the
-/// type that it means is written out as the same definitions, whose extensions stand in another order than they stood in
-/// the worked list, and nothing is at fault. GraphQL specification of October 2021, section 3.4.3.
+/// What the worked list with extensions on either side of a definition is written out as, read as a list and
+/// computed: the type that it means is written out as the same definitions, and nothing is at fault. Their
+/// extensions stand in another order than they stood in the worked list. GraphQL specification of October
+/// 2021, section 3.4.3.
 pub fn worked_write_out_is_written_again()
     ensures writes { option_map write_type (type_of 7 (folding_order (whole false (added false written_around))) (whole false (added false written_around)) (codes "Q")) ≡ Some written_around }
     ensures faults { faults_of false (added false written_around) ≡ [] }
 {}
 
-/// Every schema's write-out rebuilds. For every list of added definitions, with any setting of adoption and of ignored
-/// redefinitions, and the schema that it means, whole or what could be built of a list with faults: the write-out, added as
-/// one document after the built-in definitions, with adoption, has no faults; each schema that it means, with extensions
-/// numbered from anywhere, is equal to the first, and is written out as the first is; and there is such a schema. It holds
-/// where the list begins with the built-in definitions, nothing after them is marked built-in, and each schema definition
-/// names a root. GraphQL specification of October 2021, sections 3 and 3.3.
+/// Every schema's write-out rebuilds. Take any list of added definitions, with any setting of adoption and of
+/// ignored redefinitions. Take the schema that it means, whole or what could be built of a list with faults.
+/// The write-out, added as one document after the built-in definitions, with adoption, has no faults. Each
+/// schema that the write-out means, with extensions numbered from anywhere, is equal to the first, and is
+/// written out as the first is. There is such a schema. This holds where the list begins with the built-in
+/// definitions, nothing after them is marked built-in, and each schema definition names a root. GraphQL
+/// specification of October 2021, sections 3 and 3.3.
 pub fn canonical()
     ensures faults { (schema : Schema) → IsMeantByList schema → (ignores : Bool) → faults_of true (written_again ignores schema) ≡ [] }
     ensures equal { (schema rebuilt : Schema) → IsMeantByList schema → (ignores : Bool) (again : ℕ) → MeansSchema again true (written_again ignores schema) rebuilt
@@ -88,9 +90,9 @@ pub fn canonical()
     ensures means { (schema : Schema) → IsMeantByList schema → (ignores : Bool) (again : ℕ) → ∥ ((rebuilt : Schema) × MeansSchema again true (written_again ignores schema) rebuilt) ∥₁ }
 {}
 
-/// To write out twice is to write out once: what the write-out of a schema of a list as [`canonical`] takes it is written out
-/// as, read with adoption after the built-in definitions, is that write-out. GraphQL specification of October 2021, sections 3
-/// and 3.3.
+/// To write out twice is to write out once. Take the write-out of a schema of a list as [`canonical`] takes
+/// it. What that is written out as, read with adoption after the built-in definitions, is that write-out.
+/// GraphQL specification of October 2021, sections 3 and 3.3.
 pub fn written_twice_is_written_once()
     ensures { (schema : Schema) → IsMeantByList schema → (ignores : Bool) (again : ℕ) (twice : List Definition) → IsWriteOutOf again true (written_again ignores schema) twice
         → twice ≡ write_schema schema }
@@ -98,8 +100,9 @@ pub fn written_twice_is_written_once()
     canonical();
 }
 
-/// Schemas of lists as [`canonical`] takes them are equal where their write-outs are equal, definition by definition, whatever
-/// the locations, and under whatever settings of both options. GraphQL specification of October 2021, sections 3 and 3.3.
+/// Schemas of lists as [`canonical`] takes them are equal where their write-outs are equal, definition by
+/// definition, whatever the locations. It holds under whatever settings of both options. GraphQL
+/// specification of October 2021, sections 3 and 3.3.
 pub fn equal_write_outs_have_equal_schemas()
     ensures { (schema other : Schema) → IsMeantByList schema → IsMeantByList other → map bare_definition (write_schema schema) ≡ map bare_definition (write_schema other)
         → AreEqualSchemas schema other }
@@ -107,11 +110,12 @@ pub fn equal_write_outs_have_equal_schemas()
     equal_lists();
 }
 
-/// A schema's write-out folds no more extensions than the list that the schema is of. It holds for every list of added
-/// definitions, with any setting of adoption and of ignored redefinitions, and the schema that it means, whole or what could
-/// be built of a list with faults; the write-out is added as one document after the built-in definitions, with adoption. So
-/// where the numbers from some one on don't suffice for the write-out, they don't for the list. GraphQL specification of
-/// October 2021, sections 3.3.2 and 3.4.3.
+/// A schema's write-out folds no more extensions than the list that the schema is of. It holds for every list
+/// of added definitions, with any setting of adoption and of ignored redefinitions. It holds for the schema
+/// that the list means, whole or what could be built of a list with faults. The write-out is added as one
+/// document after the built-in definitions, with adoption. So where the numbers from some one on don't
+/// suffice for the write-out, they don't for the list. GraphQL specification of October 2021, sections 3.3.2
+/// and 3.4.3.
 pub fn a_write_out_folds_no_more()
     ensures folds { (start : ℕ) (adopts ignores : Bool) (xs : List Added) (schema : Schema) → MeansSchema start adopts xs schema
         → folds true (written_again ignores schema) ≤ folds adopts xs }
@@ -119,9 +123,9 @@ pub fn a_write_out_folds_no_more()
         → SpendsIds again true (written_again ignores schema) → SpendsIds again adopts xs }
 {}
 
-/// A write-out may fold fewer extensions than its list: the worked list with faults folds two, whose components are all dropped,
-/// and the type that it means is written out as a definition alone, computed. GraphQL specification of October 2021, section
-/// 3.4.3.
+/// A write-out may fold fewer extensions than its list. Computed: the worked list with faults folds two,
+/// whose components are all dropped; and the type that it means is written out as a definition alone. GraphQL
+/// specification of October 2021, section 3.4.3.
 pub fn worked_extensions_are_not_written()
     ensures folds { folds false (added false faulty_list) ≡ 2 }
     ensures writes { option_map (λ t. length (write_type t)) (type_of 0 (folding_order (whole false (added false faulty_list))) (whole false (added false faulty_list)) (codes "T")) ≡ Some 1 }

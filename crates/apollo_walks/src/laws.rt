@@ -38,8 +38,8 @@ pub fn walks_give_what_is_reached<F>()
         → IsWalk fragments s fields → Among f fields ↔ IsReached fragments s f }
 {}
 
-/// The names that selections lead to are in each set that has the defined names which are spread there, and with each
-/// fragment in it those which are spread in that fragment.
+/// Take any set that has the defined names which are spread in selections. Let it have, with each fragment in
+/// it, those which are spread in that fragment. The names that the selections lead to are in that set.
 pub fn reachable_names_are_the_fewest<F>()
     ensures { (fragments : Fragments F) (s : Selections F) (set : Names) → IsClosed fragments s set
         → (n : List ℕ) → Reachable fragments s n → set n ≡ true }
@@ -75,8 +75,8 @@ pub fn walks_take_few_turns<F>()
         → AreWithinTurns fragments s turns }
 {}
 
-/// The names that selections lead to are one list but for their order, so the turns of a walk over them are one number, and
-/// it is at most two for each selection in reach, and one.
+/// The names that selections lead to are one list but for their order. So the turns of a walk over them are
+/// one number. It is at most two for each selection in reach, and one.
 pub fn reachable_names_are_one_list<F>()
     ensures names { (fragments : Fragments F) (s : Selections F) (ms ns : List (List ℕ))
         → AreReachable fragments s ms → AreReachable fragments s ns → IsPermutation ms ns }

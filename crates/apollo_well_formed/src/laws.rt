@@ -30,13 +30,13 @@ pub fn built_in_definitions_are_well_formed()
     ensures { AllByRecursion IsWellFormedDefinition built_in_definitions }
 {}
 
-/// Well-formed goes through the schema: where each definition of a list is well-formed, so is each
-/// definition that the schema of the list is written out as. It holds with any setting of adoption and of
-/// ignored redefinitions, and for the schema that the list means, whole or what could be built of a list
-/// with faults. So names are names, numbers are numbers, no variable stands in a constant, a schema
-/// definition that is written names a root, and an extension that is written has a part. Of a list that
-/// begins with the built-in definitions only those after them need be well-formed. GraphQL specification of
-/// October 2021, sections 2, 3 and 3.3.
+/// Well-formed goes through the schema: where each definition of a list is well-formed, so is each definition
+/// that the schema of the list is written out as. It holds with any setting of adoption and of ignored
+/// redefinitions. It holds for the schema that the list means, whole or what could be built of a list with
+/// faults. So names are names, numbers are numbers, and no variable stands in a constant. A schema definition
+/// that is written names a root, and an extension that is written has a part. Of a list that begins with the
+/// built-in definitions only those after them need be well-formed. GraphQL specification of October 2021,
+/// sections 2, 3 and 3.3.
 pub fn a_write_out_is_well_formed()
     ensures of_any_list { (start : ℕ) (adopts : Bool) (xs : List Added) (schema : Schema)
         → MeansSchema start adopts xs schema → AreWellFormed xs

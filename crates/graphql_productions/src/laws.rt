@@ -28,9 +28,9 @@ pub fn words_spell_one_tree()
     ensures value { (file : FileId) (constant : Bool) (depth : ℕ) (words : List WordView) (a b : Value) → (value file constant depth).spells a words → (value file constant depth).spells b words → a ≡ b }
 {}
 
-/// What stands behind a refused word doesn't matter: no words that begin with those before it and with it
-/// spell a definition, a document, selections with braces or without, a type or a value; and words that are
-/// refused at their end spell none.
+/// What stands behind a refused word doesn't matter. Take words that begin with those before it and with it.
+/// They spell no definition, no document, no selections with braces or without, no type and no value. Words
+/// that are refused at their end spell none.
 pub fn refusals_are_of_all_words_so_far()
     ensures definition { (file : FileId) (depth : ℕ) (words : List WordView) (e : Refusal) → read_all (definition file depth) words ≡ Err e → RefusedWith (definition file depth).spells words e }
     ensures document { (file : FileId) (depth : ℕ) (words : List WordView) (e : Refusal) → read_all (document file depth) words ≡ Err e → RefusedWith (spells_document file depth) words e }
@@ -60,9 +60,9 @@ pub fn words_are_those_at_tokens()
     ensures { (allowed : ℕ) (text : List ℕ) (tokens : List Token) → tokens_of text ≡ Ok tokens → length tokens ≤ allowed → words_of allowed text ≡ map (word_at text) tokens }
 {}
 
-/// Trees are spelled by tokens alone: where the words of a text spell a document, selections with braces or
-/// without, a type or a value, the text has tokens, no more than are allowed, and its words are the words at
-/// those.
+/// Trees are spelled by tokens alone. Let the words of a text spell a document, selections with braces or
+/// without, a type or a value. Then the text has tokens, no more than are allowed, and its words are the
+/// words at those.
 pub fn trees_are_spelled_by_tokens()
     ensures document { (file : FileId) (depth allowed : ℕ) (text : List ℕ) (x : List Definition) → spells_document file depth x (words_of allowed text) → AreAtTokens allowed text (tokens_of text) (words_of allowed text) }
     ensures selections { (file : FileId) (depth allowed : ℕ) (text : List ℕ) (x : List Selection) → (selections file depth).spells x (words_of allowed text) → AreAtTokens allowed text (tokens_of text) (words_of allowed text) }

@@ -24,8 +24,8 @@ ghost use Rattle.graphql_printing.specs.Texts.{type_text, value_text};
 ghost use Rattle.graphql_round_trip.specs.Nesting.{document_nesting, selections_nesting, type_nesting, value_nesting};
 ghost use Rattle.graphql_round_trip.specs.ReadAgain.{SpellEqual};
 
-/// The text of a well-formed tree is read as an equal tree, where as many signs may be open as the tree
-/// nests, and as many tokens are allowed as the text has bytes: a document, selections, a type, a value.
+/// The text of a well-formed tree is read as an equal tree: a document, selections, a type, a value. It is so
+/// where as many signs may be open as the tree nests, and as many tokens are allowed as the text has bytes.
 pub fn texts_are_read_again()
     ensures document { (file : FileId) (depth allowed : ℕ) (x : List Definition) → IsWellFormed (document_parts x) → document_nesting x ≤ depth → length (definitions_text x) ≤ allowed → SpellEqual (spells_document file depth) (map bare_definition) x (words_of allowed (definitions_text x)) }
     ensures selections { (file : FileId) (depth allowed : ℕ) (x : List Selection) → IsWellFormed (wanted_parts selection_parts x) → selections_nesting x ≤ depth → length (selections_text 0 x) ≤ allowed → SpellEqual (selections file depth).spells (map bare_selection) x (words_of allowed (selections_text 0 x)) }
@@ -41,10 +41,10 @@ pub fn equal_trees_have_one_text()
     ensures value { (x y : Value) → bare_value x ≡ bare_value y → value_text x ≡ value_text y }
 {}
 
-/// What a text was read as is printed as a text that is read as an equal tree, in any file, where as many
-/// signs may be open as before (of selections one more, since they are printed in braces), and as many tokens
-/// are allowed as it has bytes. And whatever document it is read as is printed as the same text: formatting
-/// keeps what a text means, and formatting twice is formatting once.
+/// What a text was read as is printed as a text that is read as an equal tree, in any file. It is so under
+/// two conditions. As many signs may be open as before, and of selections one more, since they are printed in
+/// braces. As many tokens are allowed as the printed text has bytes. And whatever document it is read as is
+/// printed as the same text: formatting keeps what a text means, and formatting twice is formatting once.
 pub fn formatting_keeps_the_tree()
     ensures document { (file other : FileId) (depth allowed enough : ℕ) (text : List ℕ) (x : List Definition) → spells_document file depth x (words_of allowed text) → length (definitions_text x) ≤ enough → SpellEqual (spells_document other depth) (map bare_definition) x (words_of enough (definitions_text x)) }
     ensures once { (file other : FileId) (depth allowed enough : ℕ) (text : List ℕ) (x y : List Definition) → spells_document file depth x (words_of allowed text) → length (definitions_text x) ≤ enough → spells_document other depth y (words_of enough (definitions_text x)) → definitions_text y ≡ definitions_text x }

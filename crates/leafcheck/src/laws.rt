@@ -17,11 +17,12 @@ use apollo_document::selection_path::SelectionPath;
 use apollo_executable::selection::{Field, FragmentSpread, InlineFragment, Selection};
 use graphql_nodes::laws::{equality_of_locations_and_kinds, equality_of_names};
 
-/// The fields that stand in selections with their places, by the kind of the first selection: a field stands there
-/// itself, from the type of its set and with its key last in its path, and then those of its own set; a spread has
-/// none; an inline fragment has those of its own set, from the type of that and with no key more. Then come those of
-/// the other selections. Those of one list behind another come behind those of the other. Without their places, they
-/// are those that stand there. GraphQL specification of October 2021, sections 2.4 to 2.8.
+/// The fields that stand in selections with their places, by the kind of the first selection: a field stands
+/// there itself, from the type of its set and with its key last in its path. Then come those of its own set.
+/// A spread has none. An inline fragment has those of its own set, from the type of that and with no key
+/// more. Then come those of the other selections. Those of one list behind another come behind those of the
+/// other. Without their places, they are those that stand there. GraphQL specification of October 2021,
+/// sections 2.4 to 2.8.
 pub fn fields_with_places()
     ensures none { (ty : NameView) (path : SelectionPath) → placed_fields ty path [] ≡ [] }
     ensures field { (ty : NameView) (path : SelectionPath) (n : NodeView Field) (others : List Selection)

@@ -9,10 +9,11 @@ ghost use Rattle.apollo_executable.specs.declared.document.ExecutableDocument.{E
 ghost use Rattle.apollo_executable.specs.declared.selection.Field.{Field};
 ghost use Rattle.apollo_executable.specs.declared.selection.SelectionSet.{SelectionSet};
 
-/// A walk by its calls, from a new one on, as `root_fields` and `all_fields` make it. At every moment, what came and what is to come
-/// are together what was to come at first (`beginning`), and the turns are at most two for each selection in reach, and one
-/// (`turns`). A call that gives nothing ends it: then what came is a whole walk, and the turns are all of it (`whole`). After that,
-/// or after the one error, that memory ran out, each call gives nothing and leaves the walk as it is (`rests`).
+/// A walk by its calls, from a new one on, as `root_fields` and `all_fields` make it. At every moment, what
+/// came and what is to come are together what was to come at first (`beginning`). At every moment the turns
+/// are at most two for each selection in reach, and one (`turns`). A call that gives nothing ends it: then
+/// what came is a whole walk, and the turns are all of it (`whole`). After that, or after the one error, that
+/// memory ran out, each call gives nothing and leaves the walk as it is (`rests`).
 pub fn walks_by_their_calls()
     ensures beginning { (start now : WalkView) (fields : List (NodeView Field)) → HasGiven start fields now
         → fields ++ now.coming ≡ start.coming }
