@@ -130,8 +130,8 @@ impl<T: Drop> Clone for Component<T> {
     }
 }
 
-/// A name that a type lists, as an interface or a union member, or that a schema has as a root, and the definition or extension
-/// that it comes from.
+/// A name, and the definition or extension that it comes from. A type lists the name, as an interface or a
+/// union member, or a schema has it as a root.
 ///
 /// Component names are equal and hashed by their texts: origins and locations are left out. `Display` is the text.
 #[derive(Debug)]

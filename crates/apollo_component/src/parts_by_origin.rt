@@ -104,8 +104,9 @@ impl PartsByOrigin {
         Ok(())
     }
 
-    /// Adds a type of this kind, description and name as syntax at the end: its definition, at this location, with the parts of
-    /// the definition, and then each of its extensions, in order of first appearance, at its own location, with its parts.
+    /// Adds a type of this kind, description and name as syntax at the end. First comes its definition, at
+    /// this location, with the parts of the definition. Then comes each of its extensions, in order of first
+    /// appearance, at its own location, with its parts.
     ///
     /// The error is out of memory: `written` then begins with what it held, and the parts are dropped.
     pub fn write_type(
@@ -129,9 +130,10 @@ impl PartsByOrigin {
         extensions.write_types(alloc, kind, name, written)
     }
 
-    /// The schema's definition as syntax: the definition with this description, at this location, if it is to be written, and
-    /// then each of its extensions, in order of first appearance, at its own location, with its parts. Without the definition
-    /// its description and parts are left out. The error is out of memory, and drops the parts.
+    /// The schema's definition as syntax. First comes the definition with this description, at this location,
+    /// if it is to be written. Then comes each of its extensions, in order of first appearance, at its own
+    /// location, with its parts. Without the definition its description and parts are left out. The error is
+    /// out of memory, and drops the parts.
     pub fn into_schema(
         self,
         alloc: Global,

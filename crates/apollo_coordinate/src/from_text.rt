@@ -121,11 +121,12 @@ impl TypeAttributeCoordinate {
 impl FieldArgumentCoordinate {
     /// The coordinate that a text `Type.field(argument:)` says, whose names have no location.
     ///
-    /// A text without a `(` is refused with [`InvalidFormat`](SchemaCoordinateParseError::InvalidFormat). What stands before
-    /// the first one is read as a [`TypeAttributeCoordinate`], with its refusals; then what stands after it, where no `:`, or
-    /// anything but `)` alone after the first one, is `InvalidFormat`, and an argument that is no name is
-    /// [`InvalidName`](SchemaCoordinateParseError::InvalidName) of it. [`Memory`](SchemaCoordinateParseError::Memory) is out of
-    /// memory.
+    /// A text without a `(` is refused with [`InvalidFormat`](SchemaCoordinateParseError::InvalidFormat).
+    /// What stands before the first one is read as a [`TypeAttributeCoordinate`], with its refusals. Then
+    /// what stands after it is read: no `:`, or anything but `)` alone after the first one, is
+    /// `InvalidFormat`. An argument that is no name is
+    /// [`InvalidName`](SchemaCoordinateParseError::InvalidName) of it.
+    /// [`Memory`](SchemaCoordinateParseError::Memory) is out of memory.
     pub fn from_str(
         alloc: Global,
         text: &str,
@@ -170,11 +171,11 @@ impl DirectiveCoordinate {
 impl DirectiveArgumentCoordinate {
     /// The coordinate that a text `@directive(argument:)` says, whose names have no location.
     ///
-    /// A text without a `(` is refused with [`InvalidFormat`](SchemaCoordinateParseError::InvalidFormat). What stands before
-    /// the first one is read as a [`DirectiveCoordinate`], with its refusals; then what stands after it, where no `:`, or
-    /// anything but `)` alone after the first one, is `InvalidFormat`, and an argument that is no name is
-    /// [`InvalidName`](SchemaCoordinateParseError::InvalidName) of it. [`Memory`](SchemaCoordinateParseError::Memory) is out of
-    /// memory.
+    /// A text without a `(` is refused with [`InvalidFormat`](SchemaCoordinateParseError::InvalidFormat).
+    /// What stands before the first one is read as a [`DirectiveCoordinate`], with its refusals. Then what
+    /// stands after it is read: no `:`, or anything but `)` alone after the first one, is `InvalidFormat`. An
+    /// argument that is no name is [`InvalidName`](SchemaCoordinateParseError::InvalidName) of it.
+    /// [`Memory`](SchemaCoordinateParseError::Memory) is out of memory.
     pub fn from_str(
         alloc: Global,
         text: &str,

@@ -6,9 +6,10 @@ use graphql_nodes::name::{Name, NamedType};
 use graphql_nodes::source::SourceSpan;
 use thiserror::Error;
 
-/// What is wrong with a definition or a selection that a build of an executable document doesn't use, or with an anonymous
-/// operation that it keeps beside others: GraphQL specification of October 2021, sections 2.2 to 2.8. The name of a kept
-/// definition, and that of a type that lacks a field, have the location of the definition's name and of the type's.
+/// What a build of an executable document finds wrong: with a definition or a selection that it doesn't use,
+/// or with an anonymous operation that it keeps beside others. GraphQL specification of October 2021,
+/// sections 2.2 to 2.8. The name of a kept definition has the location of the definition's name. The name of
+/// a type that lacks a field has the location of the type's name.
 ///
 /// Errors are equal where their fields are: names by their texts. A clone is the original, with every location.
 #[derive(Debug, Drop, Clone, PartialEq, Eq, Error)]

@@ -22,11 +22,12 @@ use std::alloc::{AllocError, Global};
 /// A builder of an executable document, over a schema or without one: GraphQL specification of October 2021, sections 2.2 to
 /// 2.8. Documents of syntax go in, in any number.
 ///
-/// Of operations the first of each name is kept that has a root type in the schema, and an anonymous one if it is the first of
-/// all that have one; of fragments the first of each name whose condition is a type of the schema. Their selections are kept where
-/// they are typable, as [`elaborate_selections`](crate::elaboration::elaborate_selections) says. All else is at
-/// fault, but for fields of a type that the schema lacks, and for definitions of the type system where these are not. So is a
-/// kept anonymous operation that isn't the only one.
+/// Of operations the first of each name is kept that has a root type in the schema. An anonymous one is kept
+/// if it is the first of all operations that have a root type. Of fragments the first of each name is kept
+/// whose condition is a type of the schema. Their selections are kept where they are typable, as
+/// [`elaborate_selections`](crate::elaboration::elaborate_selections) says. All else is at fault, with two
+/// exceptions: fields of a type that the schema lacks; and definitions of the type system where these are not
+/// at fault. A kept anonymous operation that isn't the only one is at fault too.
 ///
 /// When memory has run out the builder holds nothing, and each later call answers `Failed`.
 pub struct ExecutableDocumentBuilder<'schema> {

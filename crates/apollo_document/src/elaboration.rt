@@ -19,11 +19,13 @@ use std::alloc::{AllocError, Global};
 /// The typable ones of these selections from this type, typed, each with its own selections treated likewise. The faults of
 /// the others are added at the end, in order, each with its path, which begins with `path`.
 ///
-/// A field is typable if the schema's [`type_field`](Schema::type_field) gives a definition for its name in the type, and it
-/// has no selections or isn't of a scalar or enum type; its selections are from the type that the definition names, inside all
-/// lists. Where the schema lacks the type itself, its fields are left out without a fault. An inline fragment is typable if its
-/// condition is the name of a type; its selections are from that, or without a condition from the same type. A spread always
-/// is. Without a schema every selection is typable, and each field has a definition of its name, whose type is `UNKNOWN`.
+/// A field is typable under two conditions: the schema's [`type_field`](Schema::type_field) gives a
+/// definition for its name in the type; and it has no selections or isn't of a scalar or enum type. Its
+/// selections are from the type that the definition names, inside all lists. Where the schema lacks the type
+/// itself, its fields are left out without a fault. An inline fragment is typable if its condition is the
+/// name of a type; its selections are from that, or without a condition from the same type. A spread always
+/// is. Without a schema every selection is typable, and each field has a definition of its name, whose type
+/// is `UNKNOWN`.
 ///
 /// Whatever the answer, the path is afterwards as it was before. The error is out of memory, and leaves the faults as they were.
 pub fn elaborate_selections(

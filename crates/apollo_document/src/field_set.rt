@@ -50,8 +50,9 @@ impl Clone for FieldSet {
 }
 
 impl FieldSet {
-    /// The typable ones of these selections from the type of this name, typed as [`elaborate_selections`] says, without
-    /// sources, and the faults of the others, in order. Each path begins as that of an anonymous query.
+    /// The typable ones of these selections from the type of this name, without sources, and the faults of
+    /// the others, in order. The typable ones are typed as [`elaborate_selections`] says. Each path begins as
+    /// that of an anonymous query.
     ///
     /// The error is out of memory, and drops the name.
     pub fn from_ast(

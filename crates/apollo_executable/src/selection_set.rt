@@ -48,9 +48,9 @@ impl SelectionSet {
         self.selections.append(&mut Items::from_vec(selections))
     }
 
-    /// A field of this name, to be added with [`push`](SelectionSet::push). It carries the definition that the schema's
-    /// [`type_field`](Schema::type_field) gives in the type of this set, and its own set selects from the type which that names,
-    /// inside all lists.
+    /// A field of this name, to be added with [`push`](SelectionSet::push). It carries the definition that
+    /// the schema's [`type_field`](Schema::type_field) gives in the type of this set. Its own set selects
+    /// from the type which that definition names, inside all lists.
     ///
     /// [`NewFieldError::Lookup`] says that the schema has no such type, or the type no such field; [`NewFieldError::Memory`] is
     /// out of memory, and comes only where the type has the field. Either drops the name.

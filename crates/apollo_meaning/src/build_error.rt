@@ -53,8 +53,9 @@ pub enum BuildError {
     OrphanTypeExtension {
         name: Name,
     },
-    /// An extension of another kind than the first definition of its name, at its name, with both kinds, as `an enum type
-    /// extension` and `an object type`, and the location of the name of that definition (section 3.4.3).
+    /// An extension of another kind than the first definition of its name, at its name (section 3.4.3). The
+    /// fault has both kinds, as `an enum type extension` and `an object type`, and the location of the name
+    /// of that definition.
     #[error("adding {describe_ext}, but `{name}` is {describe_def}")]
     TypeExtensionKindMismatch {
         name: Name,
@@ -62,8 +63,8 @@ pub enum BuildError {
         def_location: Option<SourceSpan>,
         describe_def: StaticText,
     },
-    /// A root of an operation that has one already, at the root's node, with the keyword of the operation and the location of the
-    /// name that is kept (section 3.3.1).
+    /// A root of an operation that has one already, at the root's node (section 3.3.1). The fault has the
+    /// keyword of the operation and the location of the name that is kept.
     #[error("duplicate definitions for the `{operation_type}` root operation type")]
     DuplicateRootOperation {
         previous_location: Option<SourceSpan>,

@@ -33,11 +33,12 @@ use std::fmt::{Formatter, Write};
 ///    = path: query Page → book → pages
 /// ```
 ///
-/// The marks stand under the span, one for each character, and one where it is empty; of a span of several lines they
-/// stand under the first. A tab before them stays a tab. Of a line of more than 160 characters 60 are shown before the
-/// marks and 100 from the first mark on, with `...` where something is left out, and no marks stand under what isn't shown.
-/// An earlier place that the fault has to do with follows in the same form, behind `note:` and what stands there. Where the
-/// sources lack the file, or its text ends before, the line isn't shown.
+/// The marks stand under the span, one for each character, and one where it is empty; of a span of several
+/// lines they stand under the first. A tab before them stays a tab. Of a line of more than 160 characters 60
+/// are shown before the marks and 100 from the first mark on. `...` stands where something is left out, and
+/// no marks stand under what isn't shown. An earlier place that the fault has to do with follows in the same
+/// form, behind `note:` and what stands there. Where the sources lack the file, or its text ends before, the
+/// line isn't shown.
 ///
 /// The file's name and its lines are written as [`visible`] shows them, with no control character but tab. The sentence and
 /// the path are written as the fault has them; [`report_text`] shows the sentence as [`visible`] does.

@@ -99,8 +99,8 @@ impl Schema {
         }
     }
 
-    /// The schema as syntax: the schema definition with its extensions, then the directive definitions, in order, and then
-    /// each type, in order, as its definition and its extensions (section 3).
+    /// The schema as syntax (section 3). First comes the schema definition with its extensions. Then come the
+    /// directive definitions, in order. Then comes each type, in order, as its definition and its extensions.
     ///
     /// The schema definition is left out where it would be implied, or has no root of its own, as
     /// [`SchemaDefinition::to_ast`] says: its description and its own directives are not written then. Its extensions are always

@@ -28,8 +28,8 @@ use std::alloc::{AllocError, Global};
 /// isn't built-in, which replaces a built-in one. The first definition of the schema stays, too. An extension before
 /// its definition waits for it.
 ///
-/// After a refusal the builder holds nothing more than its source, which then stands where it stood before the refused
-/// call, and each later `add_ast` or `build` answers `Failed`.
+/// After a refusal the builder holds nothing more than its source, which then stands where it stood before
+/// the refused call. Each later `add_ast` or `build` answers `Failed`.
 pub struct SchemaBuilder {
     first_number: u64,
     state: State,
@@ -81,9 +81,9 @@ impl SchemaBuilder {
         SchemaBuilder::with_source_and_keys(alloc, source, HashKeys::FIXED)
     }
 
-    /// The same as [`new`](SchemaBuilder::new), for documents from strangers: each table of names that the builder makes
-    /// hashes by these keys, and so do those of the schema, and of what is made of it. What is built, and in what order, is
-    /// the same under any keys. The error is out of memory.
+    /// The same as [`new`](SchemaBuilder::new), for documents from strangers. Each table of names that the
+    /// builder makes hashes by these keys. So do those of the schema, and of what is made of it. What is
+    /// built, and in what order, is the same under any keys. The error is out of memory.
     pub fn with_keys(alloc: Global, keys: HashKeys) -> Result<SchemaBuilder, AllocError>
         ensures stands { IfOk result (StandsFor 0 (added false built_in_definitions)) }
         ensures settings { IfOk result (λ builder. (adopts builder ≡ false) × (ignores builder ≡ false)) }
@@ -181,14 +181,15 @@ impl SchemaBuilder {
         Ok(())
     }
 
-    /// The schema of what was added: each name's type is its first definition with the extensions of its kind folded in,
-    /// wherever they stand, and the types stand in the order of first definition, those that are adopted last. A directive's
-    /// name means the first definition of it that isn't built-in (in file number 0), or else the last one.
+    /// The schema of what was added: each name's type is its first definition with the extensions of its kind
+    /// folded in, wherever they stand. The types stand in the order of first definition, those that are
+    /// adopted last. A directive's name means the first definition of it that isn't built-in (in file number
+    /// 0), or else the last one.
     ///
-    /// The schema's definition is the first one that was added with all schema extensions folded in. Where there is none,
-    /// each object type with the default name of an operation is that operation's root, and the extensions are folded in
-    /// after those roots; with adoption there are no default roots where an extension names a root. The schema's sources are
-    /// those of the documents, merged.
+    /// The schema's definition is the first one that was added with all schema extensions folded in. Where
+    /// there is none, each object type with the default name of an operation is that operation's root. The
+    /// extensions are folded in after those roots. With adoption there are no default roots where an
+    /// extension names a root. The schema's sources are those of the documents, merged.
     ///
     /// `Faults`, with what could be built, sources included, comes exactly where what was added has faults: first those found as
     /// definitions are added, in that order; then extensions of types without a definition; then what is found at an implied

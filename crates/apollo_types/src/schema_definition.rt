@@ -102,10 +102,10 @@ impl SchemaDefinition {
         RootOperations::new(self)
     }
 
-    /// The definition as syntax: a schema definition, at this location, with the components of the definition, then an
-    /// extension for each identity of [`extensions`](Extensible::extensions), with that identity's components and
-    /// location. The directives are in order, and the roots in the order query, mutation, subscription. A root has the
-    /// location of its name.
+    /// The definition as syntax: a schema definition, at this location, with the components of the
+    /// definition. Then comes an extension for each identity of [`extensions`](Extensible::extensions), with
+    /// that identity's components and location. The directives are in order, and the roots in the order
+    /// query, mutation, subscription. A root has the location of its name.
     ///
     /// The schema definition is left out where none of its roots is the definition's, and where it says nothing: it has
     /// no description, no directive and no extension, and each operation type has just the root that it would have

@@ -15,8 +15,8 @@ use crate::widths::is_wider;
 use std::fmt;
 use std::fmt::{Formatter, Write};
 
-/// Writes a description that stands further in by so many blanks: a block string where that is read as the text
-/// again and has no control character but tabs and line feeds, or else a quoted string.
+/// Writes a description that stands further in by so many blanks. It is a block string where that is read as
+/// the text again and has no control character but tabs and line feeds. Else it is a quoted string.
 pub fn write_description<W: Write>(f: &mut Formatter<W>, text: &str, indent: usize) -> fmt::Result
     ensures { WritesOnOk W.write_str_gives f.old result (description_text indent text.now) f.new }
 {

@@ -165,8 +165,8 @@ pub fn write_definitions<W: Write>(f: &mut Formatter<W>, definitions: &[Definiti
     write_definitions_behind(f, others, takes_braces(first))
 }
 
-/// Writes definitions, each behind an empty line, of which the first stands behind one that would take a `{`
-/// for its own where the flag is set.
+/// Writes definitions, each behind an empty line. Where the flag is set, the first of them stands behind a
+/// definition that would take a `{` for its own.
 fn write_definitions_behind<W: Write>(
     f: &mut Formatter<W>,
     definitions: &[Definition],

@@ -84,8 +84,8 @@ fn write_each_line<T: Written, W: Write>(
     Ok(())
 }
 
-/// Writes items, each on a line of its own and further in by two, between an opening and a closing, or
-/// nothing where there is none. The error is a sink's, or too many blanks.
+/// Writes items, each on a line of its own and further in by two, between an opening and a closing. Where
+/// there is no item, it writes nothing. The error is a sink's, or too many blanks.
 pub(crate) fn write_on_lines<T: Written, W: Write>(
     f: &mut Formatter<W>,
     opening: &str,

@@ -157,9 +157,9 @@ pub fn definitions<'a>(definitions: &'a [Definition]) -> DefinitionsText<'a>
 /// line stands between each two, and no line end behind the last. The sources are left out.
 ///
 /// The layout is that of `print` of graphql-js 16, with one exception: a query without name, variables and
-/// directives keeps its keyword `query` behind a definition that would take its `{` for its own, as `type T`
-/// without fields would. Trees don't say which strings were block strings: here a description is one
-/// wherever it is read back as its text, and a value never is.
+/// directives keeps its keyword `query` behind a definition that would take its `{` for its own. `type T`
+/// without fields is such a definition. Trees don't say which strings were block strings: here a description
+/// is one wherever it is read back as its text, and a value never is.
 pub fn text<'a>(document: &'a Document) -> DefinitionsText<'a>
     ensures { result.0.now ≡ document.now.definitions }
 {

@@ -11,7 +11,8 @@ use std::fmt;
 use std::fmt::{Formatter, Write};
 
 /// Writes selections of what stands further in by so many blanks, each on a line of its own, between an
-/// opening and its `}`, or nothing where there is none. The error is a sink's, or too many blanks.
+/// opening and its `}`. Where there is no selection, it writes nothing. The error is a sink's, or too many
+/// blanks.
 #[cycle(write_selections)]
 pub fn write_selections<W: Write>(
     f: &mut Formatter<W>,

@@ -50,8 +50,8 @@ pub enum ParseErrorKind {
     /// A number that ends where none may end.
     #[error("invalid number")]
     InvalidNumber,
-    /// A token that can't stand there: what alone may stand there, or the item that is being read, and the
-    /// token in backquotes, `a string`, `a block string` or `the end of the text`.
+    /// A token that can't stand there. `expected` is what alone may stand there, or the item that is being
+    /// read. `found` is the token in backquotes, `a string`, `a block string` or `the end of the text`.
     #[error("expected {expected}, found {found}")]
     Unexpected { expected: Text, found: Text },
     /// `on` as the name of a fragment, or `true`, `false` or `null` as an enum value in a definition.

@@ -29,8 +29,8 @@ pub struct LeafFault {
     pub parent_type: NamedType,
     /// The key of the field in a response: its alias, or else its name (section 2.7).
     pub response_key: Name,
-    /// The operation or fragment that the field stands in, by its own name, and the response keys of the fields
-    /// around it, its own key last.
+    /// First the operation or fragment that the field stands in, by its own name. Then the response keys of
+    /// the fields around the field, its own key last.
     pub path: SelectionPath,
     pub kind: LeafKind,
 }

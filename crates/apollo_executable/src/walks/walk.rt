@@ -11,8 +11,9 @@ use crate::walks::open_lists::OpenLists;
 use graphql_nodes::node::Node;
 use std::alloc::{AllocError, Global};
 
-/// A walk over the fields of a selection set. The turns that it took are those of the whole walk but those that are left, and one
-/// more where memory ran out in that turn; `turns` is their number, as far as it can tell it.
+/// A walk over the fields of a selection set. The turns that it took are those of the whole walk but those
+/// that are left. The turn in which memory ran out, if it did, is one more. `turns` is their number, as far
+/// as it can tell it.
 #[derive(Drop)]
 pub(crate) struct Walk<'doc> {
     start: &'doc SelectionSet,

@@ -150,8 +150,8 @@ fn fold_entry<T: Named + Drop>(
     Ok(())
 }
 
-/// Adds definitions under their names in order, with this origin, each unless its name is there, and a fault at the end for each
-/// whose name is. The error is out of memory.
+/// Adds definitions under their names in order, with this origin, each unless its name is there. For each
+/// whose name is there, it adds a fault at the end. The error is out of memory.
 pub fn fold_named<T: Named + Drop>(
     table: &mut Table<Name, Component<T>>,
     nodes: &[Node<T>],

@@ -37,8 +37,8 @@ pub trait Kind<Body: Copy>: Clone + Drop {
     fn bare(alloc: Global, keys: HashKeys, head: &PartView<'_>) -> Result<Self, AllocError>
         ensures { IfOk result (λ ty. (body : TypeBody) → ty ≡ made (part_with body head.now) []) };
 
-    /// Folds the components of a part with this body in under an origin, each unless it is there, and adds a fault at the end for
-    /// each that is. The error is out of memory.
+    /// Folds the components of a part with this body in under an origin, each unless it is there. For each
+    /// that is there, it adds a fault at the end. The error is out of memory.
     fn fold(
         &mut self,
         part: &PartView<'_>,

@@ -75,9 +75,10 @@ impl Schema {
         }
     }
 
-    /// The field of this name in the type of this name: the one that an object or interface type declares, or else a
-    /// meta-field. Object, interface and union types have `__typename`, and the type whose name is that of the root of
-    /// queries has `__schema` and `__type`, whatever its kind (sections 4.1 and 4.2). It takes no memory.
+    /// The field of this name in the type of this name: the one that an object or interface type declares, or
+    /// else a meta-field. Object, interface and union types have `__typename`. The type whose name is that of
+    /// the root of queries has `__schema` and `__type`, whatever its kind (sections 4.1 and 4.2). It takes no
+    /// memory.
     ///
     /// `NoSuchType` comes where the schema has no type of the name; `NoSuchField` where it has, with its key and the type.
     pub fn type_field<'schema>(

@@ -61,8 +61,9 @@ fn note_type(
 }
 
 impl Schema {
-    /// Under the name of each interface that a type declares, whether the schema has that or not, the object types and the
-    /// interface types that declare it (sections 3.6 and 3.7). Nothing is there through another interface.
+    /// Under the name of each interface that a type declares, the object types and the interface types that
+    /// declare it (sections 3.6 and 3.7). The name is there whether the schema has that interface or not.
+    /// Nothing is there through another interface.
     ///
     /// The names of interfaces stand in the order in which the types, in the schema's order, declare them first, each as it is
     /// written there. The types under each stand in the schema's order, by their keys. The map hashes as the schema's types do.
