@@ -1,4 +1,5 @@
-//! Texts as tokens: the lexical grammar of the GraphQL specification of October 2021, section 2.1 and appendix B.
+//! Texts as tokens: the lexical grammar of the GraphQL specification of October 2021, section 2.1 and
+//! appendix B.
 #![tactic(auto)]
 
 mod escapes;
