@@ -1,4 +1,5 @@
 """What the work on an input takes, by the built programs, and by others that do the same work, where they are."""
+import datetime
 import json
 import os
 import pathlib
@@ -80,18 +81,17 @@ def inputs(words, folder):
 
 
 def run(program, words, text=b""):
-    """A run that ends with status 0, or with faults alone."""
+    """A run that ends with status 0, or with faults alone, and so has an answer."""
     ended = programs.run(program, [os.fsencode(word) for word in words], text)
-    if ended.status not in (0, 1):
-        raise Failed(ended.errors.decode(errors="replace").strip().split("\n")[0] or f"status {ended.status}")
+    if ended.status not in (0, 1) or ended.status == 1 and not ended.output:
+        lines = ended.errors.decode(errors="replace").strip().split("\n")
+        raise Failed(next((line for line in lines if "Error: " in line), lines[0]) or f"status {ended.status}")
     return ended
 
 
 def whole(program, words):
     """The seconds of the processor of a whole run, and the mebibytes that it has at its highest."""
     ended = run(program, words)
-    if ended.status == 1 and not ended.output:
-        raise Failed(ended.errors.decode(errors="replace").strip().split("\n")[0])
     return {"whole": ended.seconds, "memory": ended.memory}
 
 
@@ -182,9 +182,16 @@ def least(runs):
     return {phase: (max if phase == "memory" else min)(it[phase] for it in runs if phase in it) for phase in sorted(phases)}
 
 
+def machine():
+    """The machine that this runs on, and what else it has to do."""
+    said = pathlib.Path("/proc/cpuinfo").read_text()
+    model = re.search(r"^model name\s*: (.*)$", said, re.MULTILINE)
+    return f"{os.cpu_count()} × {model[1] if model else 'processor'}, load {os.getloadavg()[0]:.1f}"
+
+
 def measure(words, folder, count, seconds):
     """What each input takes by each peer, as it is measured: an object for each input."""
-    its_peers = peers(folder)
+    its_peers, date, where = peers(folder), datetime.date.today().isoformat(), machine()
     for given in inputs(words, folder):
         runs, lacks = {peer: [] for peer in its_peers}, {}
         for _ in range(count):
@@ -196,4 +203,5 @@ def measure(words, folder, count, seconds):
                         lacks[peer] = str(why)
         sizes = [path.stat().st_size for path in (given.schema, given.documents) if path]
         times = {peer: least(its) for peer, its in runs.items() if its}
-        yield {"input": given.name, "bytes": sum(sizes), "times": times, "lacks": lacks}
+        said = {"date": date, "machine": where, "input": given.name, "bytes": sum(sizes)}
+        yield {**said, "times": times, "lacks": lacks}

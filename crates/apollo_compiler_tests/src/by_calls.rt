@@ -12,7 +12,7 @@ use likeness::{both, is_printed};
 use std::alloc::{AllocError, Global};
 use std::slice;
 
-/// What is told of a field whose definition has a directive with an argument, and of its selection.
+/// What is said of a field whose definition has a directive with an argument, and of its selection.
 fn told_of_query(alloc: Global) -> Result<String, ReadError> {
     let input = "operation query getProduct\nsel 0 field topProducts\nsel 1 field inStock\n";
     let documents = read(alloc, input)?;

@@ -100,7 +100,7 @@ fn each_build_has_its_faults_and_the_flag_counts(rt: HostRuntime) {
     );
 }
 
-/// The two builds of an input, each by its own call, told as those of [`told`].
+/// The two builds of an input, each by its own call, written as those of [`told`].
 fn told_of_builds(alloc: Global, input: &str) -> Result<String, Fail> {
     let mut text = String::new(alloc);
     let documents = read_divided(alloc, input)?;

@@ -1,4 +1,4 @@
-//! What is told of what documents are compiled to. One function owns what is compiled, which is dear to prove.
+//! What is said of what documents are compiled to. One function owns what is compiled, which is dear to prove.
 
 use apollo_compiler::{CompileOptions, Compiled, Document, ExecutableOptions, compile};
 use bench_notation::printing::print;
@@ -52,8 +52,7 @@ fn push_document(
     compiled.document.tell(text)
 }
 
-/// What is told of documents of both sorts, or the error.
-/// No clause: it serves tests.
+/// What is said of documents of both sorts, or the error.
 pub fn told(
     alloc: Global,
     options: CompileOptions,
@@ -73,15 +72,13 @@ pub fn told(
     Ok(text)
 }
 
-/// What is told of the documents of the type system that a text says.
-/// No clause: it serves tests.
+/// What is said of the documents of the type system that a text says.
 pub fn told_of(alloc: Global, options: CompileOptions, input: &str) -> Result<String, ReadError> {
     let documents = read(alloc, input)?;
     Ok(told(alloc, options, documents.as_slice(), &[])?)
 }
 
-/// What is told of one document of each sort, if there was memory for both.
-/// No clause: it serves tests.
+/// What is said of one document of each sort, if there was memory for both.
 pub fn told_of_both(
     alloc: Global,
     schema: Result<Document, AllocError>,
@@ -93,7 +90,6 @@ pub fn told_of_both(
 }
 
 /// Expects this text, if there was one to be read and memory for it.
-/// No clause: it serves tests.
 pub fn expect_told(rt: &impl Abort, told: Result<String, ReadError>, wanted: &str) {
     match told {
         Ok(text) => assert_eq!(rt; text.as_str(), wanted),

@@ -314,7 +314,7 @@ fn told_of_notation(alloc: Global, executable: &str) -> Option<String> {
     told(alloc, schema, executable, DEFINITION)
 }
 
-/// Expects the same to be told of both.
+/// Expects the same to be said of both.
 fn expect_same(rt: &impl Abort, of_text: Option<String>, of_notation: Option<String>) {
     match (of_text, of_notation) {
         (Some(of_text), Some(of_notation)) => {

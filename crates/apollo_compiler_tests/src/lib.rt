@@ -1,5 +1,7 @@
 //! Tests of documents that are compiled, of what no clause says: that calls succeed with memory, and what the notation can't say.
-//! Most compare a text that tells all that is looked at.
+//! Most compare a text that shows all that is looked at.
+//!
+//! What stands here serves tests: calls have no clause.
 #![tactic(auto)]
 
 #[cfg(test)]

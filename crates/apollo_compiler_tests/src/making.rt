@@ -11,7 +11,6 @@ use likeness::both;
 use std::alloc::{AllocError, Global};
 
 /// A name that is not checked.
-/// No clause: it serves tests.
 pub fn name(alloc: Global, text: &str) -> Result<Name, AllocError> {
     Name::new_unchecked(alloc, text)
 }
@@ -84,7 +83,6 @@ fn object(
 }
 
 /// An object type whose field has a directive with an argument, and the type `Query`.
-/// No clause: it serves tests.
 pub fn products(alloc: Global) -> Result<Document, AllocError> {
     let top = field(alloc, "topProducts", "Product", None);
     let query = object(alloc, "Query", top, None);
@@ -119,7 +117,6 @@ fn unchecked_extension(alloc: Global) -> Result<Node<ObjectTypeExtension>, Alloc
 }
 
 /// That extension, and the definition of the type behind it, whose field `→` is of a type of two words.
-/// No clause: it serves tests.
 pub fn unchecked_names(alloc: Global) -> Result<Document, AllocError> {
     let arrow = field(alloc, "→", "a b", None);
     document(
@@ -144,7 +141,6 @@ fn selections(alloc: Global) -> Result<Items<Selection>, AllocError> {
 
 /// A document of a fragment of the name of a space on the type of the empty name: the field `→` under an alias of two words, and
 /// a spread of the fragment itself.
-/// No clause: it serves tests.
 pub fn unchecked_fragment(alloc: Global) -> Result<Document, AllocError> {
     let names = both(name(alloc, " "), name(alloc, ""));
     let ((name, ty), selections) = both(names, selections(alloc))?;
@@ -163,7 +159,6 @@ const BUILT_IN: Option<SourceSpan> = Some(SourceSpan {
 });
 
 /// The definition of an object type and an extension of it, both marked built-in.
-/// No clause: it serves tests.
 pub fn marked(alloc: Global) -> Result<Document, AllocError> {
     let object = object(alloc, "T", field(alloc, "a", "Int", BUILT_IN), BUILT_IN);
     let added = field(alloc, "b", "Int", BUILT_IN);

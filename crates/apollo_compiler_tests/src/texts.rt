@@ -19,7 +19,6 @@ static SCHEMA: &str =
     "type Query { product: Product }\n\"\"\"\nWhat is sold.\n\"\"\"\ntype Product { id: ID }\nextend type Product { organization: Organization }\ntype Organization { id: ID }";
 
 /// The document of a text, that of the file of this number.
-/// No clause: it serves tests.
 pub fn read(alloc: Global, number: FileId, text: &str) -> Option<Document> {
     let file = SourceFile::new(alloc, "store.graphql", text).ok()?;
     let source = Shared::new(alloc, file).ok()?;

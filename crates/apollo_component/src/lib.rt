@@ -1,5 +1,8 @@
 //! Components of a schema: the parts of its types, each with the definition or extension that it comes from.
 //! The hidden modules serve the crates above, which write types out by them.
+//!
+//! Proved: each component knows its origin; extensions of one source have distinct numbers; of one name the
+//! first is kept.
 #![tactic(auto)]
 
 pub mod component;

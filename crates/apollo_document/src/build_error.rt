@@ -20,8 +20,8 @@ pub enum BuildError {
         name: Option<Name>,
         describe: StaticText,
     },
-    /// An anonymous operation beside others, at its node (section 2.3). It is told of a kept one for each named operation that
-    /// comes after it, and once for the further anonymous ones; and of each anonymous one that comes after a kept operation.
+    /// An anonymous operation beside others, at its node (section 2.3). It is reported of a kept one for each named operation
+    /// that comes after it, and once for the further anonymous ones; and of each anonymous one that comes after a kept operation.
     #[error("anonymous operation cannot be selected when the document contains other operations")]
     AmbiguousAnonymousOperation,
     /// An operation whose name a kept one has, at its name, with the kept name (section 2.3).

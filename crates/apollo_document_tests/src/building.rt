@@ -36,7 +36,7 @@ fn build(
 
 /// What is looked at of a document that was built, with its faults, beside a schema.
 pub trait View {
-    /// Adds what is told of it. The error is out of memory.
+    /// Adds what is said of it. The error is out of memory.
     fn view(
         &self,
         alloc: Global,

@@ -31,7 +31,6 @@ fn of_user<'schema>(
 }
 
 /// The document of one anonymous query of these selections.
-/// No clause: it serves tests.
 pub fn document_of(
     alloc: Global,
     selection_set: SelectionSet,

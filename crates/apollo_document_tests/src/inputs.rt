@@ -10,7 +10,7 @@ use std::test::Fail;
 
 /// What is looked at of documents over a schema.
 pub trait Account {
-    /// Adds what is told of them. The error is out of memory.
+    /// Adds what is said of them. The error is out of memory.
     fn tell(
         &self,
         alloc: Global,
@@ -42,7 +42,7 @@ fn tell_read<A: Account>(
     }
 }
 
-/// What is told of an input.
+/// What is said of an input.
 fn told<A: Account>(alloc: Global, account: &A, input: &str) -> Result<String, AllocError> {
     let mut text = String::new(alloc);
     match read_divided(alloc, input) {
@@ -53,7 +53,6 @@ fn told<A: Account>(alloc: Global, account: &A, input: &str) -> Result<String, A
 }
 
 /// Expects of the input of each row what stands beside it.
-/// No clause: it serves tests.
 pub fn expect<A: Account>(
     rt: &(impl Abort + AllocGlobal),
     account: &A,

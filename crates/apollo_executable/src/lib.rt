@@ -2,6 +2,9 @@
 //!
 //! A typed document is plain data, like the syntax tree: its fields are public, cloning it shares its nodes, and comparing
 //! it leaves locations out. Each selection set knows the type that it selects from, each field its definition.
+//!
+//! Proved: walks field by field; which queries are introspection; the operation that a request names; typed
+//! values as syntax.
 #![tactic(auto)]
 
 mod appending;

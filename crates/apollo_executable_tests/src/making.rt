@@ -11,19 +11,16 @@ use graphql_nodes::operation_type::OperationType;
 use std::alloc::{AllocError, Global};
 
 /// A name of this text.
-/// No clause: it serves tests.
 pub fn name(alloc: Global, text: &str) -> Result<Name, AllocError> {
     Name::new_unchecked(alloc, text)
 }
 
 /// No selections, of the type `Query`.
-/// No clause: it serves tests.
 pub fn empty(alloc: Global) -> Result<SelectionSet, AllocError> {
     Ok(SelectionSet::new(alloc, name(alloc, "Query")?))
 }
 
 /// A field of this name, with a definition of its own, of the type `Query`.
-/// No clause: it serves tests.
 pub fn field(alloc: Global, text: &str) -> Result<Field, AllocError> {
     let definition = FieldDefinition {
         description: None,
@@ -36,7 +33,6 @@ pub fn field(alloc: Global, text: &str) -> Result<Field, AllocError> {
 }
 
 /// An operation with these selections.
-/// No clause: it serves tests.
 pub fn operation(
     alloc: Global,
     operation_type: OperationType,

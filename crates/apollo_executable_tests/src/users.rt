@@ -21,7 +21,6 @@ const SCHEMA: &str =
     "def object Query\nfield id ID\nfield user User\narg id ID\ndef object User\nfield id ID\nfield name String\nfield profilePic URL\narg size Int\ndef scalar URL\n";
 
 /// The schema that typed documents are made over.
-/// No clause: it serves tests.
 pub fn users_schema(alloc: Global) -> Result<Schema, Fail> {
     let documents = read(alloc, SCHEMA)?;
     let mut builder = Schema::builder(alloc)?;
@@ -71,7 +70,6 @@ fn field<'schema>(
 }
 
 /// The selection of the field of this name, in this set.
-/// No clause: it serves tests.
 pub fn selected<'schema>(
     alloc: Global,
     schema: &'schema Schema,
@@ -185,7 +183,6 @@ fn picture<'schema>(
 }
 
 /// The document of the query `GetUser` and of the fragment `Picture`.
-/// No clause: it serves tests.
 pub fn users_document<'schema>(
     alloc: Global,
     schema: &'schema Schema,

@@ -4,6 +4,8 @@
 //! A field goes by its coordinate: the type of the set in which it stands, and its name. So `me { name }`
 //! on a schema's query type reaches `Query.me` and `User.name`, wherever they stand, and under whatever
 //! alias.
+//!
+//! Proved: the fields that an operation reaches, each once, in the order of walks, with how often.
 #![tactic(auto)]
 
 pub mod counting;

@@ -3,6 +3,8 @@
 //!
 //! After a refusal nothing is said of what a step was to change, that is of types, tables, faults and the source of numbers: drop
 //! them. What is read stays.
+//!
+//! Proved: each step of a build does what the meaning says of it, with its faults.
 #![tactic(auto)]
 
 pub mod adoption;

@@ -2,6 +2,8 @@
 //! specification of October 2021, section 3.
 //!
 //! The meaning stands in `specs/`. Here are the faults as values, and the laws of the definitions.
+//!
+//! Proved: which schema a list of definitions means, and which faults it has.
 #![tactic(auto)]
 
 pub mod build_error;

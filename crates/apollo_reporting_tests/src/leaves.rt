@@ -34,7 +34,6 @@ fn missing_subselections_are_reported(rt: HostRuntime) {
 }
 
 /// A field of a fragment with subselections that it must not have.
-/// No clause: it serves tests.
 pub(crate) fn on_leaf(alloc: Global) -> Result<LeafFault, AllocError> {
     let mut path = SelectionPath {
         root: ExecutableDefinitionName::Fragment(Name::new_unchecked(alloc, "Cover")?),

@@ -1,4 +1,6 @@
 //! Tests of reports: what comes of texts with faults.
+//!
+//! What stands here serves tests: calls have no clause.
 #![tactic(auto)]
 
 #[cfg(test)]

@@ -45,7 +45,6 @@ pub(crate) enum Form {
 }
 
 /// What is reported of a fault.
-/// No clause: it serves tests.
 pub(crate) fn reported<S: Sources, E: Reported>(
     alloc: Global,
     form: Form,
@@ -81,7 +80,6 @@ fn file(alloc: Global, path: &str, text: &str) -> Result<Shared<SourceFile>, All
 }
 
 /// Sources whose one file, that of the number 7, has this text.
-/// No clause: it serves tests.
 pub(crate) fn sources_of(alloc: Global, path: &str, text: &str) -> Result<SourceMap, AllocError> {
     let mut sources = Table::new(alloc);
     sources.insert(FileId(7), file(alloc, path, text)?)?;
@@ -89,14 +87,12 @@ pub(crate) fn sources_of(alloc: Global, path: &str, text: &str) -> Result<Source
 }
 
 /// The document of a text, that of the file of this number.
-/// No clause: it serves tests.
 pub(crate) fn read(alloc: Global, number: FileId, path: &str, text: &str) -> Option<Document> {
     let source = file(alloc, path, text).ok()?;
     parse_document(alloc, number, &source, ParseOptions::new()).ok()
 }
 
 /// What is reported of the refusal of a text.
-/// No clause: it serves tests.
 pub(crate) fn reported_of_text(alloc: Global, form: Form, text: &str) -> Option<String> {
     let source = file(alloc, "refused.graphql", text).ok()?;
     let Err(error) = parse_document(alloc, FileId(7), &source, LIMITS) else {
@@ -107,7 +103,6 @@ pub(crate) fn reported_of_text(alloc: Global, form: Form, text: &str) -> Option<
 }
 
 /// What is reported of the faults of a schema.
-/// No clause: it serves tests.
 pub(crate) fn reported_of_schema(alloc: Global, form: Form, text: &str) -> Option<String> {
     let document = read(alloc, FileId(1), "store.graphql", text)?;
     let documents = slice::from_ref(&document);
@@ -132,7 +127,6 @@ fn store(alloc: Global) -> Option<Schema> {
 }
 
 /// What is reported of the faults of a document over the schema of [`STORE`].
-/// No clause: it serves tests.
 pub(crate) fn reported_of_document(alloc: Global, form: Form, text: &str) -> Option<String> {
     reported_over(alloc, form, &store(alloc)?, text)
 }
@@ -148,7 +142,6 @@ fn leaves(alloc: Global, text: &str) -> Option<(ExecutableDocument, Vec<LeafFaul
 }
 
 /// What is reported of the first leaf fault of a document over the schema of [`STORE`].
-/// No clause: it serves tests.
 pub(crate) fn reported_of_leaf(alloc: Global, form: Form, text: &str) -> Option<String> {
     let (typed, faults) = leaves(alloc, text)?;
     let fault = faults.first()?;

@@ -31,7 +31,6 @@ fn reported(alloc: Global, sort: Sort, form: Form, text: &str) -> Option<String>
 }
 
 /// A text without its line ends.
-/// No clause: it serves tests.
 pub(crate) fn joined(alloc: Global, lines: &str) -> Result<String, AllocError> {
     let mut text = String::new(alloc);
     for line in lines.lines() {
@@ -49,7 +48,6 @@ fn is_reported(alloc: Global, sort: Sort, row: &Row) -> Option<bool> {
 }
 
 /// The text of the first row whose fault is reported in another way.
-/// No clause: it serves tests.
 pub(crate) fn first_wrong(alloc: Global, sort: Sort, rows: &[Row]) -> Option<&'static str> {
     for row in rows {
         if is_reported(alloc, sort, row) != Some(true) {

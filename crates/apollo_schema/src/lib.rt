@@ -1,4 +1,7 @@
 //! Schemas, built from documents of the type system: GraphQL specification of October 2021, section 3.
+//!
+//! Proved: `build` answers exactly the schema that the list means, and its faults; what each lookup finds;
+//! `==` decides whether schemas are equal.
 #![tactic(auto)]
 
 pub mod build_failure;

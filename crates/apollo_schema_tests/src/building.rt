@@ -38,7 +38,6 @@ pub const ADOPTING: Settings = Settings {
 pub type Built = Result<Schema, BuildFailure>;
 
 /// The schema that was built, whatever is at fault.
-/// No clause: it serves tests.
 pub fn schema_in(built: &Built) -> Option<&Schema> {
     match built {
         Ok(schema) => Some(schema),
@@ -48,8 +47,7 @@ pub fn schema_in(built: &Built) -> Option<&Schema> {
 }
 
 /// A builder with these settings.
-/// No clause: it serves tests.
-pub fn begun(alloc: Global, settings: &Settings) -> Result<SchemaBuilder, AllocError> {
+pub fn builder_with(alloc: Global, settings: &Settings) -> Result<SchemaBuilder, AllocError> {
     let source = ExtensionSource::starting_at(settings.first_number);
     if settings.adopts {
         return Ok(SchemaBuilder::with_source(alloc, source)?.adopt_orphan_extensions());
@@ -63,7 +61,6 @@ fn add(builder: &mut SchemaBuilder, document: &Document) -> Result<(), BuilderEr
 }
 
 /// Adds each document.
-/// No clause: it serves tests.
 pub fn add_all(builder: &mut SchemaBuilder, documents: &[Document]) {
     for document in documents {
         // After a refusal no schema is built.
@@ -72,19 +69,17 @@ pub fn add_all(builder: &mut SchemaBuilder, documents: &[Document]) {
 }
 
 /// What documents build with these settings.
-/// No clause: it serves tests.
 pub fn built_of(
     alloc: Global,
     settings: &Settings,
     documents: &[Document],
 ) -> Result<Built, AllocError> {
-    let mut builder = begun(alloc, settings)?;
+    let mut builder = builder_with(alloc, settings)?;
     add_all(&mut builder, documents);
     Ok(builder.build())
 }
 
 /// Whether documents build this schema with these settings.
-/// No clause: it serves tests.
 pub fn is_built_of(
     alloc: Global,
     settings: &Settings,
@@ -154,7 +149,6 @@ fn push_found(text: &mut String, found: &WithErrors<Schema>) -> Result<(), Alloc
 }
 
 /// Adds all that is said of what is built.
-/// No clause: it serves tests.
 pub fn push_built(alloc: Global, text: &mut String, built: &Built) -> Result<(), AllocError> {
     match built {
         Ok(_) => {}
@@ -208,7 +202,7 @@ fn tell(
     settings: &Settings,
     documents: &[Document],
 ) -> Result<(), AllocError> {
-    let mut builder = begun(alloc, settings)?;
+    let mut builder = builder_with(alloc, settings)?;
     let added = push_adding(text, &mut builder, documents);
     let copy: Result<SchemaBuilder, AllocError> = builder.clone();
     let told = push_account(alloc, text, builder);
@@ -219,7 +213,6 @@ fn tell(
 }
 
 /// What a builder of the documents says and builds.
-/// No clause: it serves tests.
 pub fn told(
     alloc: Global,
     settings: &Settings,
@@ -234,8 +227,7 @@ pub fn told(
     Ok(text)
 }
 
-/// Expects this to be told of the documents that a text says.
-/// No clause: it serves tests.
+/// Expects this to be said of the documents that a text says.
 pub fn expect(rt: &(impl Abort + AllocGlobal), settings: &Settings, input: &str, account: &str) {
     let documents = read(rt.alloc(), input).expect(rt, "documents");
     let text = told(rt.alloc(), settings, documents.as_slice()).expect(rt, "memory");

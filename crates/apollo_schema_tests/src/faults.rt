@@ -1,6 +1,6 @@
 //! Faults of schema definitions, and refusals.
 
-use crate::building::{PLAIN, Settings, add_all, begun, expect};
+use crate::building::{PLAIN, Settings, add_all, builder_with, expect};
 use apollo_component::extension::IdsSpent;
 use apollo_folding::builder_error::BuilderError;
 use bench_notation::reading::read;
@@ -76,7 +76,7 @@ fn a_source_is_handed_back(rt: HostRuntime) {
 fn after_the_last_number_none_is_drawn(rt: HostRuntime) {
     let input = "def object T\next object T\nfield a Int";
     let documents = read(rt.alloc(), input).expect(&rt, "documents");
-    let mut builder = begun(rt.alloc(), &NEARLY_SPENT).expect(&rt, "memory");
+    let mut builder = builder_with(rt.alloc(), &NEARLY_SPENT).expect(&rt, "memory");
     add_all(&mut builder, documents.as_slice());
     let (built, mut source) = builder.build_with_source();
     assert!(rt; built.is_ok() && source.draw(None) == Err(IdsSpent));

@@ -1,5 +1,7 @@
 //! Tests of schemas and their builder, of what the proofs don't show: that calls succeed with memory, and the
-//! texts of faults. Most compare a text that tells all that is looked at.
+//! texts of faults. Most compare a text that shows all that is looked at.
+//!
+//! What stands here serves tests: calls have no clause.
 #![tactic(auto)]
 
 #[cfg(test)]

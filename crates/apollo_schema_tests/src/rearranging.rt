@@ -41,7 +41,7 @@ fn in_order(alloc: Global, document: &Document, order: &[usize]) -> Result<Docum
     Ok(other)
 }
 
-/// Expects this to be told of a document that a text says, and of its definitions in another order.
+/// Expects this to be said of a document that a text says, and of its definitions in another order.
 fn expect(
     rt: &(impl Abort + AllocGlobal),
     settings: &Settings,

@@ -1,4 +1,7 @@
 //! The types of a schema, each with the origin of its components, and how they are written out again.
+//!
+//! Proved: a type is written out as its definition and one extension for each that gave it something; so is
+//! the schema definition.
 #![tactic(auto)]
 
 mod components;

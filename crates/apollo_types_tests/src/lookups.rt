@@ -110,7 +110,7 @@ fn push_lookup(
     }
 }
 
-/// Expects this to be told of the fields of these types and names.
+/// Expects this to be said of the fields of these types and names.
 fn expect_fields(
     rt: &(impl Abort + AllocGlobal),
     input: &str,

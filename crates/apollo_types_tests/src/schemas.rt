@@ -13,7 +13,6 @@ fn is_added(builder: &mut SchemaBuilder, document: &Document) -> bool {
 }
 
 /// The schema of the documents that a text says, if it says documents, and they have no fault.
-/// No clause: it serves tests.
 pub fn schema_of(alloc: Global, input: &str) -> Option<Schema> {
     let documents = read(alloc, input).ok()?;
     let mut builder = Schema::builder(alloc).ok()?;
@@ -26,7 +25,6 @@ pub fn schema_of(alloc: Global, input: &str) -> Option<Schema> {
 }
 
 /// A type made of a copy of this one's value, in a node of its own. A copy of the type shares its node.
-/// No clause: it serves tests.
 pub fn made_again(alloc: Global, ty: &ExtendedType) -> Result<ExtendedType, AllocError> {
     match ty {
         ExtendedType::Scalar(node) => ExtendedType::of_scalar(alloc, (**node).clone()?),

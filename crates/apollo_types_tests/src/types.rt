@@ -52,7 +52,7 @@ fn made_of(alloc: Global, schema: &Schema) -> Result<Schema, AllocError> {
     Schema::from_parts(alloc, sources, definition, directives, types)
 }
 
-/// Expects this to be told of the origins in the schema of a text. Copies of its parts make an equal schema.
+/// Expects this to be said of the origins in the schema of a text. Copies of its parts make an equal schema.
 fn expect_origins(rt: &(impl Abort + AllocGlobal), input: &str, expected: &str) {
     let schema = schema_of(rt.alloc(), input).expect(rt, "a schema");
     let mut text = String::new(rt.alloc());

@@ -45,7 +45,7 @@ pub(crate) fn take_words<'a>(
     words.clear();
     let mut from = 0;
     for (at, byte) in text.as_bytes().iter().enumerate() {
-        // A letter ends nothing: it is told by one look.
+        // A letter ends nothing: one look shows that.
         if *byte <= b' ' {
             if *byte == b'\n' {
                 words.push(&text[from..at])?;

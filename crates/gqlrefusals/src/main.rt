@@ -1,4 +1,4 @@
-//! `gqlrefusals`: calls that can want memory, each in a scenario that tells its answer in full, or, where a request for memory
+//! `gqlrefusals`: calls that can run out of memory, each in a scenario that writes its answer in full, or, where a request for memory
 //! was refused, looks at what is promised after that. No function has a clause: the program is a test, whose answers are
 //! compared, with ample memory and with each request refused in turn.
 #![tactic(auto)]
@@ -58,7 +58,7 @@ fn write_out(rt: &HostRuntime, text: &str) -> io::Result<()> {
     output.flush()
 }
 
-/// Writes what was told, or says why nothing was. `Done` is the answer where memory was ample; `Exhausted` where a request was
+/// Writes what was said, or says why nothing was. `Done` is the answer where memory was ample; `Exhausted` where a request was
 /// refused and all stands that is promised after that; `Faults` where something else came.
 fn ended(rt: &HostRuntime, told: Result<bool, Stop>, text: &str) -> Status {
     match told {

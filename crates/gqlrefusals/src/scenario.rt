@@ -1,4 +1,4 @@
-//! The scenarios: one for each call, or for calls of one sort, that can want memory.
+//! The scenarios: one for each call, or for calls of one sort, that can run out of memory.
 
 use crate::documents::{self, OfBuilt, OfDocuments};
 use crate::sets::OfSet;

@@ -26,7 +26,11 @@ pub enum OfBuilder {
 }
 
 /// A builder that has taken nothing, over a source that starts at this number, or over one of its own.
-fn begun(alloc: Global, adopts: bool, first: Option<u64>) -> Result<SchemaBuilder, AllocError> {
+fn empty_builder(
+    alloc: Global,
+    adopts: bool,
+    first: Option<u64>,
+) -> Result<SchemaBuilder, AllocError> {
     let builder = match first {
         Some(first) => SchemaBuilder::with_source(alloc, ExtensionSource::starting_at(first))?,
         None => SchemaBuilder::new(alloc)?,
@@ -101,7 +105,7 @@ fn taken(
     first: Option<u64>,
     documents: &[Document],
 ) -> Result<SchemaBuilder, Stop> {
-    let mut builder = begun(alloc, adopts, first)?;
+    let mut builder = empty_builder(alloc, adopts, first)?;
     if take_all(text, &mut builder, documents)? {
         return Err(failed(builder));
     }
@@ -159,7 +163,6 @@ fn tell_end(text: &mut String, builder: SchemaBuilder, first: u64, question: OfB
 }
 
 /// Asks something of a builder that has taken the documents of an input.
-/// No clause: it serves tests.
 pub fn ask(alloc: Global, text: &mut String, input: Input, question: OfBuilder) -> Told {
     let documents = read(alloc, input.text)?;
     let first = match question {
@@ -171,7 +174,6 @@ pub fn ask(alloc: Global, text: &mut String, input: Input, question: OfBuilder) 
 }
 
 /// `SchemaBuilder::new`: its orphan names, and what is built of no document.
-/// No clause: it serves tests.
 pub fn new(alloc: Global, text: &mut String) -> Told {
     let builder = SchemaBuilder::new(alloc)?;
     push_orphans(text, &builder)?;
@@ -179,7 +181,6 @@ pub fn new(alloc: Global, text: &mut String) -> Told {
 }
 
 /// The schema of documents, whatever is at fault.
-/// No clause: it serves tests.
 pub fn schema_of(alloc: Global, adopts: bool, documents: &[Document]) -> Result<Schema, Stop> {
     let mut orphans = String::new(alloc);
     match taken(alloc, &mut orphans, adopts, None, documents)?.build() {

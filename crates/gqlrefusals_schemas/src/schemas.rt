@@ -81,7 +81,7 @@ fn tell_extensions(
     tell_line(text, ids)
 }
 
-/// Asks something of a type. What is to be written behind what others are goes there, and is told at the end.
+/// Asks something of a type. What is to be written behind what others are goes there, and is written at the end.
 fn ask_type(
     alloc: Global,
     text: &mut String,
@@ -123,7 +123,6 @@ fn ask_schema(alloc: Global, text: &mut String, schema: &Schema, question: OfSch
 }
 
 /// Asks something of the schema of an input.
-/// No clause: it serves tests.
 pub fn ask(alloc: Global, text: &mut String, input: Input, question: OfSchema) -> Told {
     let documents = read(alloc, input.text)?;
     let schema = schema_of(alloc, input.adopts, documents.as_slice())?;

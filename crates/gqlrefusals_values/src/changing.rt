@@ -10,7 +10,7 @@ pub trait Change<T> {
     fn make(&self, alloc: Global, value: &mut T) -> Told;
 }
 
-/// What a call leaves as it was: how the value was told before, with room to tell it once more without a request for memory.
+/// What a call leaves as it was: how the value was written before, with room to write it once more without a request for memory.
 #[derive(Drop)]
 struct Before {
     told: String,
@@ -24,7 +24,7 @@ fn remembered<T: Tell>(alloc: Global, value: &T) -> Result<Before, AllocError> {
     Ok(Before { told, room })
 }
 
-/// Whether a value is told as before.
+/// Whether a value is written as before.
 fn is_as_before<T: Tell>(before: &mut Before, value: &T) -> bool {
     value.tell(&mut before.room).is_ok() && before.room.as_str() == before.told.as_str()
 }

@@ -302,7 +302,6 @@ pub enum Changed {
 }
 
 /// Changes values of this sort.
-/// No clause: it serves tests.
 pub fn tell_changes(alloc: Global, text: &mut String, changed: Changed) -> Told {
     match changed {
         Changed::Node => try_change(alloc, text, definition(alloc)?, &Rename),

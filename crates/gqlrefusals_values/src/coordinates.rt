@@ -84,7 +84,6 @@ fn read_as(alloc: Global, text: &mut String, input: &str, form: Form) -> Told {
 }
 
 /// Reads each text.
-/// No clause: it serves tests.
 pub fn read_all(alloc: Global, text: &mut String, form: Form) -> Told {
     for input in &TEXTS {
         read_as(alloc, text, *input, form)?;
@@ -114,7 +113,6 @@ fn cut_attribute(alloc: Global, text: &mut String) -> Told {
 
 /// `TypeAttributeCoordinate::type_coordinate`, `FieldArgumentCoordinate::type_coordinate`,
 /// `FieldArgumentCoordinate::field_coordinate` and `DirectiveArgumentCoordinate::directive_coordinate`.
-/// No clause: it serves tests.
 pub fn cut(alloc: Global, text: &mut String) -> Told {
     cut_attribute(alloc, text)?;
     let directive = DirectiveCoordinate::from(name(alloc, "d")?);

@@ -37,7 +37,6 @@ static NAMES: [&str; 7] = [
 ];
 
 /// `Name::new`.
-/// No clause: it serves tests.
 pub fn names(alloc: Global, text: &mut String) -> Told {
     for input in &NAMES {
         tell_name(alloc, text, *input)?;
@@ -46,7 +45,6 @@ pub fn names(alloc: Global, text: &mut String) -> Told {
 }
 
 /// `Node::same_location` and `ExtensionId::same_location`.
-/// No clause: it serves tests.
 pub fn same_location(alloc: Global, text: &mut String) -> Told {
     let node = node(alloc, name(alloc, "a")?, 12)?;
     tell_line(text, node.same_location(alloc, name(alloc, "bb")?))?;
@@ -57,7 +55,6 @@ pub fn same_location(alloc: Global, text: &mut String) -> Told {
 }
 
 /// `MetaFields::new`.
-/// No clause: it serves tests.
 pub fn meta_fields(alloc: Global, text: &mut String) -> Told {
     let fields = MetaFields::new(alloc)?;
     fields.typename().tell(text)?;
@@ -118,7 +115,6 @@ fn spread_with_directives(alloc: Global) -> Result<FragmentSpread, AllocError> {
 
 /// The calls that make selections without a schema: `Selection::of_field`, `Selection::of_inline_fragment`,
 /// `Selection::of_fragment_spread`.
-/// No clause: it serves tests.
 pub fn selections_made(alloc: Global, text: &mut String) -> Told {
     tell_line(text, Selection::of_field(alloc, filled_field(alloc)?))?;
     tell_line(text, Selection::of_inline_fragment(alloc, inline(alloc)?))?;
@@ -138,7 +134,6 @@ fn tell_one(alloc: Global, text: &mut String, name: &str) -> Told {
 }
 
 /// `OperationMap::from_one`, of a named operation and of an anonymous one.
-/// No clause: it serves tests.
 pub fn from_one(alloc: Global, text: &mut String) -> Told {
     tell_one(alloc, text, "A")?;
     tell_one(alloc, text, "-")

@@ -21,19 +21,16 @@ fn location(line: usize) -> SourceSpan {
 }
 
 /// A node at a location.
-/// No clause: it serves tests.
 pub fn node<T: Drop>(alloc: Global, value: T, line: usize) -> Result<Node<T>, AllocError> {
     Node::new_opt_location(alloc, value, Some(location(line)))
 }
 
 /// A name with a location.
-/// No clause: it serves tests.
 pub fn name(alloc: Global, text: &str) -> Result<Name, AllocError> {
     Ok(Name::new_unchecked(alloc, text)?.with_location(location(text.len())))
 }
 
 /// The definition of a field, with locations.
-/// No clause: it serves tests.
 pub fn definition(alloc: Global) -> Result<Node<FieldDefinition>, AllocError> {
     let definition = FieldDefinition {
         description: None,
@@ -46,20 +43,17 @@ pub fn definition(alloc: Global) -> Result<Node<FieldDefinition>, AllocError> {
 }
 
 /// A spread, with locations.
-/// No clause: it serves tests.
 pub fn spread(alloc: Global, text: &str) -> Result<Selection, AllocError> {
     let spread = FragmentSpread::new(alloc, name(alloc, text)?);
     Ok(Selection::FragmentSpread(node(alloc, spread, 4)?))
 }
 
 /// A set without selections.
-/// No clause: it serves tests.
 pub fn empty_set(alloc: Global) -> Result<SelectionSet, AllocError> {
     Ok(SelectionSet::new(alloc, name(alloc, "Query")?))
 }
 
 /// A directive, with locations.
-/// No clause: it serves tests.
 pub fn directive(alloc: Global, text: &str) -> Result<Node<Directive>, AllocError> {
     node(alloc, Directive::new(alloc, name(alloc, text)?), 6)
 }
@@ -80,7 +74,6 @@ fn operation_of(
 }
 
 /// The name of an operation, or none for `-`.
-/// No clause: it serves tests.
 pub fn operation_name(alloc: Global, text: &str) -> Result<Option<Name>, AllocError> {
     if text == "-" {
         return Ok(None);
@@ -89,7 +82,6 @@ pub fn operation_name(alloc: Global, text: &str) -> Result<Option<Name>, AllocEr
 }
 
 /// An operation of this name, or an anonymous one for `-`.
-/// No clause: it serves tests.
 pub fn operation(alloc: Global, text: &str) -> Result<Node<Operation>, AllocError> {
     let name = operation_name(alloc, text)?;
     let mut set = empty_set(alloc)?;
@@ -98,7 +90,6 @@ pub fn operation(alloc: Global, text: &str) -> Result<Node<Operation>, AllocErro
 }
 
 /// Whether two operations are the same, at the same location.
-/// No clause: it serves tests.
 pub fn are_same(first: &Node<Operation>, second: &Node<Operation>) -> bool {
     *first == *second && first.location() == second.location()
 }

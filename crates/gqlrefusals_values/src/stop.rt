@@ -48,9 +48,8 @@ impl From<BuilderError> for Stop {
 }
 
 /// Goes on where this is so, and is wrong where it isn't.
-/// No clause: it serves tests.
-pub fn expect(is_so: bool, otherwise: &'static str) -> Told {
-    if is_so {
+pub fn expect(holds: bool, otherwise: &'static str) -> Told {
+    if holds {
         Ok(())
     } else {
         Err(Stop::Wrong(otherwise))
@@ -58,7 +57,6 @@ pub fn expect(is_so: bool, otherwise: &'static str) -> Told {
 }
 
 /// What a refusal of memory comes to, where this is so of what the call hands back or left as it was.
-/// No clause: it serves tests.
 pub fn handed_back(is_right: bool) -> Stop {
     if is_right {
         Stop::Memory
@@ -68,7 +66,6 @@ pub fn handed_back(is_right: bool) -> Stop {
 }
 
 /// Tells what was made.
-/// No clause: it serves tests.
 pub fn tell_made<T: Tell + Drop>(text: &mut String, made: Result<T, AllocError>) -> Told {
     match made {
         Ok(value) => Ok(value.tell(text)?),
@@ -77,7 +74,6 @@ pub fn tell_made<T: Tell + Drop>(text: &mut String, made: Result<T, AllocError>)
 }
 
 /// Tells what was made, on a line of its own.
-/// No clause: it serves tests.
 pub fn tell_line<T: Tell + Drop>(text: &mut String, made: Result<T, AllocError>) -> Told {
     tell_made(text, made)?;
     Ok(text.push_str("\n")?)

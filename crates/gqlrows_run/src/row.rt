@@ -71,7 +71,7 @@ fn add_line<'a>(row: &mut Row<'a>, mark: &str, text: &'a str) -> Result<(), Allo
 
 /// Adds the rows of a text to those before it. What is said of the text begins with `place`.
 ///
-/// `Refused` is told of the first line that says nothing where it stands, or has the title of an earlier row.
+/// `Refused` is answered of the first line that says nothing where it stands, or has the title of an earlier row.
 pub fn read_rows<'a>(
     alloc: Global,
     place: &str,

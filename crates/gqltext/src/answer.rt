@@ -38,7 +38,7 @@ impl Sort {
 #[derive(Clone, Copy)]
 pub(crate) struct Asked {
     pub(crate) sort: Sort,
-    /// Whether it is printed, or else told as a tree.
+    /// Whether it is printed, or else written as a tree.
     pub(crate) prints: bool,
     pub(crate) options: ParseOptions,
 }

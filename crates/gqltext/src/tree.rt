@@ -16,13 +16,13 @@ use graphql_nodes::operation_type::OperationType;
 use graphql_nodes::source::SourceSpan;
 use std::alloc::AllocError;
 
-/// What can be told.
+/// What can be written as a tree.
 pub(crate) trait Tell {
     /// Adds all of it. The error is out of memory.
     fn tell(&self, text: &mut String) -> Result<(), AllocError>;
 }
 
-/// A word is told as it is.
+/// A word is written as it is.
 impl Tell for &str {
     fn tell(&self, text: &mut String) -> Result<(), AllocError> {
         write!(text, "{self} ")

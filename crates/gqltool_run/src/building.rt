@@ -4,7 +4,7 @@ ghost use Rattle.bench_notation.specs.Line.{IsLine, lines_of};
 ghost use Rattle.gqltool_run.specs.Building.{IsBuilt, IsCause, IsCompiledInput};
 
 use crate::failure::Failure;
-use crate::leaving::leave;
+use crate::leaving::leave_to_exit;
 use apollo_compiler::building::build_schema;
 use apollo_compiler::compile_options::CompileOptions;
 use apollo_compiler::compiled::Compiled;
@@ -33,7 +33,7 @@ pub fn build_input(
 {
     let documents = read(alloc, input)?;
     let built = build_schema(alloc, keys, options, documents.as_slice())?;
-    leave(documents);
+    leave_to_exit(documents);
     Ok(built)
 }
 
@@ -53,6 +53,6 @@ pub fn compile_input(
 {
     let documents = read(alloc, input)?;
     let compiled = compile_with_keys(alloc, keys, options, documents.as_slice(), &[], true)?;
-    leave(documents);
+    leave_to_exit(documents);
     Ok(compiled)
 }

@@ -9,7 +9,7 @@ use crate::answer::Answer;
 use crate::building::build_input;
 use crate::failure::Failure;
 use crate::fault_printing::push_faults;
-use crate::leaving::leave;
+use crate::leaving::leave_to_exit;
 use crate::output_line::push_line;
 use apollo_compiler::compile_options::CompileOptions;
 use apollo_coordinate::coordinates::SchemaCoordinate;
@@ -37,7 +37,7 @@ pub fn coord_answer(
     push_coordinate(alloc, &mut text, coordinate)?;
     let is_found = push_finding(alloc, &mut text, coordinate, &schema)?;
     push_faults(alloc, &mut text, faults.as_slice())?;
-    leave(schema);
+    leave_to_exit(schema);
     Ok(Answer {
         text,
         has_faults: !(is_found && faults.is_empty()),

@@ -8,7 +8,7 @@ use crate::answer::Answer;
 use crate::document_building::{compile_documents, has_faults};
 use crate::failure::Failure;
 use crate::fault_printing::push_faults;
-use crate::leaving::leave;
+use crate::leaving::leave_to_exit;
 use bench_notation::printing::print;
 use graphql_nodes::collections::hash_keys::HashKeys;
 use std::alloc::Global;
@@ -30,6 +30,6 @@ pub fn doc_answer(alloc: Global, keys: HashKeys, input: &str) -> Result<Answer, 
         text,
         has_faults: has_faults(&compiled),
     };
-    leave(compiled);
+    leave_to_exit(compiled);
     Ok(answer)
 }

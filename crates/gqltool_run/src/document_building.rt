@@ -5,7 +5,7 @@ ghost use Rattle.bench_notation.specs.Line.{IsLine, lines_of};
 ghost use Rattle.gqltool_run.specs.DocumentBuilding.{IsCompiledDivided, IsDocumentCause};
 
 use crate::failure::Failure;
-use crate::leaving::leave;
+use crate::leaving::leave_to_exit;
 use apollo_compiler::compile_options::CompileOptions;
 use apollo_compiler::compiled::Compiled;
 use apollo_compiler::compiling::compile_with_keys;
@@ -41,6 +41,6 @@ pub fn compile_documents(alloc: Global, keys: HashKeys, input: &str) -> Result<C
         documents.executable.as_slice(),
         true,
     )?;
-    leave(documents);
+    leave_to_exit(documents);
     Ok(compiled)
 }

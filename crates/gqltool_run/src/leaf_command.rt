@@ -9,7 +9,7 @@ use crate::answer::Answer;
 use crate::document_building::{compile_documents, has_faults};
 use crate::failure::Failure;
 use crate::fault_printing::{push_faults, push_location};
-use crate::leaving::leave;
+use crate::leaving::leave_to_exit;
 use apollo_compiler::compiled::Compiled;
 use graphql_nodes::collections::hash_keys::HashKeys;
 use leafcheck::checking::leaf_faults;
@@ -35,7 +35,7 @@ pub fn leaf_answer(alloc: Global, keys: HashKeys, input: &str) -> Result<Answer,
         text,
         has_faults: is_at_fault(&compiled, faults.as_slice()),
     };
-    leave(compiled);
+    leave_to_exit(compiled);
     Ok(answer)
 }
 

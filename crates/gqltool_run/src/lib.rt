@@ -1,4 +1,7 @@
 //! The whole run of the program `gqltool`: [`run`](running::run).
+//!
+//! Proved: standard output is exactly the answer to the words and the input; a refused run writes nothing
+//! there, and has a cause.
 #![tactic(auto)]
 
 pub mod answer;

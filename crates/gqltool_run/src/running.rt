@@ -8,7 +8,7 @@ ghost use Rattle.gqltool_run.specs.Status.{Writes, status_of};
 use crate::answer::Answer;
 use crate::answering::prepare;
 use crate::failure::Failure;
-use crate::leaving::leave;
+use crate::leaving::leave_to_exit;
 use crate::outlet::CutShort;
 use crate::prepared::Prepared;
 use crate::walk_command::walk_answer;
@@ -101,7 +101,7 @@ fn end_with_walks<O: Write, E: Write>(
 {
     match walk_answer(alloc, &compiled, output) {
         Ok(last) => {
-            leave(compiled);
+            leave_to_exit(compiled);
             end_with_answer(&last, output, errors)
         }
         Err(CutShort::Memory) => end_without_answer(Failure::Memory, errors),

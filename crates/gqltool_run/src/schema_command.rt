@@ -10,7 +10,7 @@ use crate::answer::Answer;
 use crate::building::compile_input;
 use crate::failure::Failure;
 use crate::fault_printing::push_faults;
-use crate::leaving::leave;
+use crate::leaving::leave_to_exit;
 use apollo_compiler::compile_options::CompileOptions;
 use bench_notation::printing::print;
 use graphql_nodes::collections::hash_keys::HashKeys;
@@ -37,6 +37,6 @@ pub fn schema_answer(
         text,
         has_faults: !compiled.schema_faults.is_empty(),
     };
-    leave(compiled);
+    leave_to_exit(compiled);
     Ok(answer)
 }

@@ -14,7 +14,7 @@ use crate::answer::Answer;
 use crate::document_building::has_faults;
 use crate::failure::Failure;
 use crate::fault_printing::say_faults;
-use crate::leaving::leave;
+use crate::leaving::leave_to_exit;
 use crate::outlet::{CutShort, Kept, Outlet};
 use crate::output_line::push_line;
 use apollo_compiler::compiled::Compiled;
@@ -64,7 +64,7 @@ pub(crate) fn whole_walk_answer(alloc: Global, compiled: Compiled) -> Result<Ans
 {
     match walk_answer(alloc, &compiled, &mut Kept) {
         Ok(answer) => {
-            leave(compiled);
+            leave_to_exit(compiled);
             Ok(answer)
         }
         // Nothing goes out, so memory is all that can be wanting.

@@ -4,7 +4,7 @@ use crate::sources::one;
 use crate::tables::expect_at;
 use graphql_nodes::line_column::LineColumn;
 use graphql_nodes::source::{FileId, SourceFile, SourceMap, SourceSpan};
-use likeness::is_so;
+use likeness::is_made_right;
 use std::alloc::Global;
 
 /// Texts, and the line and column of each offset up to the end: of none, of each line terminator, of two that touch, and of
@@ -81,7 +81,7 @@ fn are_found(sources: &SourceMap) -> bool {
 
 #[test]
 fn lines_and_columns_of_spans(rt: HostRuntime) {
-    assert!(rt; is_so(one(rt.alloc(), 1, "a\r\nb"), are_found));
+    assert!(rt; is_made_right(one(rt.alloc(), 1, "a\r\nb"), are_found));
 }
 
 #[test]

@@ -6,7 +6,6 @@ use likeness::is_copied;
 use std::alloc::{AllocError, Global};
 
 /// Whether the elements are these.
-/// No clause: it serves tests.
 pub fn are(items: &[i32], wanted: &[i32]) -> bool {
     items == wanted
 }

@@ -15,7 +15,6 @@ pub const PLACE: SourceSpan = SourceSpan {
 };
 
 /// The node of this value, if there was memory for the value, at a location if one is given.
-/// No clause: it serves tests.
 pub fn node<T: Drop>(
     alloc: Global,
     value: Result<T, AllocError>,
@@ -25,7 +24,6 @@ pub fn node<T: Drop>(
 }
 
 /// The name of this text, at a location if one is given.
-/// No clause: it serves tests.
 pub fn name(alloc: Global, text: &str, location: Option<SourceSpan>) -> Result<Name, AllocError> {
     let name = Name::new_unchecked(alloc, text)?;
     match location {
@@ -35,7 +33,6 @@ pub fn name(alloc: Global, text: &str, location: Option<SourceSpan>) -> Result<N
 }
 
 /// A list of this value alone, if there was memory for the value.
-/// No clause: it serves tests.
 pub fn list<T: Drop>(alloc: Global, value: Result<T, AllocError>) -> Result<Items<T>, AllocError> {
     let mut list = Items::new(alloc);
     list.push(value?)?;
@@ -43,7 +40,6 @@ pub fn list<T: Drop>(alloc: Global, value: Result<T, AllocError>) -> Result<Item
 }
 
 /// A list of both values, if there was memory for each.
-/// No clause: it serves tests.
 pub fn pair<T: Drop>(
     alloc: Global,
     first: Result<T, AllocError>,

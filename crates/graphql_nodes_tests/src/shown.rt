@@ -4,7 +4,6 @@ use std::alloc::Global;
 use std::fmt::Debug;
 
 /// Whether there is memory to show the value, and this is how it is shown.
-/// No clause: it serves tests.
 pub fn is_shown<T: Debug>(alloc: Global, value: &T, text: &str) -> bool {
     match format!(in alloc; "{value:?}") {
         Ok(shown) => shown.as_str() == text,

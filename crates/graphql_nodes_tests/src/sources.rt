@@ -6,7 +6,6 @@ use graphql_nodes::source::{FileId, SourceFile, SourceMap, merge_sources};
 use std::alloc::{AllocError, Global};
 
 /// The sources of one file of this text, under this number.
-/// No clause: it serves tests.
 pub fn one(alloc: Global, number: u64, text: &str) -> Result<SourceMap, AllocError> {
     let file = Shared::new(alloc, SourceFile::new(alloc, "a.graphql", text)?)?;
     let mut sources = Table::new(alloc);

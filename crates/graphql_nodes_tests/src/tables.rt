@@ -3,7 +3,6 @@
 use std::process::Abort;
 
 /// Expects that it holds at this text.
-/// No clause: it serves tests.
 pub fn expect_at(rt: &impl Abort, text: &str, holds: bool) {
     assert!(rt; holds, "at {text}");
 }

@@ -1,4 +1,6 @@
 //! GraphQL trees as text, in the layout of `print` of graphql-js 16.
+//!
+//! Proved: trees are written exactly as their text, without memory of their own.
 #![tactic(auto)]
 
 pub mod arguments;

@@ -14,7 +14,6 @@ use likeness::both;
 use std::alloc::{AllocError, Global};
 
 /// The node of this integer, at the location.
-/// No clause: it serves tests.
 pub fn number(alloc: Global, text: &str) -> Result<Node<Value>, AllocError> {
     node(alloc, int(alloc, text), Some(PLACE))
 }
@@ -26,7 +25,6 @@ fn argument(alloc: Global, value: &str) -> Result<Node<Argument>, AllocError> {
 }
 
 /// The type `Int`, or `Int!` where it is required.
-/// No clause: it serves tests.
 pub fn int_type(alloc: Global, required: bool) -> Result<Type, AllocError> {
     let int = name(alloc, "Int", None)?;
     Ok(if required {
@@ -37,7 +35,6 @@ pub fn int_type(alloc: Global, required: bool) -> Result<Type, AllocError> {
 }
 
 /// An argument definition of the type `Int`, or `Int!` where it is required, with a description.
-/// No clause: it serves tests.
 pub fn defined(
     alloc: Global,
     text: &str,
@@ -104,11 +101,11 @@ const ANSWERS: &[(&str, Option<(bool, Option<&str>)>, &str)] = &[
 #[test]
 fn an_argument_is_the_first_given_or_answered_by_its_definition(rt: HostRuntime) {
     for (name, definition, want) in ANSWERS {
-        let is_so = match definition {
+        let is_right = match definition {
             Some((required, default)) => is_answer_of(rt.alloc(), name, *required, *default, want),
             None => is_answer(rt.alloc(), name, None, want),
         };
-        assert!(rt; is_so == Ok(true), "at {want}");
+        assert!(rt; is_right == Ok(true), "at {want}");
     }
 }
 
@@ -130,7 +127,6 @@ fn directive(alloc: Global) -> Result<DirectiveDefinition, AllocError> {
 }
 
 /// The field `pages` of the type `Page`.
-/// No clause: it serves tests.
 pub fn field(alloc: Global) -> Result<FieldDefinition, AllocError> {
     let parts = both(name(alloc, "Page", None), definitions(alloc));
     let (name, (ty, arguments)) = both(name(alloc, "pages", None), parts)?;

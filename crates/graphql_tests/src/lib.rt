@@ -4,6 +4,8 @@
 //! What a test compares stands in functions that borrow and answer whether it holds: these are cheap to prove. What is dear
 //! to prove is what owns a tree or a definition, so generic functions own them, which are proved once for all types. A closure, a
 //! function that is handed in and a test that answers `Fail` are each proved as further functions.
+//!
+//! What stands here serves tests: calls have no clause.
 #![tactic(auto)]
 
 #[cfg(test)]

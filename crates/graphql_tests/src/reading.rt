@@ -41,7 +41,7 @@ fn divided_again(alloc: Global, input: &str) -> Result<String, ReadError> {
     Ok(text)
 }
 
-/// Expects what is told of a text that is read, or that the error says so.
+/// Expects what is said of a text that is read, or that the error says so.
 fn expect_told(rt: &(impl Abort + AllocGlobal), told: Result<String, ReadError>, wanted: &str) {
     match told {
         Ok(text) => assert_eq!(rt; text.as_str(), wanted),

@@ -21,14 +21,12 @@ fn ids(alloc: Global, location: Option<SourceSpan>) -> Result<Node<Value>, Alloc
 }
 
 /// The value `{ids: [$id, ONE]}`, all at one location.
-/// No clause: it serves tests.
 pub fn value(alloc: Global, location: Option<SourceSpan>) -> Result<Value, AllocError> {
     let member = both(name(alloc, "ids", location), ids(alloc, location));
     Ok(Value::Object(list(alloc, member)?))
 }
 
 /// The integer of this text.
-/// No clause: it serves tests.
 pub fn int(alloc: Global, text: &str) -> Result<Value, AllocError> {
     Ok(Value::Int(Text::from_str(alloc, text)?))
 }

@@ -1,4 +1,6 @@
 //! Tests of GraphQL texts: their tokens, the values of strings, and their trees.
+//!
+//! What stands here serves tests: calls have no clause.
 #![tactic(auto)]
 
 #[cfg(test)]

@@ -31,7 +31,7 @@ fn told(alloc: Global, input: &str) -> Result<String, AllocError> {
     Ok(text)
 }
 
-/// Whether each text is read as is told beside it.
+/// Whether each text is read as is said beside it.
 fn are_read(alloc: Global, rows: &[(&str, &str)]) -> Result<bool, AllocError> {
     for (input, expected) in rows {
         if told(alloc, *input)?.as_str() != *expected {

@@ -59,8 +59,7 @@ fn told_text(
     }
 }
 
-/// Whether each text is read, or refused, as is told beside it.
-/// No clause: it serves tests.
+/// Whether each text is read, or refused, as is said beside it.
 pub(crate) fn are_told(
     alloc: Global,
     whole: Whole,

@@ -9,7 +9,6 @@ use std::alloc::Global;
 use std::test::Fail;
 
 /// The definitions of a text that is read; none of another text.
-/// No clause: it serves tests.
 pub(crate) fn definitions(alloc: Global, text: &str) -> Items<Definition> {
     match parse_definitions(alloc, FILE, text, ParseOptions::new()) {
         Ok(read) => read,

@@ -1,4 +1,4 @@
-//! The values of strings and block strings, told by hand.
+//! The values of strings and block strings, written by hand.
 
 use graphql_tokens::values::{block_string_value, string_value};
 use std::alloc::{AllocError, Global};
@@ -30,7 +30,7 @@ const BLOCK_STRINGS: [(&str, &str); 8] = [
     ("\"\"\"\n  a\n\n b\"\"\"", " a\n\nb"),
 ];
 
-/// Whether each string has the value that is told beside it.
+/// Whether each string has the value that is said beside it.
 fn strings_mean(alloc: Global, rows: &[(&str, &str)]) -> Result<bool, AllocError> {
     for (token, expected) in rows {
         if string_value(alloc, *token)?.as_str() != *expected {
@@ -40,7 +40,7 @@ fn strings_mean(alloc: Global, rows: &[(&str, &str)]) -> Result<bool, AllocError
     Ok(true)
 }
 
-/// Whether each block string has the value that is told beside it.
+/// Whether each block string has the value that is said beside it.
 fn block_strings_mean(alloc: Global, rows: &[(&str, &str)]) -> Result<bool, AllocError> {
     for (token, expected) in rows {
         if block_string_value(alloc, *token)?.as_str() != *expected {

@@ -3,6 +3,9 @@
 //!
 //! It stands on public contracts of schemas, typed documents and the faults of their build alone, as a validator of another
 //! house would.
+//!
+//! Proved: exactly the fields that lack subselections or must not have them are reported, over any schema and
+//! document.
 #![tactic(auto)]
 
 mod around;

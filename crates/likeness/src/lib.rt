@@ -16,13 +16,11 @@ fn hash_of<T: Hash>(value: &T) -> u64 {
 }
 
 /// Whether the values are equal, and so are their hashes.
-/// No clause: it serves tests.
 pub fn are_alike<T: PartialEq + Hash>(first: &T, second: &T) -> bool {
     *first == *second && hash_of(first) == hash_of(second)
 }
 
 /// Whether there was memory for both values, and they are equal and so are their hashes.
-/// No clause: it serves tests.
 pub fn are_made_alike<T: PartialEq + Hash + Drop>(
     first: Result<T, AllocError>,
     second: Result<T, AllocError>,
@@ -34,7 +32,6 @@ pub fn are_made_alike<T: PartialEq + Hash + Drop>(
 }
 
 /// Whether the values are equal, if there was memory for both.
-/// No clause: it serves tests.
 pub fn are_equal<T: PartialEq + Drop>(
     first: Result<T, AllocError>,
     second: Result<T, AllocError>,
@@ -46,7 +43,6 @@ pub fn are_equal<T: PartialEq + Drop>(
 }
 
 /// Whether there was memory, and what was made is equal to the value.
-/// No clause: it serves tests.
 pub fn is_made<T: PartialEq + Drop>(made: Result<T, AllocError>, value: &T) -> bool {
     match made {
         Ok(other) => other == *value,
@@ -55,8 +51,7 @@ pub fn is_made<T: PartialEq + Drop>(made: Result<T, AllocError>, value: &T) -> b
 }
 
 /// Whether there was memory for the value, and it is right.
-/// No clause: it serves tests.
-pub fn is_so<T: Drop, F: FnOnce(&T) -> bool + Drop>(
+pub fn is_made_right<T: Drop, F: FnOnce(&T) -> bool + Drop>(
     made: Result<T, AllocError>,
     is_right: F,
 ) -> bool
@@ -69,13 +64,11 @@ pub fn is_so<T: Drop, F: FnOnce(&T) -> bool + Drop>(
 }
 
 /// Whether a copy is made, and is equal.
-/// No clause: it serves tests.
 pub fn is_copied<T: Clone + PartialEq + Drop>(value: &T) -> bool {
     is_made(value.clone(), value)
 }
 
 /// Whether there was memory for the value, and it has an equal copy.
-/// No clause: it serves tests.
 pub fn is_made_copied<T: Clone + PartialEq + Drop>(made: Result<T, AllocError>) -> bool {
     match made {
         Ok(value) => is_copied(&value),
@@ -84,7 +77,6 @@ pub fn is_made_copied<T: Clone + PartialEq + Drop>(made: Result<T, AllocError>) 
 }
 
 /// Whether there was memory for the node, and what it holds has an equal copy. A copy of the node shares it.
-/// No clause: it serves tests.
 pub fn is_held_copied<T: Clone + PartialEq + Drop>(made: Result<Node<T>, AllocError>) -> bool {
     match made {
         Ok(node) => is_copied(&*node),
@@ -93,7 +85,6 @@ pub fn is_held_copied<T: Clone + PartialEq + Drop>(made: Result<Node<T>, AllocEr
 }
 
 /// Whether there was memory for the value, and it has an equal copy, which is right.
-/// No clause: it serves tests.
 pub fn is_copied_so<T: Clone + PartialEq + Drop, F: FnOnce(&T) -> bool + Drop>(
     made: Result<T, AllocError>,
     is_right: F,
@@ -110,7 +101,6 @@ pub fn is_copied_so<T: Clone + PartialEq + Drop, F: FnOnce(&T) -> bool + Drop>(
 }
 
 /// Whether there is memory to print the value, and this is how it is printed.
-/// No clause: it serves tests.
 pub fn is_printed<T: Display>(alloc: Global, value: &T, text: &str) -> bool {
     match value.to_string(alloc) {
         Ok(printed) => printed.as_str() == text,
@@ -119,7 +109,6 @@ pub fn is_printed<T: Display>(alloc: Global, value: &T, text: &str) -> bool {
 }
 
 /// Adds a location: the number of its file, and from where to where it goes, or where it is if both are the same. `-` is none.
-/// No clause: it serves tests.
 pub fn push_location(text: &mut String, location: Option<SourceSpan>) -> Result<(), AllocError> {
     match location {
         Some(span) => {
@@ -136,14 +125,12 @@ pub fn push_location(text: &mut String, location: Option<SourceSpan>) -> Result<
 }
 
 /// Adds a copy of a value to a list.
-/// No clause: it serves tests.
 pub fn push_copy<T: Clone + Drop>(list: &mut Items<T>, value: &T) -> Result<(), AllocError> {
     let copy = value.clone()?;
     list.push(copy)
 }
 
 /// Both values, if there was memory for each.
-/// No clause: it serves tests.
 pub fn both<A: Drop, B: Drop>(
     first: Result<A, AllocError>,
     second: Result<B, AllocError>,

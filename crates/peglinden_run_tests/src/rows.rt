@@ -76,7 +76,6 @@ input Place {
 ";
 
 /// How a run over these files and this input ends.
-/// No clause: it serves tests.
 pub fn ended<O: Write, E: Write>(
     alloc: Global,
     words: &[&str],
@@ -98,7 +97,6 @@ pub fn ended<O: Write, E: Write>(
 }
 
 /// Expects of a row on this input what it says.
-/// No clause: it serves tests.
 pub fn expect(rt: &(impl Abort + AllocGlobal), row: &Row, input: &[u8]) {
     let mut output = Vec::new(rt.alloc());
     let mut errors = Vec::new(rt.alloc());
@@ -109,7 +107,6 @@ pub fn expect(rt: &(impl Abort + AllocGlobal), row: &Row, input: &[u8]) {
 }
 
 /// Expects of each row, without an input, what it says.
-/// No clause: it serves tests.
 pub fn expect_all(rt: &(impl Abort + AllocGlobal), rows: &[Row]) {
     for row in rows {
         expect(rt, row, b"");

@@ -1,4 +1,6 @@
 //! The words of the command line of `peglinden`: what they ask for, and the texts of help and of mistakes.
+//!
+//! Proved: what each command line asks for, or that it asks for nothing.
 #![tactic(auto)]
 
 mod arguments;

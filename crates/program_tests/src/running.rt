@@ -12,7 +12,6 @@ use std::io::Write;
 use std::process::Abort;
 
 /// How a run ends.
-/// No clause: it serves tests.
 pub fn ended<R: Input, O: Write, E: Write>(
     alloc: Global,
     words: &[&str],
@@ -24,7 +23,6 @@ pub fn ended<R: Input, O: Write, E: Write>(
 }
 
 /// Expects a run to write this, to say that and to end so.
-/// No clause: it serves tests.
 pub fn expect_run<R: Input>(
     rt: &(impl Abort + AllocGlobal),
     words: &[&str],
@@ -42,7 +40,6 @@ pub fn expect_run<R: Input>(
 }
 
 /// What is answered on these bytes.
-/// No clause: it serves tests.
 pub fn answer_on(alloc: Global, words: &[&str], bytes: &[u8]) -> Result<Answer, Failure> {
     answer_to(alloc, HashKeys::FIXED, words, &mut BytesAtHand(bytes))
 }

@@ -1,4 +1,4 @@
-//! Words, names, nodes, and the containers of trees. Of an option and a list what is there is told, and nothing around it.
+//! Words, names, nodes, and the containers of trees. Of an option and a list what is there is written, and nothing around it.
 
 use crate::Tell;
 use graphql_nodes::collections::items::Items;
@@ -13,7 +13,7 @@ use likeness::push_location;
 use std::alloc::AllocError;
 use std::hash::Hash;
 
-/// A word is told as it is, without a space behind it.
+/// A word is written as it is, without a space behind it.
 impl Tell for &str {
     fn tell(&self, text: &mut String) -> Result<(), AllocError> {
         text.push_str(*self)
@@ -91,7 +91,6 @@ impl<T: Tell> Tell for &[T] {
 }
 
 /// Tells each value of a list. A slice in a variable goes to this function, since a method would lend the variable.
-/// No clause: it serves tests.
 pub fn tell_all<T: Tell>(values: &[T], text: &mut String) -> Result<(), AllocError> {
     for value in values {
         value.tell(text)?;

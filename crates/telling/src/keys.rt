@@ -22,7 +22,6 @@ fn is_type_keyed(ty: &ExtendedType, keys: HashKeys) -> bool {
 }
 
 /// Whether each table of the schema hashes by these keys.
-/// No clause: it serves tests.
 pub fn is_schema_keyed(schema: &Schema, keys: HashKeys) -> bool {
     schema.sources.hash_keys() == keys
         && schema.directive_definitions.hash_keys() == keys
@@ -31,7 +30,6 @@ pub fn is_schema_keyed(schema: &Schema, keys: HashKeys) -> bool {
 }
 
 /// Whether each table of the document hashes by these keys.
-/// No clause: it serves tests.
 pub fn is_document_keyed(document: &ExecutableDocument, keys: HashKeys) -> bool {
     document.operations.named.hash_keys() == keys
         && document.fragments.hash_keys() == keys

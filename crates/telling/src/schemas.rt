@@ -1,4 +1,4 @@
-//! Types and schemas. Of what is built in, only what isn't as in every schema is told in full.
+//! Types and schemas. Of what is built in, only what isn't as in every schema is written in full.
 
 use crate::Tell;
 use crate::containers::At;
@@ -124,7 +124,6 @@ fn push_definitions(text: &mut String, schema: &Schema, all: bool) -> Result<(),
 }
 
 /// Adds what a schema has that isn't as in every schema.
-/// No clause: it serves tests.
 pub fn push_own(text: &mut String, schema: &Schema) -> Result<(), AllocError> {
     tell!(text; schema.sources, schema.schema_definition)?;
     push_definitions(text, schema, false)

@@ -6,7 +6,7 @@ use apollo_executable::{Field, FieldWalk};
 use graphql_nodes::node::Node;
 use std::alloc::AllocError;
 
-/// More fields than any walk gives that is told.
+/// More fields than any walk gives that is written.
 const MANY: usize = 1000;
 
 /// How a walk ended.
@@ -26,7 +26,6 @@ fn push_field(text: &mut String, field: &Node<Field>) -> Result<(), AllocError> 
 }
 
 /// Adds fields that were collected.
-/// No clause: it serves tests.
 pub fn push_fields(text: &mut String, fields: &[&Node<Field>]) -> Result<(), AllocError> {
     for field in fields {
         push_field(text, *field)?;
@@ -35,7 +34,6 @@ pub fn push_fields(text: &mut String, fields: &[&Node<Field>]) -> Result<(), All
 }
 
 /// Adds the fields that a walk gives, one by one. The error is out of memory for the text.
-/// No clause: it serves tests.
 pub fn push_walk(text: &mut String, walk: &mut FieldWalk<'_>) -> Result<End, AllocError> {
     for _ in 0..MANY {
         match walk.next() {

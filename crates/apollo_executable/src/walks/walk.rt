@@ -50,7 +50,7 @@ impl<'doc> Walk<'doc> {
         }
     }
 
-    /// The turns so far, as far as they can be told.
+    /// The turns so far, as far as they can be said.
     pub(crate) fn turns(&self) -> u64
         ensures turns { result ≡ min (seen self.now).taken (2 ^ 64 - 1) }
         ensures few { IsWithinTurns self.now.lists.deep self.now.lists.document.now self.now.start.now
