@@ -1,8 +1,8 @@
 -- What `==` compares: names and nodes without their locations, tables and sets as what they have under each
 -- key.
 --
--- **Bare value.** A value without the location of any name or node in it, without the origins of
--- components, and without the sources of a document or schema. `==` of each type is true exactly where
+-- **Bare value.** A value without the location of any name or node in it. It also has no origins of
+-- components, and no sources of a document or schema. `==` of each type is true exactly where
 -- the two bare values are the same (`ComparesBy`). So equality keeps the order of lists, and sees all
 -- texts, and the locations that a `BuildError` has beside its names.
 --

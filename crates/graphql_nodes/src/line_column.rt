@@ -40,8 +40,8 @@ impl LineColumn {
     pub(crate) const FIRST: LineColumn = LineColumn { line: 1, column: 1 };
 }
 
-/// The line and column of an offset within a text, or at its end, counted on from an offset before, where
-/// this is its line and column.
+/// The line and column of an offset within a text, or at its end. It is counted on from an offset before,
+/// whose line and column are given.
 pub(crate) fn counted(text: &[u8], from: usize, start: LineColumn, offset: usize) -> LineColumn
     requires forward { from ≤ offset }
     requires within { offset ≤ length text.now }

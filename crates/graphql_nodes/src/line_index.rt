@@ -38,9 +38,8 @@ impl<'a> LineIndex<'a> {
         Ok(LineIndex { text, milestones })
     }
 
-    /// The line and column of a byte offset of the text, as
-    /// [`SourceFile::get_line_column`](crate::source::SourceFile::get_line_column) counts them, and none for
-    /// an offset beyond the end of the text.
+    /// The line and column of a byte offset of the text, none for an offset beyond its end. They are counted
+    /// as [`SourceFile::get_line_column`](crate::source::SourceFile::get_line_column) does.
     pub fn get_line_column(&self, offset: usize) -> Option<LineColumn>
         ensures { result ≡ line_column_of self.now.text.now offset }
     {

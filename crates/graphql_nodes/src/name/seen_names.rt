@@ -22,7 +22,7 @@ struct Seen {
     text: Rc<NameText>,
 }
 
-/// Texts of names that were seen. A text has a slot by its hash, and the first of a slot keeps it, so a name
+/// Texts of names that were seen. A text has a slot by its hash, and the first of a slot keeps it. So a name
 /// takes one look, whatever names there are.
 #[derive(Drop)]
 pub struct SeenNames {
