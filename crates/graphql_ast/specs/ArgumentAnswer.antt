@@ -7,6 +7,7 @@ use Rattle.graphql_ast.specs.declared.value.Value.{Value}
 use Rattle.graphql_ast.specs.declared.argument.ArgumentByNameError.{ArgumentByNameError}
 
 -- the result refers to this value, or is this error
-abbrev pub Answers : Result (Option (NodeView Value)) ArgumentByNameError → Result (Option (Bor (NodeView Value))) ArgumentByNameError → Type 0
+abbrev pub Answers : Result (Option (NodeView Value)) ArgumentByNameError
+    → Result (Option (Bor (NodeView Value))) ArgumentByNameError → Type 0
 Answers answer (Ok v) = answer ≡ Ok (option_copied v)
 Answers answer (Err e) = answer ≡ Err e

@@ -15,15 +15,20 @@ use Rattle.graphql_ast.specs.declared.value.Value.{Value}
 use Rattle.graphql_ast.specs.declared.directive.Argument.{Argument}
 use Rattle.graphql_ast.specs.declared.type_system.InputValueDefinition.{InputValueDefinition}
 use Rattle.graphql_ast.specs.declared.argument.ArgumentByNameError.{ArgumentByNameError}
-use Rattle.graphql_ast.specs.declared.argument.ArgumentByNameError.TheVariants.{RequiredArgumentNotSpecified, NoSuchArgument}
+use Rattle.graphql_ast.specs.declared.argument.ArgumentByNameError.TheVariants.{RequiredArgumentNotSpecified}
+use Rattle.graphql_ast.specs.declared.argument.ArgumentByNameError.TheVariants.{NoSuchArgument}
 
 -- the first argument definition of the name
-abbrev pub defined_argument : List (NodeView InputValueDefinition) → NameView → Option (NodeView InputValueDefinition)
-defined_argument arguments n = find (λ (a : NodeView InputValueDefinition). same_text a.value.name n) arguments
+abbrev pub defined_argument : List (NodeView InputValueDefinition) → NameView
+    → Option (NodeView InputValueDefinition)
+defined_argument arguments n =
+    find (λ (a : NodeView InputValueDefinition). same_text a.value.name n) arguments
 
 -- the value of the first argument of the name
 abbrev pub specified_value : List (NodeView Argument) → NameView → Option (NodeView Value)
-specified_value arguments n = option_map (λ (a : NodeView Argument). a.value.value) (find (λ (a : NodeView Argument). same_text a.value.name n) arguments)
+specified_value arguments n =
+    option_map (λ (a : NodeView Argument). a.value.value)
+    (find (λ (a : NodeView Argument). same_text a.value.name n) arguments)
 
 -- without a default value: none, which a required type doesn't allow
 abbrev pub without_default : Bool → Result (Option (NodeView Value)) ArgumentByNameError
@@ -36,11 +41,13 @@ by_default (Some v) required = Ok (Some v)
 by_default None required = without_default required
 
 -- what the argument's definition gives, if it has one
-abbrev pub by_definition : Option (NodeView InputValueDefinition) → Result (Option (NodeView Value)) ArgumentByNameError
+abbrev pub by_definition : Option (NodeView InputValueDefinition)
+    → Result (Option (NodeView Value)) ArgumentByNameError
 by_definition None = Err NoSuchArgument
 by_definition (Some d) = by_default d.value.default_value (is_required d.value.ty.value)
 
 -- the specified value, else what the definition gives
-abbrev pub argument_value : Option (NodeView Value) → Option (NodeView InputValueDefinition) → Result (Option (NodeView Value)) ArgumentByNameError
+abbrev pub argument_value : Option (NodeView Value) → Option (NodeView InputValueDefinition)
+    → Result (Option (NodeView Value)) ArgumentByNameError
 argument_value (Some v) d = Ok (Some v)
 argument_value None d = by_definition d

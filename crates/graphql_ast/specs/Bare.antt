@@ -20,7 +20,8 @@ value_step (Value-F.Float t) = roll-Value (Value-F.Float t)
 value_step (Value-F.Int t) = roll-Value (Value-F.Int t)
 value_step (Value-F.Boolean b) = roll-Value (Value-F.Boolean b)
 value_step (Value-F.List items) = roll-Value (Value-F.List (map (bare_node (λ v. v)) items))
-value_step (Value-F.Object members) = roll-Value (Value-F.Object (map (λ m. (bare_name m.0, bare_node (λ v. v) m.1)) members))
+value_step (Value-F.Object members) =
+    roll-Value (Value-F.Object (map (λ m. (bare_name m.0, bare_node (λ v. v) m.1)) members))
 
 -- a value without locations
 abbrev pub bare_value : Value → Value

@@ -4,9 +4,13 @@ use Rattle.std.specs.Prelude.{None, map, option_map}
 use Rattle.graphql_nodes.specs.Comparing.{bare_name, bare_node}
 use Rattle.graphql_ast.specs.Bare.{bare_directive}
 use Rattle.graphql_ast.specs.BareDocuments.{bare_operation_definition, bare_fragment_definition}
-use Rattle.graphql_ast.specs.BareTypeSystem.{bare_field_definition, bare_enum_value_definition, bare_input_value_definition, bare_root_operation, bare_directive_definition}
-use Rattle.graphql_ast.specs.Declarations.{Declaration, OfType, OfSchema, OfDirective, OfOperation, OfFragment}
-use Rattle.graphql_ast.specs.Parts.{Sort, Directives, Names, Fields, Values, InputFields, Roots, Item, listed, with_lists}
+use Rattle.graphql_ast.specs.BareTypeSystem.{bare_field_definition, bare_enum_value_definition}
+use Rattle.graphql_ast.specs.BareTypeSystem.{bare_input_value_definition, bare_root_operation}
+use Rattle.graphql_ast.specs.BareTypeSystem.{bare_directive_definition}
+use Rattle.graphql_ast.specs.Declarations.{Declaration, OfType, OfSchema, OfDirective, OfOperation}
+use Rattle.graphql_ast.specs.Declarations.{OfFragment}
+use Rattle.graphql_ast.specs.Parts.{Sort, Directives, Names, Fields, Values, InputFields, Roots, Item, listed}
+use Rattle.graphql_ast.specs.Parts.{with_lists}
 use Rattle.graphql_ast.specs.declared.parts.Parts.{Parts}
 
 -- one of this sort without locations

@@ -11,13 +11,16 @@ use Rattle.graphql_ast.specs.declared.selection.FragmentSpread.{FragmentSpread}
 
 -- a fragment spread without locations
 abbrev pub bare_fragment_spread : FragmentSpread → FragmentSpread
-bare_fragment_spread s = record { fragment_name = bare_name s.fragment_name; directives = bare_directive_list s.directives }
+bare_fragment_spread s =
+    record { fragment_name = bare_name s.fragment_name; directives = bare_directive_list s.directives }
 
 -- one level of a selection, where what is inside its node is bare
 abbrev pub selection_step : Selection-F Selection Field InlineFragment → Selection
 selection_step (Selection-F.Field n) = roll-Selection (Selection-F.Field (bare_node (λ f. f) n))
-selection_step (Selection-F.FragmentSpread n) = roll-Selection (Selection-F.FragmentSpread (bare_node bare_fragment_spread n))
-selection_step (Selection-F.InlineFragment n) = roll-Selection (Selection-F.InlineFragment (bare_node (λ f. f) n))
+selection_step (Selection-F.FragmentSpread n) =
+    roll-Selection (Selection-F.FragmentSpread (bare_node bare_fragment_spread n))
+selection_step (Selection-F.InlineFragment n) =
+    roll-Selection (Selection-F.InlineFragment (bare_node (λ f. f) n))
 
 -- one level of a field, where its selections are bare
 abbrev pub field_step : Field-F Selection Field InlineFragment → Field
@@ -47,4 +50,5 @@ bare_field = fold-Field Selection Field InlineFragment selection_step field_step
 
 -- an inline fragment without locations, and so what is below it
 abbrev pub bare_inline_fragment : InlineFragment → InlineFragment
-bare_inline_fragment = fold-InlineFragment Selection Field InlineFragment selection_step field_step inline_step
+bare_inline_fragment =
+    fold-InlineFragment Selection Field InlineFragment selection_step field_step inline_step

@@ -26,19 +26,45 @@ use Rattle.graphql_ast.specs.declared.type_system.InputObjectTypeExtension.{Inpu
 
 -- the definition of an argument or input field without locations
 abbrev pub bare_input_value_definition : InputValueDefinition → InputValueDefinition
-bare_input_value_definition d = record { description = option_map bare_name d.description; name = bare_name d.name; ty = bare_node bare_type d.ty; default_value = option_map (bare_node bare_value) d.default_value; directives = bare_directive_list d.directives }
+bare_input_value_definition d =
+    record {
+      description = option_map bare_name d.description;
+      name = bare_name d.name;
+      ty = bare_node bare_type d.ty;
+      default_value = option_map (bare_node bare_value) d.default_value;
+      directives = bare_directive_list d.directives;
+    }
 
 -- the definition of a field without locations
 abbrev pub bare_field_definition : FieldDefinition → FieldDefinition
-bare_field_definition d = record { description = option_map bare_name d.description; name = bare_name d.name; arguments = map (bare_node bare_input_value_definition) d.arguments; ty = bare_type d.ty; directives = bare_directive_list d.directives }
+bare_field_definition d = record {
+  description = option_map bare_name d.description;
+  name = bare_name d.name;
+  arguments = map (bare_node bare_input_value_definition) d.arguments;
+  ty = bare_type d.ty;
+  directives =
+      bare_directive_list d.directives;
+}
 
 -- the definition of an enum value without locations
 abbrev pub bare_enum_value_definition : EnumValueDefinition → EnumValueDefinition
-bare_enum_value_definition d = record { description = option_map bare_name d.description; value = bare_name d.value; directives = bare_directive_list d.directives }
+bare_enum_value_definition d =
+    record {
+      description = option_map bare_name d.description;
+      value = bare_name d.value;
+      directives = bare_directive_list d.directives;
+    }
 
 -- a directive definition without locations in files; its directive locations stay
 abbrev pub bare_directive_definition : DirectiveDefinition → DirectiveDefinition
-bare_directive_definition d = record { description = option_map bare_name d.description; name = bare_name d.name; arguments = map (bare_node bare_input_value_definition) d.arguments; repeatable = d.repeatable; locations = d.locations }
+bare_directive_definition d =
+    record {
+      description = option_map bare_name d.description;
+      name = bare_name d.name;
+      arguments = map (bare_node bare_input_value_definition) d.arguments;
+      repeatable = d.repeatable;
+      locations = d.locations;
+    }
 
 -- a root, the operation type and the name of its type, without locations
 abbrev pub bare_root_operation : OperationType × NameView → OperationType × NameView
@@ -46,56 +72,134 @@ bare_root_operation r = (r.0, bare_name r.1)
 
 -- a schema definition without locations
 abbrev pub bare_schema_definition : SchemaDefinition → SchemaDefinition
-bare_schema_definition d = record { description = option_map bare_name d.description; directives = bare_directive_list d.directives; root_operations = map (bare_node bare_root_operation) d.root_operations }
+bare_schema_definition d =
+    record {
+      description = option_map bare_name d.description;
+      directives = bare_directive_list d.directives;
+      root_operations = map (bare_node bare_root_operation) d.root_operations;
+    }
 
 -- a scalar type definition without locations
 abbrev pub bare_scalar_type_definition : ScalarTypeDefinition → ScalarTypeDefinition
-bare_scalar_type_definition d = record { description = option_map bare_name d.description; name = bare_name d.name; directives = bare_directive_list d.directives }
+bare_scalar_type_definition d =
+    record {
+      description = option_map bare_name d.description;
+      name = bare_name d.name;
+      directives = bare_directive_list d.directives;
+    }
 
 -- an object type definition without locations
 abbrev pub bare_object_type_definition : ObjectTypeDefinition → ObjectTypeDefinition
-bare_object_type_definition d = record { description = option_map bare_name d.description; name = bare_name d.name; implements_interfaces = map bare_name d.implements_interfaces; directives = bare_directive_list d.directives; fields = map (bare_node bare_field_definition) d.fields }
+bare_object_type_definition d =
+    record {
+      description = option_map bare_name d.description;
+      name = bare_name d.name;
+      implements_interfaces = map bare_name d.implements_interfaces;
+      directives =
+          bare_directive_list d.directives;
+      fields = map (bare_node bare_field_definition) d.fields;
+    }
 
 -- an interface type definition without locations
 abbrev pub bare_interface_type_definition : InterfaceTypeDefinition → InterfaceTypeDefinition
-bare_interface_type_definition d = record { description = option_map bare_name d.description; name = bare_name d.name; implements_interfaces = map bare_name d.implements_interfaces; directives = bare_directive_list d.directives; fields = map (bare_node bare_field_definition) d.fields }
+bare_interface_type_definition d =
+    record {
+      description = option_map bare_name d.description;
+      name = bare_name d.name;
+      implements_interfaces = map bare_name d.implements_interfaces;
+      directives =
+          bare_directive_list d.directives;
+      fields = map (bare_node bare_field_definition) d.fields;
+    }
 
 -- a union type definition without locations
 abbrev pub bare_union_type_definition : UnionTypeDefinition → UnionTypeDefinition
-bare_union_type_definition d = record { description = option_map bare_name d.description; name = bare_name d.name; directives = bare_directive_list d.directives; members = map bare_name d.members }
+bare_union_type_definition d =
+    record {
+      description = option_map bare_name d.description;
+      name = bare_name d.name;
+      directives = bare_directive_list d.directives;
+      members = map bare_name d.members;
+    }
 
 -- an enum type definition without locations
 abbrev pub bare_enum_type_definition : EnumTypeDefinition → EnumTypeDefinition
-bare_enum_type_definition d = record { description = option_map bare_name d.description; name = bare_name d.name; directives = bare_directive_list d.directives; values = map (bare_node bare_enum_value_definition) d.values }
+bare_enum_type_definition d =
+    record {
+      description = option_map bare_name d.description;
+      name = bare_name d.name;
+      directives = bare_directive_list d.directives;
+      values =
+          map (bare_node bare_enum_value_definition) d.values;
+    }
 
 -- an input object type definition without locations
 abbrev pub bare_input_object_type_definition : InputObjectTypeDefinition → InputObjectTypeDefinition
-bare_input_object_type_definition d = record { description = option_map bare_name d.description; name = bare_name d.name; directives = bare_directive_list d.directives; fields = map (bare_node bare_input_value_definition) d.fields }
+bare_input_object_type_definition d =
+    record {
+      description = option_map bare_name d.description;
+      name = bare_name d.name;
+      directives = bare_directive_list d.directives;
+      fields =
+          map (bare_node bare_input_value_definition) d.fields;
+    }
 
 -- a schema extension without locations
 abbrev pub bare_schema_extension : SchemaExtension → SchemaExtension
-bare_schema_extension d = record { directives = bare_directive_list d.directives; root_operations = map (bare_node bare_root_operation) d.root_operations }
+bare_schema_extension d =
+    record {
+      directives = bare_directive_list d.directives;
+      root_operations = map (bare_node bare_root_operation) d.root_operations;
+    }
 
 -- a scalar type extension without locations
 abbrev pub bare_scalar_type_extension : ScalarTypeExtension → ScalarTypeExtension
-bare_scalar_type_extension d = record { name = bare_name d.name; directives = bare_directive_list d.directives }
+bare_scalar_type_extension d =
+    record { name = bare_name d.name; directives = bare_directive_list d.directives }
 
 -- an object type extension without locations
 abbrev pub bare_object_type_extension : ObjectTypeExtension → ObjectTypeExtension
-bare_object_type_extension d = record { name = bare_name d.name; implements_interfaces = map bare_name d.implements_interfaces; directives = bare_directive_list d.directives; fields = map (bare_node bare_field_definition) d.fields }
+bare_object_type_extension d =
+    record {
+      name = bare_name d.name;
+      implements_interfaces = map bare_name d.implements_interfaces;
+      directives = bare_directive_list d.directives;
+      fields = map (bare_node bare_field_definition) d.fields;
+    }
 
 -- an interface type extension without locations
 abbrev pub bare_interface_type_extension : InterfaceTypeExtension → InterfaceTypeExtension
-bare_interface_type_extension d = record { name = bare_name d.name; implements_interfaces = map bare_name d.implements_interfaces; directives = bare_directive_list d.directives; fields = map (bare_node bare_field_definition) d.fields }
+bare_interface_type_extension d =
+    record {
+      name = bare_name d.name;
+      implements_interfaces = map bare_name d.implements_interfaces;
+      directives = bare_directive_list d.directives;
+      fields = map (bare_node bare_field_definition) d.fields;
+    }
 
 -- a union type extension without locations
 abbrev pub bare_union_type_extension : UnionTypeExtension → UnionTypeExtension
-bare_union_type_extension d = record { name = bare_name d.name; directives = bare_directive_list d.directives; members = map bare_name d.members }
+bare_union_type_extension d =
+    record {
+      name = bare_name d.name;
+      directives = bare_directive_list d.directives;
+      members = map bare_name d.members;
+    }
 
 -- an enum type extension without locations
 abbrev pub bare_enum_type_extension : EnumTypeExtension → EnumTypeExtension
-bare_enum_type_extension d = record { name = bare_name d.name; directives = bare_directive_list d.directives; values = map (bare_node bare_enum_value_definition) d.values }
+bare_enum_type_extension d =
+    record {
+      name = bare_name d.name;
+      directives = bare_directive_list d.directives;
+      values = map (bare_node bare_enum_value_definition) d.values;
+    }
 
 -- an input object type extension without locations
 abbrev pub bare_input_object_type_extension : InputObjectTypeExtension → InputObjectTypeExtension
-bare_input_object_type_extension d = record { name = bare_name d.name; directives = bare_directive_list d.directives; fields = map (bare_node bare_input_value_definition) d.fields }
+bare_input_object_type_extension d =
+    record {
+      name = bare_name d.name;
+      directives = bare_directive_list d.directives;
+      fields = map (bare_node bare_input_value_definition) d.fields;
+    }

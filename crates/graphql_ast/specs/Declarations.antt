@@ -123,13 +123,14 @@ type_definition k.Object description name parts location = d.ObjectTypeDefinitio
   directives = directive_list parts;
   fields = parts.fields;
 }))
-type_definition k.Interface description name parts location = d.InterfaceTypeDefinition (placed location (record {
-  description = description;
-  name = name;
-  implements_interfaces = parts.names;
-  directives = directive_list parts;
-  fields = parts.fields;
-}))
+type_definition k.Interface description name parts location =
+    d.InterfaceTypeDefinition (placed location (record {
+      description = description;
+      name = name;
+      implements_interfaces = parts.names;
+      directives = directive_list parts;
+      fields = parts.fields;
+    }))
 type_definition k.Union description name parts location = d.UnionTypeDefinition (placed location (record {
   description = description;
   name = name;
@@ -142,12 +143,13 @@ type_definition k.Enum description name parts location = d.EnumTypeDefinition (p
   directives = directive_list parts;
   values = parts.values;
 }))
-type_definition k.InputObject description name parts location = d.InputObjectTypeDefinition (placed location (record {
-  description = description;
-  name = name;
-  directives = directive_list parts;
-  fields = parts.input_fields;
-}))
+type_definition k.InputObject description name parts location =
+    d.InputObjectTypeDefinition (placed location (record {
+      description = description;
+      name = name;
+      directives = directive_list parts;
+      fields = parts.input_fields;
+    }))
 
 -- the extension of a type of this kind
 abbrev pub type_extension : TypeKind → NameView → Parts → Option SourceSpan → Definition

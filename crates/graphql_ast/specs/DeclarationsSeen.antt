@@ -1,7 +1,8 @@
 -- The declarations that borrowed ones show: GraphQL specification of October 2021, sections 2.2, 3.3 and
 -- 3.5 to 3.10.
 use Rattle.std.specs.Option.{option_copied}
-use Rattle.graphql_ast.specs.Declarations.{Declaration, OfType, OfSchema, OfDirective, OfOperation, OfFragment}
+use Rattle.graphql_ast.specs.Declarations.{Declaration, OfType, OfSchema, OfDirective, OfOperation}
+use Rattle.graphql_ast.specs.Declarations.{OfFragment}
 use Rattle.graphql_ast.specs.PartsSeen.{parts_seen}
 use Rattle.graphql_ast.specs.declared.declaration.SchemaDeclaration.{SchemaDeclaration}
 use Rattle.graphql_ast.specs.declared.declaration.TypeDeclaration.{TypeDeclaration}

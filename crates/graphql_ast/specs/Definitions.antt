@@ -1,5 +1,5 @@
--- What a definition names, where it stands, and the kind of its type: GraphQL specification of October 2021, sections
--- 2.2 and 3.4.
+-- What a definition names, where it stands, and the kind of its type: GraphQL specification of October 2021,
+-- sections 2.2 and 3.4.
 use Rattle.std.specs.Prelude.{Option, None, Some}
 use Rattle.graphql_nodes.specs.NameView.{NameView}
 use Rattle.graphql_nodes.specs.declared.source.SourceSpan.{SourceSpan}

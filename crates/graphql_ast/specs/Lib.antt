@@ -8,7 +8,6 @@ pub mod BareSelections
 pub mod BareTypeSystem
 pub mod Declarations
 pub mod DeclarationsSeen
-pub mod DefinitionParts
 pub mod DefinitionTexts
 pub mod Definitions
 pub mod Parts

@@ -1,7 +1,8 @@
 -- What a type reference names: GraphQL specification of October 2021, section 2.11.
 use Rattle.std.specs.Prelude.{Bool, true, false}
 use Rattle.graphql_nodes.specs.NameView.{NameView}
-use Rattle.graphql_ast.specs.declared.type_reference.Type.{«Type» as TypeReference, NonNullNamed, NonNullList, fold-Type, out-Type}
+use Rattle.graphql_ast.specs.declared.type_reference.Type.{«Type» as TypeReference, NonNullNamed, NonNullList}
+use Rattle.graphql_ast.specs.declared.type_reference.Type.{fold-Type, out-Type}
 use Rattle.graphql_ast.specs.declared.type_reference.Type.TheOpen.{Type-F}
 
 -- the name at one level, where what is inside a list has given its own

@@ -1,4 +1,5 @@
-//! The definitions that were added to a builder, for contracts alone: GraphQL specification of October 2021, section 2.2.
+//! The definitions that were added to a builder, for contracts alone: GraphQL specification of October 2021,
+//! section 2.2.
 ghost use Rattle.std.specs.Prelude.{◌≡◌, List, [], ◌++◌};
 ghost use Rattle.std.specs.Coded.{coded×, coded_bool, coded_list};
 ghost use Rattle.graphql_ast.specs.AddedDefinitions.{AddedDefinition, added_definitions};
@@ -7,8 +8,9 @@ ghost use Rattle.graphql_ast.specs.contracts.definition.Definition as definition
 use crate::document::Document;
 use std::marker::Model;
 
-/// A list of definitions that were added to a builder, each with an option of that builder as it stood then. Contracts
-/// alone see it, and it takes no room. Nothing ties it to what its builder holds but that builder's own invariant.
+/// A list of definitions that were added to a builder, each with an option of that builder as it stood then.
+/// Contracts alone see it, and it takes no room. Nothing ties it to what its builder holds but that builder's
+/// own invariant.
 #[derive(Drop)]
 pub struct AddedList {
     pub ghost items: { List AddedDefinition } by { coded_list (coded× coded_bool definition.the_row.coded) },

@@ -57,18 +57,20 @@ impl Argument {
         first_of_name(arguments, name).map(|given| &given.value)
     }
 
-    /// The value of the argument of the name: the specified one, else the default one of its definition, else none. It takes no
-    /// memory.
+    /// The value of the argument of the name: the specified one, else the default one of its definition, else
+    /// none. It takes no memory.
     ///
     /// Where no value is specified, an argument without a definition is
-    /// [`NoSuchArgument`](ArgumentByNameError::NoSuchArgument), and one of a non-null type without a default value is
-    /// [`RequiredArgumentNotSpecified`](ArgumentByNameError::RequiredArgumentNotSpecified).
+    /// [`NoSuchArgument`](ArgumentByNameError::NoSuchArgument), and one of a non-null type without a default
+    /// value is [`RequiredArgumentNotSpecified`](ArgumentByNameError::RequiredArgumentNotSpecified).
     pub fn argument_by_name<'a>(
         arguments: &'a [Node<Argument>],
         name: &Name,
         definition: Option<&'a Node<InputValueDefinition>>,
     ) -> Result<Option<&'a Node<Value>>, ArgumentByNameError>
-        ensures { Answers (argument_value (specified_value arguments.now name.now) (option_copied definition.entry)) result }
+        ensures { Answers
+            (argument_value (specified_value arguments.now name.now) (option_copied definition.entry))
+            result }
     {
         if let Some(value) = Argument::specified_argument_by_name(arguments, name) {
             return Ok(Some(value));

@@ -61,7 +61,8 @@ impl<'a> DeclarationRef<'a> {
         description: &'a Option<NodeStr>,
         parts: PartsRef<'a>,
     ) -> DeclarationRef<'a>
-        ensures { let seen = defined kind name.now description.now node.now.location (parts_seen parts.entry) in
+        ensures { let seen = defined kind name.now description.now node.now.location
+            (parts_seen parts.entry) in
             declaration_seen result ≡ seen }
     {
         DeclarationRef::Type(TypeDeclarationRef {
@@ -81,7 +82,8 @@ impl<'a> DeclarationRef<'a> {
         name: &'a Name,
         parts: PartsRef<'a>,
     ) -> DeclarationRef<'a>
-        ensures { declaration_seen result ≡ extended kind name.now node.now.location (parts_seen parts.entry) }
+        ensures { declaration_seen result
+            ≡ extended kind name.now node.now.location (parts_seen parts.entry) }
     {
         DeclarationRef::Type(TypeDeclarationRef {
             kind,

@@ -15,7 +15,8 @@ use graphql_nodes::source::SourceSpan;
 use graphql_nodes::type_kind::TypeKind;
 use std::alloc::AllocError;
 
-/// A definition or extension of a document. `From` of a node is the variant of its kind, which holds this node.
+/// A definition or extension of a document. `From` of a node is the variant of its kind, which holds this
+/// node.
 #[derive(Debug, Drop, PartialEq, Eq, Hash)]
 pub enum Definition {
     OperationDefinition(Node<OperationDefinition>),

@@ -76,7 +76,8 @@ impl DirectiveList {
         DirectiveList(Items::new(alloc))
     }
 
-    /// Adds a directive at the end. The error is out of memory: the list is as it was, and the directive is dropped.
+    /// Adds a directive at the end. The error is out of memory: the list is as it was, and the directive is
+    /// dropped.
     pub fn push(&mut self, directive: Node<Directive>) -> Result<(), AllocError>
         ensures ok { OnOk result (self.new.0 ≡ self.old.0 ++ directive ∷ []) }
         ensures err { OnErr result (self.new ≡ self.old) }

@@ -1,5 +1,6 @@
-//! Definitions and extensions of the type system made by calls: each has what it can't be without, and is else empty. None
-//! but `InputValueDefinition::new` takes memory. GraphQL specification of October 2021, section 3.
+//! Definitions and extensions of the type system made by calls: each has what it can't be without, and is
+//! else empty. None but `InputValueDefinition::new` takes memory. GraphQL specification of October 2021,
+//! section 3.
 ghost use Rattle.std.specs.Prelude.{◌≡◌, [], IfOk, None, false};
 
 use crate::directive::DirectiveList;
@@ -19,7 +20,13 @@ use std::alloc::{AllocError, Global};
 impl FieldDefinition {
     /// A field of this name and type, without description, arguments and directives.
     pub fn new(alloc: Global, name: Name, ty: Type) -> FieldDefinition
-        ensures { result ≡ record { description = None; name = name; arguments = []; ty = ty; directives = record { 0 = [] } } }
+        ensures { result ≡ record {
+          description = None;
+          name = name;
+          arguments = [];
+          ty = ty;
+          directives = record { 0 = [] };
+        } }
     {
         FieldDefinition {
             description: None,
@@ -32,10 +39,17 @@ impl FieldDefinition {
 }
 
 impl InputValueDefinition {
-    /// An argument or input field of this name and type, without description, default value and directives. The node
-    /// of the type has no location. The error is out of memory.
+    /// An argument or input field of this name and type, without description, default value and directives.
+    /// The node of the type has no location. The error is out of memory.
     pub fn new(alloc: Global, name: Name, ty: Type) -> Result<InputValueDefinition, AllocError>
-        ensures { IfOk result (λ input. input ≡ record { description = None; name = name; ty = record { value = ty; location = None }; default_value = None; directives = record { 0 = [] } }) }
+        ensures { IfOk result (λ input. input
+            ≡ record {
+              description = None;
+              name = name;
+              ty = record { value = ty; location = None };
+              default_value = None;
+              directives = record { 0 = [] };
+            }) }
     {
         Ok(InputValueDefinition {
             description: None,
@@ -64,7 +78,13 @@ impl DirectiveDefinition {
     /// The definition of a directive of this name that is not repeatable, without description, arguments and
     /// locations.
     pub fn new(alloc: Global, name: Name) -> DirectiveDefinition
-        ensures { result ≡ record { description = None; name = name; arguments = []; repeatable = false; locations = [] } }
+        ensures { result ≡ record {
+          description = None;
+          name = name;
+          arguments = [];
+          repeatable = false;
+          locations = [];
+        } }
     {
         DirectiveDefinition {
             description: None,
@@ -79,7 +99,11 @@ impl DirectiveDefinition {
 impl SchemaDefinition {
     /// A definition of the schema without description, directives and root operations.
     pub fn new(alloc: Global) -> SchemaDefinition
-        ensures { result ≡ record { description = None; directives = record { 0 = [] }; root_operations = [] } }
+        ensures { result ≡ record {
+          description = None;
+          directives = record { 0 = [] };
+          root_operations = [];
+        } }
     {
         SchemaDefinition {
             description: None,
@@ -105,7 +129,13 @@ impl ScalarTypeDefinition {
 impl ObjectTypeDefinition {
     /// The definition of an object type of this name, without description, interfaces, directives and fields.
     pub fn new(alloc: Global, name: Name) -> ObjectTypeDefinition
-        ensures { result ≡ record { description = None; name = name; implements_interfaces = []; directives = record { 0 = [] }; fields = [] } }
+        ensures { result ≡ record {
+          description = None;
+          name = name;
+          implements_interfaces = [];
+          directives = record { 0 = [] };
+          fields = [];
+        } }
     {
         ObjectTypeDefinition {
             description: None,
@@ -118,9 +148,16 @@ impl ObjectTypeDefinition {
 }
 
 impl InterfaceTypeDefinition {
-    /// The definition of an interface type of this name, without description, interfaces, directives and fields.
+    /// The definition of an interface type of this name, without description, interfaces, directives and
+    /// fields.
     pub fn new(alloc: Global, name: Name) -> InterfaceTypeDefinition
-        ensures { result ≡ record { description = None; name = name; implements_interfaces = []; directives = record { 0 = [] }; fields = [] } }
+        ensures { result ≡ record {
+          description = None;
+          name = name;
+          implements_interfaces = [];
+          directives = record { 0 = [] };
+          fields = [];
+        } }
     {
         InterfaceTypeDefinition {
             description: None,
@@ -135,7 +172,12 @@ impl InterfaceTypeDefinition {
 impl UnionTypeDefinition {
     /// The definition of a union type of this name, without description, directives and members.
     pub fn new(alloc: Global, name: Name) -> UnionTypeDefinition
-        ensures { result ≡ record { description = None; name = name; directives = record { 0 = [] }; members = [] } }
+        ensures { result ≡ record {
+          description = None;
+          name = name;
+          directives = record { 0 = [] };
+          members = [];
+        } }
     {
         UnionTypeDefinition {
             description: None,
@@ -149,7 +191,12 @@ impl UnionTypeDefinition {
 impl EnumTypeDefinition {
     /// The definition of an enum type of this name, without description, directives and values.
     pub fn new(alloc: Global, name: Name) -> EnumTypeDefinition
-        ensures { result ≡ record { description = None; name = name; directives = record { 0 = [] }; values = [] } }
+        ensures { result ≡ record {
+          description = None;
+          name = name;
+          directives = record { 0 = [] };
+          values = [];
+        } }
     {
         EnumTypeDefinition {
             description: None,
@@ -163,7 +210,12 @@ impl EnumTypeDefinition {
 impl InputObjectTypeDefinition {
     /// The definition of an input object type of this name, without description, directives and fields.
     pub fn new(alloc: Global, name: Name) -> InputObjectTypeDefinition
-        ensures { result ≡ record { description = None; name = name; directives = record { 0 = [] }; fields = [] } }
+        ensures { result ≡ record {
+          description = None;
+          name = name;
+          directives = record { 0 = [] };
+          fields = [];
+        } }
     {
         InputObjectTypeDefinition {
             description: None,
@@ -201,7 +253,12 @@ impl ScalarTypeExtension {
 impl ObjectTypeExtension {
     /// An extension of the object type of this name, without interfaces, directives and fields.
     pub fn new(alloc: Global, name: Name) -> ObjectTypeExtension
-        ensures { result ≡ record { name = name; implements_interfaces = []; directives = record { 0 = [] }; fields = [] } }
+        ensures { result ≡ record {
+          name = name;
+          implements_interfaces = [];
+          directives = record { 0 = [] };
+          fields = [];
+        } }
     {
         ObjectTypeExtension {
             name,
@@ -215,7 +272,12 @@ impl ObjectTypeExtension {
 impl InterfaceTypeExtension {
     /// An extension of the interface type of this name, without interfaces, directives and fields.
     pub fn new(alloc: Global, name: Name) -> InterfaceTypeExtension
-        ensures { result ≡ record { name = name; implements_interfaces = []; directives = record { 0 = [] }; fields = [] } }
+        ensures { result ≡ record {
+          name = name;
+          implements_interfaces = [];
+          directives = record { 0 = [] };
+          fields = [];
+        } }
     {
         InterfaceTypeExtension {
             name,

@@ -1,14 +1,27 @@
-//! What `==` answers at each type of the tree, which is whether the two are one with every location left out; and that
-//! clones are the originals.
+//! What `==` answers at each type of the tree, which is whether the two are one with every location left out;
+//! and that clones are the originals.
 //!
-//! Each law is a function that does nothing. A proof cites it by a call, and finds a clause for each type there.
-//! That equal values have equal hashes is part of each type's `Hash`.
+//! Each law is a function that does nothing. A proof cites it by a call, and finds a clause for each type
+//! there. That equal values have equal hashes is part of each type's `Hash`.
 ghost use Rattle.std.specs.Prelude.{◌≡◌};
 ghost use Rattle.graphql_nodes.specs.Comparing.{ComparesBy};
-ghost use Rattle.graphql_ast.specs.Bare.{bare_value, bare_type, bare_argument, bare_directive, bare_directive_list};
-ghost use Rattle.graphql_ast.specs.BareSelections.{bare_selection, bare_field, bare_inline_fragment, bare_fragment_spread};
-ghost use Rattle.graphql_ast.specs.BareTypeSystem.{bare_field_definition, bare_input_value_definition, bare_enum_value_definition, bare_directive_definition, bare_schema_definition, bare_scalar_type_definition, bare_object_type_definition, bare_interface_type_definition, bare_union_type_definition, bare_enum_type_definition, bare_input_object_type_definition, bare_schema_extension, bare_scalar_type_extension, bare_object_type_extension, bare_interface_type_extension, bare_union_type_extension, bare_enum_type_extension, bare_input_object_type_extension};
-ghost use Rattle.graphql_ast.specs.BareDocuments.{bare_variable_definition, bare_operation_definition, bare_fragment_definition, bare_definition, bare_document};
+ghost use Rattle.graphql_ast.specs.Bare.{bare_value, bare_type, bare_argument, bare_directive};
+ghost use Rattle.graphql_ast.specs.Bare.{bare_directive_list};
+ghost use Rattle.graphql_ast.specs.BareSelections.{bare_selection, bare_field, bare_inline_fragment};
+ghost use Rattle.graphql_ast.specs.BareSelections.{bare_fragment_spread};
+ghost use Rattle.graphql_ast.specs.BareTypeSystem.{bare_field_definition, bare_input_value_definition};
+ghost use Rattle.graphql_ast.specs.BareTypeSystem.{bare_enum_value_definition, bare_directive_definition};
+ghost use Rattle.graphql_ast.specs.BareTypeSystem.{bare_schema_definition, bare_scalar_type_definition};
+ghost use Rattle.graphql_ast.specs.BareTypeSystem.{bare_object_type_definition};
+ghost use Rattle.graphql_ast.specs.BareTypeSystem.{bare_interface_type_definition};
+ghost use Rattle.graphql_ast.specs.BareTypeSystem.{bare_union_type_definition, bare_enum_type_definition};
+ghost use Rattle.graphql_ast.specs.BareTypeSystem.{bare_input_object_type_definition, bare_schema_extension};
+ghost use Rattle.graphql_ast.specs.BareTypeSystem.{bare_scalar_type_extension, bare_object_type_extension};
+ghost use Rattle.graphql_ast.specs.BareTypeSystem.{bare_interface_type_extension, bare_union_type_extension};
+ghost use Rattle.graphql_ast.specs.BareTypeSystem.{bare_enum_type_extension};
+ghost use Rattle.graphql_ast.specs.BareTypeSystem.{bare_input_object_type_extension};
+ghost use Rattle.graphql_ast.specs.BareDocuments.{bare_variable_definition, bare_operation_definition};
+ghost use Rattle.graphql_ast.specs.BareDocuments.{bare_fragment_definition, bare_definition, bare_document};
 ghost use Rattle.graphql_ast.specs.BareDeclarations.{bare_declaration};
 ghost use Rattle.graphql_ast.specs.Declarations.{Declaration, declaration_of, made, sayable};
 ghost use Rattle.graphql_ast.specs.declared.definition.Definition.{Definition};
@@ -41,7 +54,8 @@ use graphql_nodes::source::{FileId, SourceFile, SourceSpan};
 use graphql_nodes::type_kind::TypeKind;
 use std::hash::Hash;
 
-/// Values, type references, arguments and directives are equal exactly where they are one without their locations.
+/// Values, type references, arguments and directives are equal exactly where they are one without their
+/// locations.
 pub fn equality_of_values_and_directives()
     ensures value { ComparesBy ⟦<Value as PartialEq>⟧.eq bare_value }
     ensures ty { ComparesBy ⟦<Type as PartialEq>⟧.eq bare_type }
@@ -59,33 +73,49 @@ pub fn equality_of_selections()
     ensures inline_fragment { ComparesBy ⟦<InlineFragment as PartialEq>⟧.eq bare_inline_fragment }
 {}
 
-/// Definitions and extensions of the type system are equal exactly where they are one without their locations.
+/// Definitions and extensions of the type system are equal exactly where they are one without their
+/// locations.
 pub fn equality_of_the_type_system()
     ensures field_definition { ComparesBy ⟦<FieldDefinition as PartialEq>⟧.eq bare_field_definition }
-    ensures input_value_definition { ComparesBy ⟦<InputValueDefinition as PartialEq>⟧.eq bare_input_value_definition }
-    ensures enum_value_definition { ComparesBy ⟦<EnumValueDefinition as PartialEq>⟧.eq bare_enum_value_definition }
-    ensures directive_definition { ComparesBy ⟦<DirectiveDefinition as PartialEq>⟧.eq bare_directive_definition }
+    ensures input_value_definition { ComparesBy ⟦<InputValueDefinition as PartialEq>⟧.eq
+        bare_input_value_definition }
+    ensures enum_value_definition { ComparesBy ⟦<EnumValueDefinition as PartialEq>⟧.eq
+        bare_enum_value_definition }
+    ensures directive_definition { ComparesBy ⟦<DirectiveDefinition as PartialEq>⟧.eq
+        bare_directive_definition }
     ensures schema_definition { ComparesBy ⟦<SchemaDefinition as PartialEq>⟧.eq bare_schema_definition }
-    ensures scalar_type_definition { ComparesBy ⟦<ScalarTypeDefinition as PartialEq>⟧.eq bare_scalar_type_definition }
-    ensures object_type_definition { ComparesBy ⟦<ObjectTypeDefinition as PartialEq>⟧.eq bare_object_type_definition }
-    ensures interface_type_definition { ComparesBy ⟦<InterfaceTypeDefinition as PartialEq>⟧.eq bare_interface_type_definition }
-    ensures union_type_definition { ComparesBy ⟦<UnionTypeDefinition as PartialEq>⟧.eq bare_union_type_definition }
-    ensures enum_type_definition { ComparesBy ⟦<EnumTypeDefinition as PartialEq>⟧.eq bare_enum_type_definition }
-    ensures input_object_type_definition { ComparesBy ⟦<InputObjectTypeDefinition as PartialEq>⟧.eq bare_input_object_type_definition }
+    ensures scalar_type_definition { ComparesBy ⟦<ScalarTypeDefinition as PartialEq>⟧.eq
+        bare_scalar_type_definition }
+    ensures object_type_definition { ComparesBy ⟦<ObjectTypeDefinition as PartialEq>⟧.eq
+        bare_object_type_definition }
+    ensures interface_type_definition { ComparesBy ⟦<InterfaceTypeDefinition as PartialEq>⟧.eq
+        bare_interface_type_definition }
+    ensures union_type_definition { ComparesBy ⟦<UnionTypeDefinition as PartialEq>⟧.eq
+        bare_union_type_definition }
+    ensures enum_type_definition { ComparesBy ⟦<EnumTypeDefinition as PartialEq>⟧.eq
+        bare_enum_type_definition }
+    ensures input_object_type_definition { ComparesBy ⟦<InputObjectTypeDefinition as PartialEq>⟧.eq
+        bare_input_object_type_definition }
     ensures schema_extension { ComparesBy ⟦<SchemaExtension as PartialEq>⟧.eq bare_schema_extension }
-    ensures scalar_type_extension { ComparesBy ⟦<ScalarTypeExtension as PartialEq>⟧.eq bare_scalar_type_extension }
-    ensures object_type_extension { ComparesBy ⟦<ObjectTypeExtension as PartialEq>⟧.eq bare_object_type_extension }
-    ensures interface_type_extension { ComparesBy ⟦<InterfaceTypeExtension as PartialEq>⟧.eq bare_interface_type_extension }
-    ensures union_type_extension { ComparesBy ⟦<UnionTypeExtension as PartialEq>⟧.eq bare_union_type_extension }
+    ensures scalar_type_extension { ComparesBy ⟦<ScalarTypeExtension as PartialEq>⟧.eq
+        bare_scalar_type_extension }
+    ensures object_type_extension { ComparesBy ⟦<ObjectTypeExtension as PartialEq>⟧.eq
+        bare_object_type_extension }
+    ensures interface_type_extension { ComparesBy ⟦<InterfaceTypeExtension as PartialEq>⟧.eq
+        bare_interface_type_extension }
+    ensures union_type_extension { ComparesBy ⟦<UnionTypeExtension as PartialEq>⟧.eq
+        bare_union_type_extension }
     ensures enum_type_extension { ComparesBy ⟦<EnumTypeExtension as PartialEq>⟧.eq bare_enum_type_extension }
-    ensures input_object_type_extension { ComparesBy ⟦<InputObjectTypeExtension as PartialEq>⟧.eq bare_input_object_type_extension }
+    ensures input_object_type_extension { ComparesBy ⟦<InputObjectTypeExtension as PartialEq>⟧.eq
+        bare_input_object_type_extension }
 {}
 
-/// Operations, fragments and documents are equal exactly where they are one without their locations, and documents
-/// also without the files that they come from.
+/// Operations, fragments and documents are equal exactly where they are one without their locations, and
+/// documents also without the files that they come from.
 pub fn equality_of_documents()
     ensures variable_definition { ComparesBy ⟦<VariableDefinition as PartialEq>⟧.eq bare_variable_definition }
-    ensures operation_definition { ComparesBy ⟦<OperationDefinition as PartialEq>⟧.eq bare_operation_definition }
+    ensures operation_definition { ComparesBy ⟦<OperationDefinition as PartialEq>⟧.eq
+        bare_operation_definition }
     ensures fragment_definition { ComparesBy ⟦<FragmentDefinition as PartialEq>⟧.eq bare_fragment_definition }
     ensures definition { ComparesBy ⟦<Definition as PartialEq>⟧.eq bare_definition }
     ensures document { ComparesBy ⟦<Document as PartialEq>⟧.eq bare_document }
@@ -98,8 +128,8 @@ pub fn clones_of_containers_are_exact<T: Eq + Hash + Clone, V: Clone>()
     ensures key_set { IsExact T.is_clone → IsExact ⟦<KeySet<T> as Clone>⟧.is_clone }
 {}
 
-/// Each clone of a part of a tree is the original, with its locations and the sources of a document; and so is each clone of
-/// a location, a kind, keys or an error.
+/// Each clone of a part of a tree is the original, with its locations and the sources of a document; and so
+/// is each clone of a location, a kind, keys or an error.
 ///
 /// The `Clone` of the other types says so itself.
 pub fn clones_are_exact()
@@ -141,11 +171,12 @@ pub fn clones_are_exact()
     ensures document { IsExact ⟦<Document as Clone>⟧.is_clone }
 {}
 
-/// What a definition says, made into a definition, is the definition again; and what is made of a declaration says what a
-/// definition can say of it: the parts that its kind has, and of an extension no description.
+/// What a definition says, made into a definition, is the definition again; and what is made of a declaration
+/// says what a definition can say of it: the parts that its kind has, and of an extension no description.
 pub fn declarations_are_definitions()
     ensures made_again { (definition : Definition) → made (declaration_of definition) ≡ definition }
-    ensures read_again { (declaration : Declaration) → declaration_of (made declaration) ≡ sayable declaration }
+    ensures read_again { (declaration : Declaration)
+        → declaration_of (made declaration) ≡ sayable declaration }
 {}
 
 /// What a definition without its locations says is what the definition says, without its locations.

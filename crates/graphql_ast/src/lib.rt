@@ -1,4 +1,5 @@
-//! The syntax tree of GraphQL documents: every definition of the specification of October 2021, sections 2 and 3.
+//! The syntax tree of GraphQL documents: every definition of the specification of October 2021, sections 2
+//! and 3.
 //!
 //! A tree is plain data. Cloning it shares its nodes, and comparing it leaves locations out.
 //!
@@ -11,7 +12,6 @@ pub mod argument;
 pub mod declaration;
 pub mod declaration_ref;
 pub mod definition;
-pub mod definition_parts;
 pub mod directive;
 pub mod document;
 mod empty_definitions;
@@ -28,7 +28,6 @@ pub use crate::argument::ArgumentByNameError;
 pub use crate::declaration::{SchemaDeclaration, TypeDeclaration};
 pub use crate::declaration_ref::{DeclarationRef, SchemaDeclarationRef, TypeDeclarationRef};
 pub use crate::definition::Definition;
-pub use crate::definition_parts::{DefinitionPart, DefinitionParts};
 pub use crate::directive::{Argument, Directive, DirectiveList};
 pub use crate::document::Document;
 pub use crate::operation::{FragmentDefinition, OperationDefinition, VariableDefinition};

@@ -36,7 +36,13 @@ impl Drop for OperationDefinition {
 impl OperationDefinition {
     /// An anonymous operation of this type, without variables, directives and selections.
     pub fn new(alloc: Global, operation_type: OperationType) -> OperationDefinition
-        ensures { result ≡ record { operation_type = operation_type; name = None; variables = []; directives = record { 0 = [] }; selection_set = [] } }
+        ensures { result ≡ record {
+          operation_type = operation_type;
+          name = None;
+          variables = [];
+          directives = record { 0 = [] };
+          selection_set = [];
+        } }
     {
         OperationDefinition {
             operation_type,
@@ -69,10 +75,16 @@ impl Drop for VariableDefinition {
 }
 
 impl VariableDefinition {
-    /// A variable of this name and type, without default value and directives. The node of the type has no location. The
-    /// error is out of memory.
+    /// A variable of this name and type, without default value and directives. The node of the type has no
+    /// location. The error is out of memory.
     pub fn new(alloc: Global, name: Name, ty: Type) -> Result<VariableDefinition, AllocError>
-        ensures { IfOk result (λ variable. variable ≡ record { name = name; ty = record { value = ty; location = None }; default_value = None; directives = record { 0 = [] } }) }
+        ensures { IfOk result (λ variable. variable
+            ≡ record {
+              name = name;
+              ty = record { value = ty; location = None };
+              default_value = None;
+              directives = record { 0 = [] };
+            }) }
     {
         Ok(VariableDefinition {
             name,
@@ -106,7 +118,13 @@ impl Drop for FragmentDefinition {
 impl FragmentDefinition {
     /// A fragment of this name on this type, without directives and selections.
     pub fn new(alloc: Global, name: Name, type_condition: NamedType) -> FragmentDefinition
-        ensures { result ≡ record { name = name; type_condition = type_condition; directives = record { 0 = [] }; selection_set = [] } }
+        ensures { result
+            ≡ record {
+              name = name;
+              type_condition = type_condition;
+              directives = record { 0 = [] };
+              selection_set = [];
+            } }
     {
         FragmentDefinition {
             name,

@@ -7,7 +7,8 @@ use graphql_nodes::name::{Name, NamedType};
 use graphql_nodes::node::Node;
 use std::alloc::{AllocError, Global};
 
-/// One entry of a selection set (section 2.4). `From` of a node is the variant of its kind, which holds this node.
+/// One entry of a selection set (section 2.4). `From` of a node is the variant of its kind, which holds this
+/// node.
 #[cycle(selection)]
 #[derive(Debug, Drop, PartialEq, Eq, Hash)]
 pub enum Selection {
@@ -43,7 +44,13 @@ impl Drop for Field {
 impl Field {
     /// A field of this name, without alias, arguments, directives and selections.
     pub fn new(alloc: Global, name: Name) -> Field
-        ensures { result ≡ record { alias = None; name = name; arguments = []; directives = record { 0 = [] }; selection_set = [] } }
+        ensures { result ≡ record {
+          alias = None;
+          name = name;
+          arguments = [];
+          directives = record { 0 = [] };
+          selection_set = [];
+        } }
     {
         Field {
             alias: None,
@@ -106,7 +113,11 @@ impl Drop for InlineFragment {
 impl InlineFragment {
     /// An inline fragment on this type, without directives and selections.
     pub fn with_type_condition(alloc: Global, type_condition: NamedType) -> InlineFragment
-        ensures { result ≡ record { type_condition = Some type_condition; directives = record { 0 = [] }; selection_set = [] } }
+        ensures { result ≡ record {
+          type_condition = Some type_condition;
+          directives = record { 0 = [] };
+          selection_set = [];
+        } }
     {
         InlineFragment {
             type_condition: Some(type_condition),
@@ -117,7 +128,11 @@ impl InlineFragment {
 
     /// An inline fragment on the type that it stands in, without directives and selections.
     pub fn without_type_condition(alloc: Global) -> InlineFragment
-        ensures { result ≡ record { type_condition = None; directives = record { 0 = [] }; selection_set = [] } }
+        ensures { result ≡ record {
+          type_condition = None;
+          directives = record { 0 = [] };
+          selection_set = [];
+        } }
     {
         InlineFragment {
             type_condition: None,

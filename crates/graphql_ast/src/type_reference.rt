@@ -32,7 +32,8 @@ impl Type {
         Ok(Type::List(Boxed::new(alloc, self)?))
     }
 
-    /// The same type without null: its name or outermost list, made non-null. A type that is non-null stays as it is.
+    /// The same type without null: its name or outermost list, made non-null. A type that is non-null stays
+    /// as it is.
     pub fn non_null(self) -> Type
         ensures { result ≡ made_non_null self }
     {

@@ -1,4 +1,5 @@
--- Reading looks at one word ahead only: what stands behind the word that is next changes nothing of what is read before it.
+-- Reading looks at one word ahead only: what stands behind the word that is next changes nothing of what is
+-- read before it.
 use Rattle.std.proofs.Common.{◌≡◌, ℕ, zero, suc, ◌<◌, ◌≤◌, Bool, true, false, cond, List, [], ◌∷◌, ◌++◌, length, Option, Some, None, Ok, Err, ◌⊎◌, inl, inr, refl, sym, ap, subst, ◌∙◌, append_assoc, arith}
 use Rattle.std.proofs.lemmas.List.{length-append}
 use Rattle.graphql_grammar.specs.declared.fault.FaultKind.{FaultKind}

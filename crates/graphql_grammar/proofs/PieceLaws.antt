@@ -1,4 +1,5 @@
--- What a piece reads is spelled so, and what is spelled so is read, whatever stands behind it that can't go on with it.
+-- What a piece reads is spelled so, and what is spelled so is read, whatever stands behind it that can't go
+-- on with it.
 use Rattle.std.proofs.Common.{◌≡◌, ℕ, zero, suc, Bool, true, false, not, ◌&&◌, cond, List, [], ◌∷◌, ◌++◌, Option, Some, None, Ok, inl, inr, refl, sym, ap, subst, ◌∙◌, append_assoc}
 use Rattle.graphql_grammar.specs.declared.fault.FaultKind.{FaultKind}
 use Rattle.graphql_grammar.specs.declared.fault.FaultKind.TheVariants.{Expected, TooDeep}
@@ -31,7 +32,8 @@ Begun first may_be_empty (t ∷ ts) = first t.kind ≡ true
 abbrev pub Apart : Kinds → Kinds → Type 0
 Apart more first = (kind : Kind) → first kind ≡ true → more kind ≡ false
 
--- what a piece reads is spelled so, and what is spelled so is read, whatever stands behind it that can't go on with it
+-- what a piece reads is spelled so, and what is spelled so is read, whatever stands behind it that can't go
+-- on with it
 pub record Lawful {A : Type 0} (p : Piece A) : Type 0 where
   pub sound : (s : State) (x : A) (then : State) → p.read s ≡ Ok (x, then) → Took p.spells s x then
   pub complete : (x : A) (front rest : List WordView) (last : ℕ) → p.spells x front → Stops p.more rest → p.read (record { last = last; left = front ++ rest }) ≡ Ok (x, record { last = ended last front; left = rest })

@@ -16,7 +16,8 @@ use Rattle.graphql_grammar.proofs.KindLemmas.{only_kind}
 use Rattle.graphql_grammar.proofs.PieceLaws.{Begun, Lawful, Took, optional_law, sign_law}
 use Rattle.graphql_grammar.proofs.ReadingLemmas.{chosen}
 
--- the second piece spells something, and what the first does; and the words before the one that the first refuses begin what the second spells
+-- the second piece spells something, and what the first does; and the words before the one that the first
+-- refuses begin what the second spells
 pub record Begins {A : Type 0} (p q : Piece A) : Type 0 where
   pub value : A
   pub words : List WordView
@@ -24,7 +25,8 @@ pub record Begins {A : Type 0} (p q : Piece A) : Type 0 where
   pub wider : (x : A) (front : List WordView) → p.spells x front → q.spells x front
   pub viable : (s : State) (e : Refusal) → p.read s ≡ Err e → Viable q.spells s.left e.left
 
--- the second piece spells what the first does; what the first refuses it refuses at once, or the words before begin what the second spells
+-- the second piece spells what the first does; what the first refuses it refuses at once, or the words before
+-- begin what the second spells
 pub record Leads {A : Type 0} (p q : Piece A) : Type 0 where
   pub wider : (x : A) (front : List WordView) → p.spells x front → q.spells x front
   pub viable : (s : State) (e : Refusal) → p.read s ≡ Err e → (s.left ≡ e.left) ⊎ Viable q.spells s.left e.left

@@ -1,4 +1,5 @@
--- The words of a text are the words at its tokens where it has tokens, and no more than are allowed; else not all of them are tokens.
+-- The words of a text are the words at its tokens where it has tokens, and no more than are allowed; else not
+-- all of them are tokens.
 use Rattle.std.proofs.Common.{◌≡◌, ℕ, zero, suc, ◌+◌, ◌-◌, ◌<◌, ◌≤◌, true, List, [], ◌∷◌, length, map, take, drop, None, Some, Ok, Err, ◌⊎◌, inl, inr, refl, sym, ap, subst, ◌∙◌, arith}
 use Rattle.std.specs.Prelude.{slice_range}
 use Rattle.std.proofs.lemmas.List.{drop-drop, length-drop, length-take, take_min}
@@ -178,7 +179,8 @@ tokens_are_words allowed text list is few = elim (linked allowed text) [
   | inr b ↦ absurd (b.others list is few)
 ]
 
--- where all words of a text are tokens, the text has tokens, no more than are allowed, and its words are the words at them
+-- where all words of a text are tokens, the text has tokens, no more than are allowed, and its words are the
+-- words at them
 pub words_are_at_tokens : (allowed : ℕ) (text : List ℕ) → AllClean (words_of allowed text) → AreAtTokens allowed text (tokens_of text) (words_of allowed text)
 words_are_at_tokens allowed text clean = elim (linked allowed text) [
   | inl a ↦ a

@@ -83,7 +83,12 @@ is_token kind = nat_lt (tag kind) 38
 
 -- all kinds
 abbrev pub all_kinds : List Kind
-all_kinds = k.Name ∷ k.True ∷ k.False ∷ k.Null ∷ k.On ∷ k.Query ∷ k.Mutation ∷ k.Subscription ∷ k.Fragment ∷ k.Schema ∷ k.Scalar ∷ k.Type ∷ k.Interface ∷ k.Union ∷ k.Enum ∷ k.Input ∷ k.Directive ∷ k.Extend ∷ k.Implements ∷ k.Repeatable ∷ k.Bang ∷ k.Dollar ∷ k.Ampersand ∷ k.LeftParen ∷ k.RightParen ∷ k.Spread ∷ k.Colon ∷ k.Equals ∷ k.At ∷ k.LeftBracket ∷ k.RightBracket ∷ k.LeftBrace ∷ k.Pipe ∷ k.RightBrace ∷ k.Int ∷ k.Float ∷ k.String ∷ k.BlockString ∷ k.UnexpectedCharacter ∷ k.UnterminatedString ∷ k.InvalidEscape ∷ k.InvalidNumber ∷ k.TooMany ∷ []
+all_kinds = k.Name ∷ k.True ∷ k.False ∷ k.Null ∷ k.On ∷ k.Query ∷ k.Mutation ∷ k.Subscription ∷ k.Fragment
+    ∷ k.Schema ∷ k.Scalar ∷ k.Type ∷ k.Interface ∷ k.Union ∷ k.Enum ∷ k.Input ∷ k.Directive ∷ k.Extend
+    ∷ k.Implements ∷ k.Repeatable ∷ k.Bang ∷ k.Dollar ∷ k.Ampersand ∷ k.LeftParen ∷ k.RightParen ∷ k.Spread
+    ∷ k.Colon ∷ k.Equals ∷ k.At ∷ k.LeftBracket ∷ k.RightBracket ∷ k.LeftBrace ∷ k.Pipe ∷ k.RightBrace ∷ k.Int
+    ∷ k.Float ∷ k.String ∷ k.BlockString ∷ k.UnexpectedCharacter ∷ k.UnterminatedString ∷ k.InvalidEscape
+    ∷ k.InvalidNumber ∷ k.TooMany ∷ []
 
 -- whether a test holds of each of these kinds
 abbrev pub each_of : Kinds → List Kind → Bool

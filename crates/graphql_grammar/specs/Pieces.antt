@@ -1,9 +1,10 @@
 -- What a grammar is made of. A piece says which words spell a value, and how it is read.
 --
--- Pieces are made of pieces: one after the other (`seq`), one or none (`optional`), any number (`many`), one or
--- more (`some`), by the kind of the first word (`branch`), between signs that may nest so deep (`nested`), with
--- where the words stand (`located`). `read_all` reads a piece and nothing behind it.
-use Rattle.std.specs.Prelude.{◌≡◌, ℕ, zero, suc, List, [], ◌∷◌, ◌++◌, length, Bool, true, false, ◌&&◌, if◌then◌else◌, Option, Some, None, Result, Ok, Err}
+-- Pieces are made of pieces: one after the other (`seq`), one or none (`optional`), any number (`many`), one
+-- or more (`some`), by the kind of the first word (`branch`). So they are between signs that may nest so deep
+-- (`nested`), and with where the words stand (`located`). `read_all` reads a piece and nothing behind it.
+use Rattle.std.specs.Prelude.{◌≡◌, ℕ, zero, suc, List, [], ◌∷◌, ◌++◌, length, Bool, true, false, ◌&&◌}
+use Rattle.std.specs.Prelude.{if◌then◌else◌, Option, Some, None, Result, Ok, Err}
 use Rattle.graphql_grammar.specs.Kinds.{Kinds, either_of, none, only}
 use Rattle.graphql_grammar.specs.Spelling.{Parts, spells_by, spells_many, spells_optional}
 use Rattle.graphql_grammar.specs.Words.{WordView, begins, ended, starting}
@@ -68,7 +69,8 @@ pub record Piece (A : Type 0) : Type 1 where
 -- the next word, if it is of such a kind
 abbrev pub take_word : Kinds → FaultKind → List WordView → Reading WordView
 take_word kinds fault [] = refused fault []
-take_word kinds fault (w ∷ ws) = if kinds w.kind then Ok (w, record { last = w.end; left = ws }) else refused fault (w ∷ ws)
+take_word kinds fault (w ∷ ws) =
+    if kinds w.kind then Ok (w, record { last = w.end; left = ws }) else refused fault (w ∷ ws)
 
 -- a word of one of these kinds
 abbrev pub word : Kinds → Wrong → Piece WordView
@@ -199,7 +201,11 @@ optional p = record {
 -- as many things as come one behind the other, and at most so many
 abbrev pub many_at : {A : Type 0} → Kinds → Reader A → ℕ → Reader (List A)
 many_at first p zero s = Ok ([], s)
-many_at first p (suc n) s = if begins first s.left then (p s >>= λ x. many_at first p n x.1 >>= λ y. Ok (x.0 ∷ y.0, y.1)) else Ok ([], s)
+many_at first p (suc n) s =
+    if begins first s.left then (p s >>= λ x. many_at first p n x.1 >>= λ y. Ok (x.0 ∷ y.0, y.1)) else Ok (
+      [],
+      s,
+    )
 
 -- a piece any number of times
 abbrev pub many : {A : Type 0} → Piece A → Piece (List A)
@@ -231,7 +237,8 @@ abbrev pub choose : {A : Type 0} → Bool → Piece A → Piece A → Piece A
 choose true p q = p
 choose false p q = q
 
--- the piece that is picked by the kind of the first word; what it begins with, and what goes on with it, is said here
+-- the piece that is picked by the kind of the first word; what it begins with, and what goes on with it, is
+-- said here
 abbrev pub branch : {A : Type 0} → Kinds → Kinds → (Kind → Piece A) → Wrong → Piece A
 branch first more pick wrong = record {
   spells = spells_by (λ kind. (pick kind).spells);
@@ -287,7 +294,8 @@ behind_sign x = x.1
 
 -- one or more of a piece with a sign between each two; the sign may stand before the first, too
 abbrev pub separated : {A : Type 0} → Kind → Piece A → Piece (List A)
-separated kind p = mapped separated_of (seq (optional (sign kind)) (seq p (many (mapped behind_sign (seq (sign kind) p)))))
+separated kind p =
+    mapped separated_of (seq (optional (sign kind)) (seq p (many (mapped behind_sign (seq (sign kind) p)))))
 
 -- ---- what is nested too deep
 
@@ -322,7 +330,8 @@ abbrev pub with_front : {A : Type 0} → List A → Reading (List A) → Reading
 with_front front reading = reading >>= λ y. Ok (front ++ y.0, y.1)
 
 -- what a function returned that adds what is read to a list
-abbrev pub Adds : {A : Type 0} → Result (Unit {0}) ReadError → List A → List A → State → Reading (List A) → Type 0
+abbrev pub Adds : {A : Type 0} → Result (Unit {0}) ReadError → List A → List A → State → Reading (List A)
+    → Type 0
 Adds (Ok _) old new s reading = with_front old reading ≡ Ok (new, s)
 Adds (Err e) old new s reading = Fails e s.left reading
 

@@ -7,21 +7,25 @@ use Rattle.graphql_grammar.specs.Pieces.{Piece, Refusal, read_all}
 abbrev pub EndOf : List WordView → List WordView → Type 0
 EndOf part whole = (front : List WordView) × (whole ≡ front ++ part)
 
--- no words that begin with this front and have the next word, are such for any value; nor is the front alone, where no word is next
+-- no words that begin with this front and have the next word, are such for any value; nor is the front alone,
+-- where no word is next
 abbrev pub Unspelled : {A : Type 0} → (A → List WordView → Type 0) → List WordView → List WordView → Type 0
 Unspelled {A} spells front [] = (x : A) → spells x front → ⊥
 Unspelled {A} spells front (w ∷ ws) = (x : A) (others : List WordView) → spells x (front ++ w ∷ others) → ⊥
 
--- where words are refused, there are words before the refused one, and none that begin with those and the refused one are such
+-- where words are refused, there are words before the refused one, and none that begin with those and the
+-- refused one are such
 abbrev pub RefusedWith : {A : Type 0} → (A → List WordView → Type 0) → List WordView → Refusal → Type 0
-RefusedWith spells words e = (front : List WordView) × (words ≡ front ++ e.left) × Unspelled spells front e.left
+RefusedWith spells words e = (front : List WordView) × (words ≡ front ++ e.left)
+    × Unspelled spells front e.left
 
 -- all words of a value, as reading has it
 abbrev pub reads : {A : Type 0} → Piece A → A → List WordView → Type 0
 reads p x words = read_all p words ≡ Ok x
 
 -- the words before what is left begin some that are such
-pub record Viable {A : Type 0} (spells : A → List WordView → Type 0) (words left : List WordView) : Type 0 where
+pub record Viable {A : Type 0} (spells : A → List WordView
+    → Type 0) (words left : List WordView) : Type 0 where
   pub front : List WordView
   pub more : List WordView
   pub value : A

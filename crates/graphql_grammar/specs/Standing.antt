@@ -19,4 +19,5 @@ words_of_split allowed total (Some split) = word_view split.word ∷ words_at (a
 
 -- the end of the last word that was taken, and the words that are left
 abbrev pub standing : Words → State
-standing words = record { last = words.last; left = before words.next (words_at words.allowed words.total words.rest.now) }
+standing words =
+    record { last = words.last; left = before words.next (words_at words.allowed words.total words.rest.now) }

@@ -1,4 +1,5 @@
--- What the texts of words are, and how words stand in their text: GraphQL specification of October 2021, sections 2.1.6, 2.1.9 and 2.9.
+-- What the texts of words are, and how words stand in their text: GraphQL specification of October 2021,
+-- sections 2.1.6, 2.1.9 and 2.9.
 use Rattle.std.specs.Prelude.{◌≡◌, ◌≤◌, ℕ, true, List, [], ◌∷◌, take, Ok}
 use Rattle.graphql_tokens.specs.Lexemes.{lexeme}
 use Rattle.graphql_tokens.specs.declared.token.TokenKind.{TokenKind}

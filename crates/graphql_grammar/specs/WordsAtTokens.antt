@@ -11,7 +11,12 @@ bytes_at text token = slice_range text token.start token.end
 
 -- the word at a token of a text
 abbrev pub word_at : List ℕ → Token → WordView
-word_at text token = record { kind = word_kind token.kind (bytes_at text token); text = bytes_at text token; start = token.start; end = token.end }
+word_at text token = record {
+  kind = word_kind token.kind (bytes_at text token);
+  text = bytes_at text token;
+  start = token.start;
+  end = token.end;
+}
 
 -- there are tokens, no more than are allowed, and these words are the words at them
 pub record AreAtTokens (allowed : ℕ) (text : List ℕ) (tokens : Tokens) (words : List WordView) : Type 0 where

@@ -1,5 +1,6 @@
 -- The words of a text: GraphQL specification of October 2021, section 2.1.6.
-use Rattle.std.specs.Prelude.{ℕ, zero, suc, List, [], ◌∷◌, length, filter, ◌-◌, codes, nat_eq, if◌then◌else◌, Option, None, Some, Result, Ok, Err}
+use Rattle.std.specs.Prelude.{ℕ, zero, suc, List, [], ◌∷◌, length, filter, ◌-◌, codes, nat_eq, if◌then◌else◌}
+use Rattle.std.specs.Prelude.{Option, None, Some, Result, Ok, Err}
 use lib.Pointwise.{pointwise}
 use Rattle.graphql_tokens.specs.First.{First, first_of}
 use Rattle.graphql_tokens.specs.declared.token.TokenError.{TokenError}
@@ -85,8 +86,10 @@ wrong total text error = record {
   end = total - (length text - error.at);
 }
 
--- the words of a text of which this comes first, and so many are allowed; those behind the first are the words of its rest
-abbrev pub words_by : ℕ → ℕ → List ℕ → Result (Option First) TokenError → (ℕ → List ℕ → List WordView) → List WordView
+-- the words of a text of which this comes first, and so many are allowed; those behind the first are the
+-- words of its rest
+abbrev pub words_by : ℕ → ℕ → List ℕ → Result (Option First) TokenError → (ℕ → List ℕ → List WordView)
+    → List WordView
 words_by allowed total text (Ok None) behind = []
 words_by allowed total text (Err error) behind = wrong total text error ∷ []
 words_by zero total text (Ok (Some f)) behind = too_many total f ∷ []
@@ -95,13 +98,14 @@ words_by (suc allowed) total text (Ok (Some f)) behind = word_of total f ∷ beh
 -- the same, of a text with at most so many tokens
 abbrev pub words_within : ℕ → ℕ → ℕ → List ℕ → List WordView
 words_within zero allowed total text = []
-words_within (suc size) allowed total text = words_by allowed total text (first_of text) (λ left rest. words_within size left total rest)
+words_within (suc size) allowed total text =
+    words_by allowed total text (first_of text) (λ left rest. words_within size left total rest)
 
 -- the words of the end of a text of so many bytes, of which so many are allowed
 unfoldable pub words_at : ℕ → ℕ → List ℕ → List WordView
 words_at allowed total text = words_within (suc (length text)) allowed total text
 
--- the words of a whole text, of which so many are allowed: its tokens; where it stops being tokens, or has more, a last word that
--- nothing is spelled with
+-- the words of a whole text, of which so many are allowed: its tokens; where it stops being tokens, or has
+-- more, a last word that nothing is spelled with
 abbrev pub words_of : ℕ → List ℕ → List WordView
 words_of allowed text = words_at allowed (length text) text

@@ -3,8 +3,10 @@ ghost use Rattle.std.specs.Prelude.{◌≡◌, ◌-◌, [], length, IfOk, Option
 ghost use Rattle.graphql_grammar.specs.Kinds.{is_name, names_of, only};
 ghost use Rattle.graphql_grammar.specs.Pieces.{Gives, GivesSeen, take_sign, take_word};
 ghost use Rattle.graphql_grammar.specs.Standing.{before, standing, words_of_split};
-ghost use Rattle.graphql_grammar.specs.Words.{begins, first_kind, first_word, second_word, seen_word, starting, word_view};
-ghost use Rattle.graphql_grammar.specs.WordsOfText.{error_kind, too_many, word_kind, word_of, words_at, words_of, wrong};
+ghost use Rattle.graphql_grammar.specs.Words.{begins, first_kind, first_word, second_word, seen_word};
+ghost use Rattle.graphql_grammar.specs.Words.{starting, word_view};
+ghost use Rattle.graphql_grammar.specs.WordsOfText.{error_kind, too_many, word_kind, word_of, words_at};
+ghost use Rattle.graphql_grammar.specs.WordsOfText.{words_of, wrong};
 ghost use Rattle.graphql_tokens.specs.First.{seen};
 
 use crate::fault::{FaultKind, ReadError};
@@ -243,7 +245,8 @@ impl<'a> Words<'a> {
 
     /// Takes the next word, which is of this kind; else this is wrong.
     pub fn expect_word(&mut self, kind: Kind, fault: FaultKind) -> Result<Word<'a>, ReadError>
-        ensures { GivesSeen word_view result (standing self.new) (take_word (only kind) fault (standing self.old).left) }
+        ensures { GivesSeen word_view result (standing self.new)
+            (take_word (only kind) fault (standing self.old).left) }
     {
         match self.next {
             Some(word) if word.kind.is(kind) => {
@@ -257,7 +260,8 @@ impl<'a> Words<'a> {
 
     /// Takes the next word, which is such a name; else this is wrong.
     pub fn expect_name(&mut self, names: Names, fault: FaultKind) -> Result<Word<'a>, ReadError>
-        ensures { GivesSeen word_view result (standing self.new) (take_word (names_of names) fault (standing self.old).left) }
+        ensures { GivesSeen word_view result (standing self.new)
+            (take_word (names_of names) fault (standing self.old).left) }
     {
         match self.next {
             Some(word) if names.has(word.kind) => {

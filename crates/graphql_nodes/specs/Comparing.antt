@@ -1,7 +1,8 @@
--- What `==` compares: names and nodes without their locations, tables and sets as what they have under each key.
+-- What `==` compares: names and nodes without their locations, tables and sets as what they have under each
+-- key.
 --
--- **Bare value.** A value without the location of any name or node in it, without the origins of
--- components, and without the sources of a document or schema. `==` of each type is true exactly where
+-- **Bare value.** A value without the location of any name or node in it. It also has no origins of
+-- components, and no sources of a document or schema. `==` of each type is true exactly where
 -- the two bare values are the same (`ComparesBy`). So equality keeps the order of lists, and sees all
 -- texts, and the locations that a `BuildError` has beside its names.
 --
@@ -36,7 +37,8 @@ bare_node f n = record { value = f n.value; location = None }
 abbrev pub entries_by_key : {K V B : Type 0} → (K → K → Bool) → (V → B) → List (K × V) → K → Option B
 entries_by_key eq f es = λ k. option_map f (lookup (eq k) es)
 
--- a table of names as a function: what f gives of the value that stands under the name of this text, if one does
+-- a table of names as a function: what f gives of the value that stands under the name of this text, if one
+-- does
 abbrev pub entries_by_text : {V B : Type 0} → (V → B) → List (NameView × V) → List ℕ → Option B
 entries_by_text f es = λ text. option_map f (lookup (by_text text) es)
 

@@ -21,4 +21,7 @@ plain_name text = record { text = text; location = None }
 
 -- codes of names: different names have different ones
 abbrev pub name_view_code : Coded NameView
-name_view_code = code_by (List ℕ × Option SourceSpan) (coded× (coded_list coded_ℕ) (coded_option span_code)) (λ n. (n.text, n.location)) (λ p. record { text = p.0; location = p.1 }) (λ _. refl)
+name_view_code =
+    code_by (List ℕ
+    × Option SourceSpan) (coded× (coded_list coded_ℕ) (coded_option span_code)) (λ n. (n.text, n.location))
+    (λ p. record { text = p.0; location = p.1 }) (λ _. refl)

@@ -11,8 +11,12 @@ pub record NodeView (T : Type 0) : Type 0 where
 
 -- codes of spans of source files: different spans have different ones
 abbrev pub span_code : Coded SourceSpan
-span_code = code_by (ℕ × (ℕ × ℕ)) (coded× coded_ℕ (coded× coded_ℕ coded_ℕ)) (λ s. (s.file.0, (s.start, s.end))) (λ p. record { file = record { 0 = p.0 }; start = p.1.0; end = p.1.1 }) (λ _. refl)
+span_code = code_by (ℕ
+    × (ℕ × ℕ)) (coded× coded_ℕ (coded× coded_ℕ coded_ℕ)) (λ s. (s.file.0, (s.start, s.end))) (λ p.
+    record { file = record { 0 = p.0 }; start = p.1.0; end = p.1.1 }) (λ _. refl)
 
 -- codes of nodes, from codes of their values: different nodes have different ones
 abbrev pub node_view_code : {T : Type 0} → Coded T → Coded (NodeView T)
-node_view_code {T} c = code_by (T × Option SourceSpan) (coded× c (coded_option span_code)) (λ n. (n.value, n.location)) (λ p. record { value = p.0; location = p.1 }) (λ _. refl)
+node_view_code {T} c =
+    code_by (T × Option SourceSpan) (coded× c (coded_option span_code)) (λ n. (n.value, n.location))
+    (λ p. record { value = p.0; location = p.1 }) (λ _. refl)

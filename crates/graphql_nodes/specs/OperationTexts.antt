@@ -1,7 +1,8 @@
 -- What kinds of operation are called: GraphQL specification of October 2021, sections 2.3 and 3.3.1.
 use Rattle.std.specs.Prelude.{ℕ, List, codes}
 use Rattle.graphql_nodes.specs.declared.operation_type.OperationType.{OperationType}
-use Rattle.graphql_nodes.specs.declared.operation_type.OperationType.TheVariants.{Query, Mutation, Subscription}
+use Rattle.graphql_nodes.specs.declared.operation_type.OperationType.TheVariants.{Query, Mutation}
+use Rattle.graphql_nodes.specs.declared.operation_type.OperationType.TheVariants.{Subscription}
 
 -- the keyword of an operation type
 abbrev pub operation_text : OperationType → List ℕ

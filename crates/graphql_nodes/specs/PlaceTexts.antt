@@ -1,5 +1,5 @@
--- Where something stands, as people and editors read it: the lines are those of the GraphQL specification of October 2021, section
--- 2.1.3.
+-- Where something stands, as people and editors read it: the lines are those of the GraphQL specification of
+-- October 2021, section 2.1.3.
 use Rattle.std.specs.Prelude.{ℕ, List, ◌++◌, ◌==◌, Option, None, Some, codes, cond, decimal}
 use Rattle.graphql_nodes.specs.LineColumns.{line_column_of}
 use Rattle.graphql_nodes.specs.Tables.{lookup}
@@ -14,9 +14,12 @@ abbrev pub behind_path : Option LineColumn → ℕ → List ℕ
 behind_path (Some at) start = codes ":" ++ decimal at.line ++ codes ":" ++ decimal at.column
 behind_path None start = codes ", byte " ++ decimal start
 
--- where a span starts of whose file there is no text: in that of the built-in definitions, whose number is 0, or in another
+-- where a span starts of whose file there is no text: in that of the built-in definitions, whose number is 0,
+-- or in another
 abbrev pub place_without_text : SourceSpan → List ℕ
-place_without_text span = cond (span.file.0 == 0) (codes "built-in") (codes "file " ++ decimal span.file.0 ++ codes ", byte " ++ decimal span.start)
+place_without_text span =
+    cond (span.file.0 == 0) (codes "built-in") (codes "file " ++ decimal span.file.0 ++ codes ", byte "
+    ++ decimal span.start)
 
 -- where a span starts in this file, as `shop.graphql:4:5`, or that the sources lack its file
 abbrev pub place_in : SourceSpan → Option SourceFile → List ℕ

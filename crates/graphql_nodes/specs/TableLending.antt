@@ -5,10 +5,17 @@ use Rattle.graphql_nodes.specs.Tables.{set_value, set_value_at}
 use Rattle.graphql_nodes.specs.contracts.collections.table.Table.{the_row}
 use denote.RattleType.{RattleType}
 
--- once the borrow r ends, the key that passes the test has the last value written; at `None` the table is unchanged
-abbrev pub LendsEntry : (K V : RattleType) → HashMembers K.Denot → MutBor (List (K.Denot × V.Denot)) → (K.Denot → Bool) → Option (MutBor V.Denot) → Fml
-LendsEntry K V key t test r = LendsSo (the_row K V (record { eq = key.eq }) (record { hash_input = key.hash_input })) V t r (λ n w. n ≡ set_value test t.now w) (λ n. n ≡ t.now)
+-- once the borrow r ends, the key that passes the test has the last value written; at `None` the table is
+-- unchanged
+abbrev pub LendsEntry : (K V : RattleType) → HashMembers K.Denot → MutBor (List (K.Denot × V.Denot))
+    → (K.Denot → Bool) → Option (MutBor V.Denot) → Fml
+LendsEntry K V key t test r =
+    LendsSo (the_row K V (record { eq = key.eq }) (record { hash_input = key.hash_input })) V t r (λ n w. n
+    ≡ set_value test t.now w) (λ n. n ≡ t.now)
 
 -- once the borrow r ends, the entry at the place has the last value written; at `None` the table is unchanged
-abbrev pub LendsPlace : (K V : RattleType) → HashMembers K.Denot → MutBor (List (K.Denot × V.Denot)) → ℕ → Option (MutBor V.Denot) → Fml
-LendsPlace K V key t place r = LendsSo (the_row K V (record { eq = key.eq }) (record { hash_input = key.hash_input })) V t r (λ n w. n ≡ set_value_at t.now place w) (λ n. n ≡ t.now)
+abbrev pub LendsPlace : (K V : RattleType) → HashMembers K.Denot → MutBor (List (K.Denot × V.Denot)) → ℕ
+    → Option (MutBor V.Denot) → Fml
+LendsPlace K V key t place r =
+    LendsSo (the_row K V (record { eq = key.eq }) (record { hash_input = key.hash_input })) V t r (λ n w. n
+    ≡ set_value_at t.now place w) (λ n. n ≡ t.now)

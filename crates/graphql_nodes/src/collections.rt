@@ -1,5 +1,5 @@
-//! The standard containers, each behind a small type that contracts see as plain data: a list, bytes, a value or a
-//! list of entries.
+//! The standard containers, each behind a small type that contracts see as plain data: a list, bytes, a value
+//! or a list of entries.
 //!
 //! Each is made from the container and gives it back without taking memory.
 

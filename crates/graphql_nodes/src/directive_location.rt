@@ -54,7 +54,8 @@ impl DirectiveLocation {
 
     /// The location of this name, and none for a text that names no location. Capitals count.
     pub fn from_name(name: &str) -> Option<DirectiveLocation>
-        ensures { MatchOption result ((location : DirectiveLocation) → location_text location ≢ name.now) (λ location. location_text location ≡ name.now) }
+        ensures { MatchOption result ((location : DirectiveLocation)
+            → location_text location ≢ name.now) (λ location. location_text location ≡ name.now) }
     {
         for location in DirectiveLocation::ALL {
             if location.name() == name {

@@ -1,9 +1,12 @@
-//! What `==` answers at each type of this crate: whether the two are one with locations left out, lists in order, tables
-//! and sets without order.
+//! What `==` answers at each type of this crate: whether the two are one with locations left out, lists in
+//! order, tables and sets without order.
 //!
-//! Each law is a function that does nothing. A proof cites it by a call, and finds a clause for each type there.
+//! Each law is a function that does nothing. A proof cites it by a call, and finds a clause for each type
+//! there.
 ghost use Rattle.std.specs.Prelude.{map};
-ghost use Rattle.graphql_nodes.specs.Comparing.{ComparesBy, bare_name, bare_invalid_name, bare_node, entries_by_key, entries_by_text, members_by_key, members_by_text};
+ghost use Rattle.graphql_nodes.specs.Comparing.{ComparesBy, bare_name, bare_invalid_name, bare_node};
+ghost use Rattle.graphql_nodes.specs.Comparing.{entries_by_key, entries_by_text, members_by_key};
+ghost use Rattle.graphql_nodes.specs.Comparing.{members_by_text};
 
 use crate::collections::boxed::Boxed;
 use crate::collections::hash_keys::HashKeys;
@@ -23,8 +26,8 @@ use crate::source::{FileId, SourceFile, SourceSpan};
 use crate::type_kind::TypeKind;
 use std::hash::Hash;
 
-/// Nodes are equal where their values are, lists where their elements are in order, and a box or shared value where
-/// what it holds is.
+/// Nodes are equal where their values are, lists where their elements are in order, and a box or shared value
+/// where what it holds is.
 pub fn equality_of_containers<T: PartialEq>()
     ensures node { (f : T → T) → ComparesBy T.eq f → ComparesBy ⟦<Node<T> as PartialEq>⟧.eq (bare_node f) }
     ensures items { (f : T → T) → ComparesBy T.eq f → ComparesBy ⟦<Items<T> as PartialEq>⟧.eq (map f) }
@@ -32,11 +35,13 @@ pub fn equality_of_containers<T: PartialEq>()
     ensures shared { (f : T → T) → ComparesBy T.eq f → ComparesBy ⟦<Shared<T> as PartialEq>⟧.eq f }
 {}
 
-/// Tables are equal where what stands under each key is, and where nothing stands under it in one, nothing does in the
-/// other; sets where they have the same keys. The order of entries and of keys is left out.
+/// Tables are equal where what stands under each key is, and where nothing stands under it in one, nothing
+/// does in the other; sets where they have the same keys. The order of entries and of keys is left out.
 pub fn equality_of_tables_and_sets<K: Eq + Hash, V: PartialEq>()
-    ensures table { (f : V → V) → ComparesBy V.eq f → ComparesBy ⟦<Table<K, V> as PartialEq>⟧.eq (entries_by_key K.eq f) }
-    ensures table_of_names { (f : V → V) → ComparesBy V.eq f → ComparesBy ⟦<Table<Name, V> as PartialEq>⟧.eq (entries_by_text f) }
+    ensures table { (f : V → V) → ComparesBy V.eq f
+        → ComparesBy ⟦<Table<K, V> as PartialEq>⟧.eq (entries_by_key K.eq f) }
+    ensures table_of_names { (f : V → V) → ComparesBy V.eq f
+        → ComparesBy ⟦<Table<Name, V> as PartialEq>⟧.eq (entries_by_text f) }
     ensures key_set { ComparesBy ⟦<KeySet<K> as PartialEq>⟧.eq (members_by_key K.eq) }
     ensures key_set_of_names { ComparesBy ⟦<KeySet<Name> as PartialEq>⟧.eq (members_by_text (λ n. n)) }
 {}

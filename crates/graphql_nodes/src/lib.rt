@@ -1,7 +1,8 @@
-//! What syntax trees are made of: names, nodes with locations, the containers of trees, and the small enums of GraphQL.
+//! What syntax trees are made of: names, nodes with locations, the containers of trees, and the small enums
+//! of GraphQL.
 //!
-//! Cloning a node shares its value, comparing nodes leaves locations out, and [`Node::make_mut`](node::Node::make_mut)
-//! writes to a node without changing those that share its value.
+//! Cloning a node shares its value, comparing nodes leaves locations out, and
+//! [`Node::make_mut`](node::Node::make_mut) writes to a node without changing those that share its value.
 //!
 //! Proved: names are those of the grammar; `==` ignores locations; ordered tables, sets and lists do what
 //! their comments say; an offset has the right line and column, also by an index; what is shown of a text has

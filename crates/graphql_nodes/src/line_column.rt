@@ -1,4 +1,5 @@
-//! Lines and columns of offsets in texts. Lines end as the GraphQL specification of October 2021 says, section 2.1.3.
+//! Lines and columns of offsets in texts. Lines end as the GraphQL specification of October 2021 says,
+//! section 2.1.3.
 //!
 //! (The bench notation puts numbers of lines in its spans, so these calls are for spans of other texts.)
 ghost use Rattle.std.specs.Prelude.{◌≡◌, ◌≤◌, length};
@@ -15,7 +16,8 @@ pub struct LineColumn {
     pub column: usize,
 }
 
-/// Whether the byte at this place is the last one of a line terminator (section 2.1.3). There is none behind the end.
+/// Whether the byte at this place is the last one of a line terminator (section 2.1.3). There is none behind
+/// the end.
 pub fn ends_line(text: &[u8], at: usize) -> bool
     ensures { result ≡ spec.ends_line text.now at }
 {
@@ -38,8 +40,8 @@ impl LineColumn {
     pub(crate) const FIRST: LineColumn = LineColumn { line: 1, column: 1 };
 }
 
-/// The line and column of an offset within a text, or at its end, counted on from an offset before, where this is its line
-/// and column.
+/// The line and column of an offset within a text, or at its end. It is counted on from an offset before,
+/// whose line and column are given.
 pub(crate) fn counted(text: &[u8], from: usize, start: LineColumn, offset: usize) -> LineColumn
     requires forward { from ≤ offset }
     requires within { offset ≤ length text.now }
@@ -66,9 +68,9 @@ pub(crate) fn counted(text: &[u8], from: usize, start: LineColumn, offset: usize
 impl SourceFile {
     /// The line and column of a byte offset of the text, and none for an offset beyond the end of the text.
     ///
-    /// A line feed, a carriage return, and a carriage return with a line feed after it are one line terminator each
-    /// (section 2.1.3). An offset between those two is still on the line that they end. An offset within a character has the
-    /// column after that character's.
+    /// A line feed, a carriage return, and a carriage return with a line feed after it are one line
+    /// terminator each (section 2.1.3). An offset between those two is still on the line that they end. An
+    /// offset within a character has the column after that character's.
     pub fn get_line_column(&self, offset: usize) -> Option<LineColumn>
         ensures { result ≡ line_column_of self.now.text offset }
     {
@@ -81,16 +83,16 @@ impl SourceFile {
 }
 
 impl SourceSpan {
-    /// The line and column where the span starts. There are none if the sources lack its file, or if it starts beyond the
-    /// end of the file's text.
+    /// The line and column where the span starts. There are none if the sources lack its file, or if it
+    /// starts beyond the end of the file's text.
     pub fn line_column(&self, sources: &SourceMap) -> Option<LineColumn>
         ensures { result ≡ start_of self.now sources.now }
     {
         sources.get(&self.file)?.get_line_column(self.start)
     }
 
-    /// The lines and columns where the span starts and where it ends. There are none if the sources lack its file, or if
-    /// either is beyond the end of the file's text.
+    /// The lines and columns where the span starts and where it ends. There are none if the sources lack its
+    /// file, or if either is beyond the end of the file's text.
     pub fn line_column_range(&self, sources: &SourceMap) -> Option<Range<LineColumn>>
         ensures { result ≡ range_of self.now sources.now }
     {

@@ -11,8 +11,8 @@ const STRIDE: usize = 256;
 
 /// A text, with the lines and columns of offsets that stand regularly in it.
 ///
-/// It takes one pass over the text to make, and a sixteenth of the text's memory. The line and column of an offset are then
-/// found by reading less than 256 bytes, however long the text and its lines are.
+/// It takes one pass over the text to make, and a sixteenth of the text's memory. The line and column of an
+/// offset are then found by reading less than 256 bytes, however long the text and its lines are.
 #[derive(Drop)]
 pub struct LineIndex<'a> {
     text: &'a str,
@@ -38,9 +38,8 @@ impl<'a> LineIndex<'a> {
         Ok(LineIndex { text, milestones })
     }
 
-    /// The line and column of a byte offset of the text, as
-    /// [`SourceFile::get_line_column`](crate::source::SourceFile::get_line_column) counts them, and none for an offset beyond
-    /// the end of the text.
+    /// The line and column of a byte offset of the text, none for an offset beyond its end. They are counted
+    /// as [`SourceFile::get_line_column`](crate::source::SourceFile::get_line_column) does.
     pub fn get_line_column(&self, offset: usize) -> Option<LineColumn>
         ensures { result ≡ line_column_of self.now.text.now offset }
     {

@@ -2,7 +2,8 @@
 ghost use Rattle.std.specs.Prelude.{◌≡◌, IfOk, IfErr, OnOk, None, Some, ◌↔◌, IsTrue, nat_eq};
 ghost use Rattle.std.specs.Cmp.{on_equiv, on_per, on_total, on_po};
 ghost use Rattle.std.specs.Cmp.Rules.{hashing};
-ghost use Rattle.std.specs.Cmp.Lexicographic.{pointwise, slice_cmp, nat_list_eq_equiv, nat_list_cmp_total, texts_ties, texts_po};
+ghost use Rattle.std.specs.Cmp.Lexicographic.{pointwise, slice_cmp, nat_list_eq_equiv, nat_list_cmp_total};
+ghost use Rattle.std.specs.Cmp.Lexicographic.{texts_ties, texts_po};
 ghost use Rattle.std.specs.Cmp;
 ghost use Rattle.std.specs.Hash as fed;
 ghost use Rattle.std.specs.Fmt.{debug_str};
@@ -36,7 +37,8 @@ pub struct InvalidNameError {
     pub location: Option<SourceSpan>,
 }
 
-/// Why [`Name::new`] answers no name: `Invalid`, the text is none; `Memory`, out of memory, which says nothing of the text.
+/// Why [`Name::new`] answers no name: `Invalid`, the text is none; `Memory`, out of memory, which says
+/// nothing of the text.
 #[derive(Debug, Drop, Error)]
 pub enum NameError {
     #[error(transparent)]
@@ -67,9 +69,11 @@ impl From<AllocError> for NameError {
     }
 }
 
-/// A GraphQL name (section 2.1.9), and its location, if it is known. Copies share the text, and have the location.
+/// A GraphQL name (section 2.1.9), and its location, if it is known. Copies share the text, and have the
+/// location.
 ///
-/// Names are equal, and are ordered and hashed, by their texts: the location is left out. `Display` is the text.
+/// Names are equal, and are ordered and hashed, by their texts: the location is left out. `Display` is the
+/// text.
 pub struct Name {
     shared: Rc<NameText>,
     location: Option<SourceSpan>,
@@ -113,8 +117,8 @@ fn is_name_continue(byte: u8) -> bool
 impl Name {
     /// A name with this text, and no location.
     ///
-    /// A text that is no GraphQL name is refused with [`NameError::Invalid`], which carries it without a location.
-    /// [`NameError::Memory`] is out of memory, and says nothing of the text.
+    /// A text that is no GraphQL name is refused with [`NameError::Invalid`], which carries it without a
+    /// location. [`NameError::Memory`] is out of memory, and says nothing of the text.
     pub fn new(alloc: Global, text: &str) -> Result<Name, NameError>
         ensures ok { IfOk result (λ n. n ≡ record { text = text.now; location = None }) }
         ensures valid { OnOk result (IsName text.now) }
@@ -129,8 +133,8 @@ impl Name {
         Ok(Name::new_unchecked(alloc, text)?)
     }
 
-    /// Whether the text is a GraphQL name (section 2.1.9): an ASCII letter or `_`, then any number of ASCII letters,
-    /// digits and `_`.
+    /// Whether the text is a GraphQL name (section 2.1.9): an ASCII letter or `_`, then any number of ASCII
+    /// letters, digits and `_`.
     pub fn is_valid_syntax(text: &str) -> bool
         ensures { IsTrue result ↔ IsName text.now }
     {

@@ -5,8 +5,8 @@ ghost use Rattle.graphql_nodes.specs.NameTexts.{name_text};
 use arrayvec::ArrayString;
 use std::alloc::{AllocError, Global};
 
-/// The text of a name. A short one, as most are, stands in the block that copies of the name share, and takes no further
-/// memory.
+/// The text of a name. A short one, as most are, stands in the block that copies of the name share, and takes
+/// no further memory.
 #[derive(Drop)]
 pub(crate) enum NameText {
     Short(ArrayString<24>),

@@ -20,7 +20,8 @@ pub trait Named {
 
 /// The first of these that has the name's text, if there is one.
 pub fn first_of_name<'a, T: Named>(nodes: &'a [Node<T>], name: &Name) -> Option<&'a Node<T>>
-    ensures { option_copied result ≡ find (λ (node : NodeView T). same_text (T.name_of node.value) name.now) nodes.now }
+    ensures { option_copied result
+        ≡ find (λ (node : NodeView T). same_text (T.name_of node.value) name.now) nodes.now }
 {
     nodes.iter().find(|node| node.name() == name)
 }

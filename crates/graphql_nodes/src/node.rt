@@ -122,9 +122,9 @@ impl<T: Drop + Clone> Node<T> {
 
     /// The value, to write to. When the loan ends, the node holds what was written, and its location stays.
     ///
-    /// Where the value is shared, this node gets a copy of its own first, so the nodes that shared it keep what they have.
-    /// Premise: a clone of a `T` is the original, which holds of each type of the syntax tree. The error is out of memory,
-    /// and leaves the node as it was.
+    /// Where the value is shared, this node gets a copy of its own first, so the nodes that shared it keep
+    /// what they have. Premise: a clone of a `T` is the original, which holds of each type of the syntax
+    /// tree. The error is out of memory, and leaves the node as it was.
     pub fn make_mut(&mut self) -> Result<&mut T, AllocError>
         requires { (x y : T) → T.Clone.is_clone x y → y ≡ x }
         ensures* writes_back { sem 𝓛 (LendsValue T.row self.entry result) }

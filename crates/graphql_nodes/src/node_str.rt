@@ -33,7 +33,8 @@ impl Drop for Placed {
 
 /// A text, and its location, if it is known. Copies share the text, and have the location.
 ///
-/// Texts are equal and hashed without their locations. A text is one pointer wide, since most definitions have none.
+/// Texts are equal and hashed without their locations. A text is one pointer wide, since most definitions
+/// have none.
 pub struct NodeStr {
     placed: Boxed<Placed>,
 }

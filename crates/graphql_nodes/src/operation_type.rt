@@ -26,8 +26,8 @@ impl OperationType {
         }
     }
 
-    /// The name of the object type that is this kind's root where no schema definition names one (section 3.3.1):
-    /// `Query`, `Mutation` or `Subscription`, without a location. The error is out of memory.
+    /// The name of the object type that is this kind's root where no schema definition names one (section
+    /// 3.3.1): `Query`, `Mutation` or `Subscription`, without a location. The error is out of memory.
     pub fn default_type_name(self, alloc: Global) -> Result<NamedType, AllocError>
         ensures { IfOk result (λ n. n ≡ record { text = default_type_text self; location = None }) }
     {

@@ -16,8 +16,8 @@ impl FileId {
     pub const BUILT_IN: FileId = FileId(0);
 }
 
-/// A location in a source file: from the byte `start` up to, and without, the byte `end`. (The bench notation puts the number
-/// of a line in both.)
+/// A location in a source file: from the byte `start` up to, and without, the byte `end`. (The bench notation
+/// puts the number of a line in both.)
 #[derive(Clone, Copy, Debug, PartialEq, Eq, Hash)]
 pub struct SourceSpan {
     pub file: FileId,
@@ -52,9 +52,11 @@ impl SourceFile {
 /// The source files of a document, by their numbers.
 pub type SourceMap = Table<FileId, Shared<SourceFile>>;
 
-/// Adds the files of other sources, in order. Of two files of one number the later stays, where the earlier stood.
+/// Adds the files of other sources, in order. Of two files of one number the later stays, where the earlier
+/// stood.
 ///
-/// The error is out of memory, and leaves the sources as they were. It comes only where there are files to add.
+/// The error is out of memory, and leaves the sources as they were. It comes only where there are files to
+/// add.
 pub fn merge_sources(sources: &mut SourceMap, more: &SourceMap) -> Result<(), AllocError>
     ensures merged { OnOk result (sources.new ≡ merged sources.old more.now) }
     ensures err { OnErr result (sources.new ≡ sources.old) }

@@ -1,9 +1,10 @@
 -- What block strings say: GraphQL specification of October 2021, section 2.9.4, "Block Strings".
 --
--- `\"""` says `"""`. The lines of what is said are cut at LF, CR LF and CR. All but the first lose their common
--- indent, the least of those that are not blank. Blank lines are dropped at the beginning and at the end. The rest
--- is joined by line feeds.
-use Rattle.std.specs.Prelude.{ℕ, Bool, ◌||◌, ◌&&◌, not, List, [], ◌∷◌, ◌++◌, drop, length, map, min, nat_eq, take, if◌then◌else◌, Option, None, Some}
+-- `\"""` says `"""`. The lines of what is said are cut at LF, CR LF and CR. All but the first lose their
+-- common indent, the least of those that are not blank. Blank lines are dropped at the beginning and at the
+-- end. The rest is joined by line feeds.
+use Rattle.std.specs.Prelude.{ℕ, Bool, ◌||◌, ◌&&◌, not, List, [], ◌∷◌, ◌++◌, drop, length, map, min, nat_eq}
+use Rattle.std.specs.Prelude.{take, if◌then◌else◌, Option, None, Some}
 use Rattle.std.specs.Borrow.{Bor}
 use Rattle.std.specs.List.{prefix_len}
 use Rattle.std.specs.Option.{option_map_or, unwrap_or}
@@ -11,7 +12,8 @@ use Rattle.graphql_tokens.specs.Bytes.{begins, is_control, is_line_end}
 use Rattle.graphql_tokens.specs.Strings.{begins_with_quotes, block_character_size}
 use Rattle.graphql_tokens.specs.StringValues.{said}
 
--- what a character of a block string says: three quotes, if it is `\"""`, which alone has four bytes, or else itself
+-- what a character of a block string says: three quotes, if it is `\"""`, which alone has four bytes, or else
+-- itself
 abbrev pub block_says : List ℕ → List ℕ
 block_says character = if nat_eq (length character) 4 then 34 ∷ 34 ∷ 34 ∷ [] else character
 
@@ -72,7 +74,8 @@ is_blank_line line = nat_eq (indent line) (length line)
 
 -- the least indent so far, where this line comes next: a blank line doesn't count
 abbrev pub least_indent : Option ℕ → List ℕ → Option ℕ
-least_indent found line = if is_blank_line line then found else Some (option_map_or (min (indent line)) found (indent line))
+least_indent found line =
+    if is_blank_line line then found else Some (option_map_or (min (indent line)) found (indent line))
 
 -- the least indent of these lines and of those before, if there is one
 abbrev pub common_indent : Option ℕ → List (List ℕ) → Option ℕ

@@ -1,4 +1,5 @@
--- Bytes of a text, by what they are in the lexical grammar: GraphQL specification of October 2021, section 2.1 and appendix B.
+-- Bytes of a text, by what they are in the lexical grammar: GraphQL specification of October 2021, section
+-- 2.1 and appendix B.
 use Rattle.std.specs.Prelude.{ℕ, Bool, false, ◌||◌, ◌&&◌, not, List, [], ◌∷◌, nat_eq, nat_le, nat_lt}
 use Rattle.std.specs.Char.{is_ascii_digit}
 

@@ -6,7 +6,8 @@ use Rattle.graphql_tokens.specs.declared.first.FirstToken.{FirstToken}
 use Rattle.graphql_tokens.specs.declared.token.TokenError.{TokenError}
 use Rattle.graphql_tokens.specs.declared.token.TokenKind.{TokenKind}
 
--- a token with what stands on both sides of it: how many bytes before it say nothing, what it is, its bytes, and all behind it
+-- a token with what stands on both sides of it: how many bytes before it say nothing, what it is, its bytes,
+-- and all behind it
 pub record First : Type 0 where
   pub passed : ℕ
   pub kind : TokenKind
@@ -19,7 +20,8 @@ FirstReading = Result (Option First) TokenError
 
 -- what is read at the front of these bytes, behind so many that say nothing
 abbrev pub read_behind : ℕ → List ℕ → Reading → FirstReading
-read_behind passed text (Ok l) = Ok (Some (record { passed = passed; kind = l.kind; text = take l.size text; rest = drop l.size text }))
+read_behind passed text (Ok l) =
+    Ok (Some (record { passed = passed; kind = l.kind; text = take l.size text; rest = drop l.size text }))
 read_behind passed text (Err e) = Err (record { kind = e.kind; at = passed + e.at })
 
 -- what stands at the front of these bytes, behind so many that say nothing

@@ -1,5 +1,7 @@
--- What stands at the front of a text: GraphQL specification of October 2021, sections 2.1.6 to 2.1.9, 2.9.1, 2.9.2 and 2.9.4.
-use Rattle.std.specs.Prelude.{ℕ, Bool, false, ◌||◌, ◌&&◌, List, [], ◌∷◌, ◌+◌, drop, nat_eq, if◌then◌else◌, Option, None, Some, Result, Ok, Err}
+-- What stands at the front of a text: GraphQL specification of October 2021, sections 2.1.6 to 2.1.9, 2.9.1,
+-- 2.9.2 and 2.9.4.
+use Rattle.std.specs.Prelude.{ℕ, Bool, false, ◌||◌, ◌&&◌, List, [], ◌∷◌, ◌+◌, drop, nat_eq, if◌then◌else◌}
+use Rattle.std.specs.Prelude.{Option, None, Some, Result, Ok, Err}
 use Rattle.std.specs.List.{prefix_len}
 use Rattle.std.specs.Char.{is_ascii_digit}
 use Rattle.graphql_tokens.specs.Bytes.{begins, is_control, is_name_byte, is_name_start}
@@ -49,7 +51,8 @@ is_spread _ = false
 
 -- the number that begins at the front
 abbrev pub number_token : Part → Reading
-number_token n = if n.is_whole then token (if n.is_float then k.Float else k.Int) n.size else wrong e.InvalidNumber n.size
+number_token n =
+    if n.is_whole then token (if n.is_float then k.Float else k.Int) n.size else wrong e.InvalidNumber n.size
 
 -- what is wrong where the characters of a string or block string end without quotes behind them
 abbrev pub string_fault : List ℕ → TokenErrorKind
@@ -61,13 +64,15 @@ string_fault text =
 abbrev pub string_token : List ℕ → Reading
 string_token text =
     let n = characters text in
-    if begins (nat_eq 34) (drop n text) then token k.String (n + 2) else wrong (string_fault (drop n text)) (n + 1)
+    if begins (nat_eq 34) (drop n text) then token k.String (n + 2) else wrong (string_fault (drop n text))
+    (n + 1)
 
 -- the block string whose characters these are, behind its quotes
 abbrev pub block_string_token : List ℕ → Reading
 block_string_token text =
     let n = block_characters text in
-    if begins_with_quotes (drop n text) then token k.BlockString (n + 6) else wrong (string_fault (drop n text)) (n + 3)
+    if begins_with_quotes (drop n text) then token k.BlockString (n + 6) else wrong
+    (string_fault (drop n text)) (n + 3)
 
 -- the punctuator that the first byte is alone
 abbrev pub first_sign : List ℕ → Option TokenKind

@@ -38,7 +38,9 @@ sign text = if begins (nat_eq 43) text || begins (nat_eq 45) text then 1 else 0
 
 -- an exponent, if `e` or `E` stands there: a sign, if any, and digits
 abbrev pub exponent : List ℕ → Part
-exponent text = if begins (nat_eq 101) text || begins (nat_eq 69) text then with_digits (1 + sign (drop 1 text)) text else no_part
+exponent text =
+    if begins (nat_eq 101) text
+    || begins (nat_eq 69) text then with_digits (1 + sign (drop 1 text)) text else no_part
 
 -- a part, and the next one, which is looked for only behind a whole one, and makes a float
 abbrev pub then_part : Part → Part → Part
@@ -61,4 +63,6 @@ goes_on text = begins is_name_byte text || begins (nat_eq 46) text
 
 -- the number at the front, as far as there is one
 abbrev pub number : List ℕ → Part
-number text = if goes_on (drop (scientific text).size text) then record (scientific text) { is_whole = false } else scientific text
+number text =
+    if goes_on (drop (scientific text).size text) then record (scientific text) { is_whole = false } else
+    scientific text

@@ -1,8 +1,9 @@
 -- Pieces of a text, one behind the other.
 use Rattle.std.specs.Prelude.{ℕ, zero, suc, List, [], ◌∷◌, ◌+◌, ◌-◌, nat_eq, if◌then◌else◌}
 
--- how many bytes pieces take at the front, as many as there are, where this says how many bytes of a piece stand at the front of a
--- text, and none where there is no piece; so many bytes are still of the piece before
+-- how many bytes pieces take at the front, as many pieces as there are. The function says how many bytes of a
+-- piece stand at the front of a text, and none where there is no piece. So many bytes are still of the piece
+-- before
 abbrev pub pieces : (List ℕ → ℕ) → ℕ → List ℕ → ℕ
 pieces size left [] = 0
 pieces size (suc left) (c ∷ cs) = pieces size left cs + 1

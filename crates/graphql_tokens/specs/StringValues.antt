@@ -1,17 +1,22 @@
--- What strings say: GraphQL specification of October 2021, section 2.9.4. (`\u{..}` is of the edition of September 2025.)
-use Rattle.std.specs.Prelude.{ℕ, zero, suc, Bool, ◌||◌, not, List, [], ◌∷◌, ◌++◌, ◌+◌, ◌-◌, ◌*◌, drop, nat_eq, take, if◌then◌else◌, Option, None, Some}
+-- What strings say: GraphQL specification of October 2021, section 2.9.4. (`\u{..}` is of the edition of
+-- September 2025.)
+use Rattle.std.specs.Prelude.{ℕ, zero, suc, Bool, ◌||◌, not, List, [], ◌∷◌, ◌++◌, ◌+◌, ◌-◌, ◌*◌, drop, nat_eq}
+use Rattle.std.specs.Prelude.{take, if◌then◌else◌, Option, None, Some}
 use Rattle.std.specs.Char.{encode_utf8}
 use Rattle.std.specs.List.{prefix_len}
 use Rattle.std.specs.Option.{option_map_or}
 use Rattle.graphql_tokens.specs.Bytes.{is_control, is_hex, is_line_end}
-use Rattle.graphql_tokens.specs.Strings.{character_size, hex_number, is_escaped, is_leading, is_scalar, is_trailing, unit_at}
+use Rattle.graphql_tokens.specs.Strings.{character_size, hex_number, is_escaped, is_leading, is_scalar}
+use Rattle.graphql_tokens.specs.Strings.{is_trailing, unit_at}
 
--- what the characters of a text say, one after the other, up to where none stands: `size` gives the bytes of the character at the
--- front, 0 for none, and `says` what it says; `left` bytes are still of the character before
+-- what the characters of a text say, one after the other, up to where none stands: `size` gives the bytes of
+-- the character at the front, 0 for none, and `says` what it says; `left` bytes are still of the character
+-- before
 abbrev pub said : (List ℕ → ℕ) → (List ℕ → List ℕ) → ℕ → List ℕ → List ℕ
 said size says left [] = []
 said size says (suc left) (c ∷ cs) = said size says left cs
-said size says zero (c ∷ cs) = if nat_eq (size (c ∷ cs)) 0 then [] else says (c ∷ cs) ++ said size says (size (c ∷ cs) - 1) cs
+said size says zero (c ∷ cs) =
+    if nat_eq (size (c ∷ cs)) 0 then [] else says (c ∷ cs) ++ said size says (size (c ∷ cs) - 1) cs
 
 -- the character that a byte stands for behind a `\`
 abbrev pub letter : ℕ → ℕ
@@ -28,7 +33,8 @@ scalar_of n = if is_scalar n then Some n else None
 
 -- the character of a leading surrogate and a trailing one
 abbrev pub pair : ℕ → ℕ → Option ℕ
-pair leading trailing = if is_trailing trailing then scalar_of (65536 + (leading - 55296) * 1024 + (trailing - 56320)) else None
+pair leading trailing =
+    if is_trailing trailing then scalar_of (65536 + (leading - 55296) * 1024 + (trailing - 56320)) else None
 
 -- the character of a code unit, to which the one behind it belongs where it is a leading surrogate
 abbrev pub unit_character : ℕ → List ℕ → Option ℕ
@@ -53,7 +59,8 @@ abbrev pub bytes_of : Option ℕ → List ℕ
 bytes_of None = []
 bytes_of (Some c) = encode_utf8 c
 
--- what the character at the front of a string says: an escape the character that it stands for, any other byte itself
+-- what the character at the front of a string says: an escape the character that it stands for, any other
+-- byte itself
 abbrev pub character_says : List ℕ → List ℕ
 character_says [] = []
 character_says (c ∷ cs) = if nat_eq c 92 then bytes_of (escaped (c ∷ cs)) else c ∷ []
@@ -71,6 +78,7 @@ characters_say text = said character_size character_says 0 text
 abbrev pub is_plain : ℕ → Bool
 is_plain c = not (nat_eq c 34 || (nat_eq c 92 || (is_line_end c || is_control c)))
 
--- the value of a string token, of its bytes with the quotes; what bytes say that are no string token means nothing
+-- the value of a string token, of its bytes with the quotes; what bytes say that are no string token means
+-- nothing
 abbrev pub string_value : List ℕ → List ℕ
 string_value token = characters_say (behind_quote token)

@@ -1,5 +1,7 @@
--- Strings and block strings: GraphQL specification of October 2021, section 2.9.4. (`\u{..}` is of the edition of September 2025.)
-use Rattle.std.specs.Prelude.{ℕ, Bool, false, ◌||◌, ◌&&◌, not, List, [], ◌∷◌, ◌+◌, ◌-◌, ◌*◌, drop, take, nat_eq, nat_le, nat_lt, if◌then◌else◌, Option, None, Some}
+-- Strings and block strings: GraphQL specification of October 2021, section 2.9.4. (`\u{..}` is of the
+-- edition of September 2025.)
+use Rattle.std.specs.Prelude.{ℕ, Bool, false, ◌||◌, ◌&&◌, not, List, [], ◌∷◌, ◌+◌, ◌-◌, ◌*◌, drop, take}
+use Rattle.std.specs.Prelude.{nat_eq, nat_le, nat_lt, if◌then◌else◌, Option, None, Some}
 use Rattle.std.specs.List.{prefix_len}
 use Rattle.std.specs.Option.{option_map_or}
 use Rattle.std.specs.Char.{is_ascii_digit}
@@ -40,8 +42,8 @@ abbrev pub trailing_size : Option ℕ → ℕ
 trailing_size None = 0
 trailing_size (Some n) = if is_trailing n then 12 else 0
 
--- how many bytes the escape of a code unit takes: that of a leading surrogate takes that of the trailing one behind it along, and no
--- surrogate stands alone
+-- how many bytes the escape of a code unit takes: that of a leading surrogate takes that of the trailing one
+-- behind it along, and no surrogate stands alone
 abbrev pub unit_size : ℕ → List ℕ → ℕ
 unit_size n behind = if is_scalar n then 6 else (if is_leading n then trailing_size (unit_at behind) else 0)
 
@@ -49,11 +51,14 @@ unit_size n behind = if is_scalar n then 6 else (if is_leading n then trailing_s
 abbrev pub names_scalar : List ℕ → Bool
 names_scalar digits = is_scalar (hex_number 0 digits)
 
--- how many bytes hexadecimal digits, at least one, and `}` take, if they stand at the front, and are of a Unicode scalar value
+-- how many bytes hexadecimal digits, at least one, and `}` take, if they stand at the front, and are of a
+-- Unicode scalar value
 abbrev pub in_braces : List ℕ → ℕ
 in_braces text =
     let n = prefix_len is_hex text in
-    if nat_eq n 0 || not (begins (nat_eq 125) (drop n text)) then 0 else (if names_scalar (take n text) then n + 1 else 0)
+    if nat_eq n 0
+    || not (begins (nat_eq 125) (drop n text)) then 0 else
+    (if names_scalar (take n text) then n + 1 else 0)
 
 -- so many bytes more, if there are any
 abbrev pub with_head : ℕ → ℕ → ℕ
@@ -61,12 +66,15 @@ with_head head n = if nat_eq n 0 then 0 else n + head
 
 -- how many bytes `\u{..}` takes, if it stands at the front
 abbrev pub braced_size : List ℕ → ℕ
-braced_size (s ∷ u ∷ l ∷ rest) = if nat_eq s 92 && (nat_eq u 117 && nat_eq l 123) then with_head 3 (in_braces rest) else 0
+braced_size (s ∷ u ∷ l ∷ rest) =
+    if nat_eq s 92 && (nat_eq u 117 && nat_eq l 123) then with_head 3 (in_braces rest) else 0
 braced_size _ = 0
 
 -- whether a byte stands for a character behind a `\`
 abbrev pub is_escaped : ℕ → Bool
-is_escaped c = nat_eq c 34 || (nat_eq c 92 || (nat_eq c 47 || (nat_eq c 98 || (nat_eq c 102 || (nat_eq c 110 || (nat_eq c 114 || nat_eq c 116))))))
+is_escaped c =
+    nat_eq c 34 || (nat_eq c 92
+    || (nat_eq c 47 || (nat_eq c 98 || (nat_eq c 102 || (nat_eq c 110 || (nat_eq c 114 || nat_eq c 116))))))
 
 -- how many bytes an escape by its number takes: by four digits, or else in braces
 abbrev pub number_size : List ℕ → ℕ
@@ -76,8 +84,8 @@ number_size text = option_map_or (λ n. unit_size n (drop 6 text)) (unit_at text
 abbrev pub escape_size : List ℕ → ℕ
 escape_size text = if begins is_escaped (drop 1 text) then 2 else number_size text
 
--- how many bytes a character of a string takes, if one stands at the front, where each byte beyond ASCII counts as one; neither a quote
--- nor a line end is a character
+-- how many bytes a character of a string takes, if one stands at the front, where each byte beyond ASCII
+-- counts as one; neither a quote nor a line end is a character
 abbrev pub character_size : List ℕ → ℕ
 character_size [] = 0
 character_size (c ∷ cs) =

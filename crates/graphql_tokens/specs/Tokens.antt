@@ -1,7 +1,7 @@
 -- The tokens of a text: GraphQL specification of October 2021, section 2.1.
 --
--- What says nothing is passed over. Then comes the longest token that stands there, and so on, up to the end of
--- the text or to what is wrong first.
+-- What says nothing is passed over. Then comes the longest token that stands there, and so on, up to the end
+-- of the text or to what is wrong first.
 use Rattle.std.specs.Prelude.{ℕ, zero, suc, List, [], ◌∷◌, ◌+◌, ◌-◌, nat_eq, if◌then◌else◌, Result, Ok, Err}
 use Rattle.graphql_tokens.specs.Ignored.{one_ignored}
 use Rattle.graphql_tokens.specs.Lexemes.{Reading, lexeme}
@@ -32,8 +32,9 @@ abbrev pub read_at : Reading → ℕ → (ℕ → Tokens) → Tokens
 read_at (Ok l) at behind = put_first (token_at at l) (behind (l.size - 1))
 read_at (Err e) at behind = Err (record { kind = e.kind; at = at + e.at })
 
--- the tokens of a text whose first byte stands at this place: so many bytes are of what stands before; what says nothing is passed
--- over; then comes the token that stands there, or what is wrong there, and what stands behind it
+-- the tokens of a text whose first byte stands at this place: so many bytes are of what stands before; what
+-- says nothing is passed over; then comes the token that stands there, or what is wrong there, and what
+-- stands behind it
 abbrev pub tokens_from : ℕ → ℕ → List ℕ → Tokens
 tokens_from left at [] = Ok []
 tokens_from (suc left) at (c ∷ cs) = tokens_from left (at + 1) cs

@@ -1,7 +1,8 @@
 //! The characters that escapes of strings stand for: GraphQL specification of October 2021, section 2.9.4.
 ghost use Rattle.std.specs.Prelude.{◌≡◌, ◌++◌, string_bytes, IsTrue, OnOk};
 ghost use Rattle.graphql_tokens.specs.Strings.{is_leading};
-ghost use Rattle.graphql_tokens.specs.StringValues.{braced_character, bytes_of, escaped, letter, numbered, pair, scalar_of, unit_character};
+ghost use Rattle.graphql_tokens.specs.StringValues.{braced_character, bytes_of, escaped, letter, numbered};
+ghost use Rattle.graphql_tokens.specs.StringValues.{pair, scalar_of, unit_character};
 
 use crate::runs::hex_digits;
 use crate::strings::{hex_number, is_escaped, is_leading, is_trailing, unit_at};

@@ -1,9 +1,12 @@
-//! The token at the front of a text: GraphQL specification of October 2021, sections 2.1.6 to 2.1.9, 2.9.1, 2.9.2 and 2.9.4.
+//! The token at the front of a text: GraphQL specification of October 2021, sections 2.1.6 to 2.1.9, 2.9.1,
+//! 2.9.2 and 2.9.4.
 ghost use Rattle.std.specs.Prelude.{◌≡◌, ◌<◌, ◌≤◌, ◌+◌, length, true, IfSome, MatchResult};
 ghost use Rattle.graphql_tokens.specs.Bytes.{begins, is_name_byte, is_name_start};
 ghost use Rattle.std.specs.List.{prefix_len};
 ghost use Rattle.graphql_tokens.specs.declared.token.TokenKind.TheVariants as k;
-ghost use Rattle.graphql_tokens.specs.Lexemes.{block_string_token, first_sign, is_number_start, is_spread, lexeme, number_token, sign_kind, sign_token, string_fault, string_token};
+ghost use Rattle.graphql_tokens.specs.Lexemes.{block_string_token, first_sign, is_number_start, is_spread};
+ghost use Rattle.graphql_tokens.specs.Lexemes.{lexeme, number_token, sign_kind, sign_token, string_fault};
+ghost use Rattle.graphql_tokens.specs.Lexemes.{string_token};
 ghost use Rattle.graphql_tokens.specs.Numbers.{number};
 
 use crate::ignored::is_control;
@@ -54,7 +57,8 @@ fn is_spread(text: &[u8]) -> bool
 /// The number at the front.
 fn number_token(text: &[u8]) -> Result<Lexeme, TokenError>
     ensures same { result ≡ number_token (number text.now) }
-    ensures within { MatchResult result (λ found. (0 < found.size) × (found.size ≤ length text.now)) (λ wrong. wrong.at ≤ length text.now) }
+    ensures within { MatchResult result (λ found. (0 < found.size)
+        × (found.size ≤ length text.now)) (λ wrong. wrong.at ≤ length text.now) }
 {
     let part = number(text);
     if !part.is_whole {
@@ -87,7 +91,8 @@ fn string_fault(text: &[u8]) -> TokenErrorKind
 /// The string whose characters these are, behind its quote.
 fn string_token(text: &[u8]) -> Result<Lexeme, TokenError>
     ensures same { result ≡ string_token text.now }
-    ensures within { MatchResult result (λ found. (0 < found.size) × (found.size ≤ length text.now + 1)) (λ wrong. wrong.at ≤ length text.now + 1) }
+    ensures within { MatchResult result (λ found. (0 < found.size)
+        × (found.size ≤ length text.now + 1)) (λ wrong. wrong.at ≤ length text.now + 1) }
 {
     let count = character_bytes(text);
     let rest = &text[count..];
@@ -106,7 +111,8 @@ fn string_token(text: &[u8]) -> Result<Lexeme, TokenError>
 /// The block string whose characters these are, behind its quotes.
 fn block_string_token(text: &[u8]) -> Result<Lexeme, TokenError>
     ensures same { result ≡ block_string_token text.now }
-    ensures within { MatchResult result (λ found. (0 < found.size) × (found.size ≤ length text.now + 3)) (λ wrong. wrong.at ≤ length text.now + 3) }
+    ensures within { MatchResult result (λ found. (0 < found.size)
+        × (found.size ≤ length text.now + 3)) (λ wrong. wrong.at ≤ length text.now + 3) }
 {
     let count = block_character_bytes(text);
     let rest = &text[count..];
@@ -136,7 +142,8 @@ fn first_sign(text: &[u8]) -> Option<TokenKind>
 /// That punctuator.
 fn sign_token(text: &[u8]) -> Result<Lexeme, TokenError>
     ensures same { result ≡ sign_token (first_sign text.now) }
-    ensures within { MatchResult result (λ found. (0 < found.size) × (found.size ≤ length text.now)) (λ wrong. wrong.at ≤ length text.now) }
+    ensures within { MatchResult result (λ found. (0 < found.size)
+        × (found.size ≤ length text.now)) (λ wrong. wrong.at ≤ length text.now) }
 {
     match first_sign(text) {
         Some(kind) => Ok(Lexeme { kind, size: 1 }),
@@ -182,7 +189,8 @@ fn begins_number(text: &[u8]) -> bool
 /// The token at the front of a text, or what is wrong there.
 pub(crate) fn first_token(text: &[u8]) -> Result<Lexeme, TokenError>
     ensures same { result ≡ lexeme text.now }
-    ensures within { MatchResult result (λ found. (0 < found.size) × (found.size ≤ length text.now)) (λ wrong. wrong.at ≤ length text.now) }
+    ensures within { MatchResult result (λ found. (0 < found.size)
+        × (found.size ≤ length text.now)) (λ wrong. wrong.at ≤ length text.now) }
 {
     if begins_name(text) {
         Ok(name_token(text))

@@ -1,4 +1,5 @@
-//! Texts as tokens: the lexical grammar of the GraphQL specification of October 2021, section 2.1 and appendix B.
+//! Texts as tokens: the lexical grammar of the GraphQL specification of October 2021, section 2.1 and
+//! appendix B.
 //!
 //! Proved: a text is read as the tokens of the lexical grammar, with the bytes of each, or the first thing
 //! wrong is reported; strings have the values that their tokens say.

@@ -1,7 +1,12 @@
 //! The lines of a block string: GraphQL specification of October 2021, section 2.9.4.
-ghost use Rattle.std.specs.Prelude.{◌≡◌, ◌++◌, ◌∷◌, ◌≤◌, None, length, map, string_bytes, unwrap_or, IfOk, OnOk};
+ghost use Rattle.std.specs.Prelude.{◌≡◌, ◌++◌, ◌∷◌, ◌≤◌, None, length, map, string_bytes, unwrap_or, IfOk};
+ghost use Rattle.std.specs.Prelude.{OnOk};
 ghost use Rattle.std.specs.List.{prefix_len};
-ghost use Rattle.graphql_tokens.specs.BlockStringValues.{behind_feeds, common_indent, dedented, indent, is_blank_line, is_in_line, is_white, joined, least_indent, line_end, lines, lines_left, unindented, without_blank_end, without_blank_start, without_indent};
+ghost use Rattle.graphql_tokens.specs.BlockStringValues.{behind_feeds, common_indent, dedented, indent};
+ghost use Rattle.graphql_tokens.specs.BlockStringValues.{is_blank_line, is_in_line, is_white, joined};
+ghost use Rattle.graphql_tokens.specs.BlockStringValues.{least_indent, line_end, lines, lines_left};
+ghost use Rattle.graphql_tokens.specs.BlockStringValues.{unindented, without_blank_end, without_blank_start};
+ghost use Rattle.graphql_tokens.specs.BlockStringValues.{without_indent};
 ghost use Rattle.graphql_tokens.specs.Texts.{bytes_left, texts_of};
 
 use crate::ignored::is_line_end;
@@ -107,7 +112,8 @@ fn push_unindented<'a>(
     count: usize,
     text: Option<&'a str>,
 ) -> Result<(), AllocError>
-    ensures { OnOk result (texts_of list.new.items ≡ texts_of list.old.items ++ map (unindented count) (lines_left text.entry)) }
+    ensures { OnOk result (texts_of list.new.items
+        ≡ texts_of list.old.items ++ map (unindented count) (lines_left text.entry)) }
 {
     let mut left = text;
     'lines: while let Some(rest) = left {
@@ -118,7 +124,8 @@ fn push_unindented<'a>(
     Ok(())
 }
 
-/// The lines of a text without the common indent of all but the first, which keeps its own. The error is out of memory.
+/// The lines of a text without the common indent of all but the first, which keeps its own. The error is out
+/// of memory.
 fn without_indent<'a>(alloc: Global, text: &'a str) -> Result<Vec<&'a str>, AllocError>
     ensures { IfOk result (λ list. texts_of list.items ≡ without_indent (lines text.now)) }
 {
@@ -159,7 +166,8 @@ fn without_blank_end<'b, 'a>(list: &'b [&'a str]) -> &'b [&'a str]
 
 /// Adds lines, each behind a line feed. The error is out of memory.
 fn push_lines(value: &mut String, list: &[&str]) -> Result<(), AllocError>
-    ensures { OnOk result (string_bytes value.new ≡ string_bytes value.old ++ behind_feeds (texts_of list.now)) }
+    ensures { OnOk result (string_bytes value.new
+        ≡ string_bytes value.old ++ behind_feeds (texts_of list.now)) }
 {
     for line in list {
         value.push('\n')?;
@@ -168,7 +176,8 @@ fn push_lines(value: &mut String, list: &[&str]) -> Result<(), AllocError>
     Ok(())
 }
 
-/// Lines with a line feed between each two, in a text with room for so many bytes. The error is out of memory.
+/// Lines with a line feed between each two, in a text with room for so many bytes. The error is out of
+/// memory.
 fn joined(alloc: Global, list: &[&str], capacity: usize) -> Result<String, AllocError>
     ensures { IfOk result (λ value. string_bytes value ≡ joined (texts_of list.now)) }
 {

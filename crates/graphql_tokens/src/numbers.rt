@@ -1,11 +1,13 @@
 //! Numbers: GraphQL specification of October 2021, sections 2.9.1 and 2.9.2.
 ghost use Rattle.std.specs.Prelude.{◌≡◌, ◌<◌, ◌≤◌, ◌+◌, ◌^◌, length, nat_eq, true, IsTrue};
 ghost use Rattle.graphql_tokens.specs.Bytes.{begins};
-ghost use Rattle.graphql_tokens.specs.Numbers.{decimal, exponent, fraction, goes_on, integer, number, scientific, then_part, with_digits};
+ghost use Rattle.graphql_tokens.specs.Numbers.{decimal, exponent, fraction, goes_on, integer, number};
+ghost use Rattle.graphql_tokens.specs.Numbers.{scientific, then_part, with_digits};
 
 use crate::runs::{digits, is_name_byte};
 
-/// A part of a number at the front: how many bytes can be of it, whether they are all of one, and whether it is a float.
+/// A part of a number at the front: how many bytes can be of it, whether they are all of one, and whether it
+/// is a float.
 #[derive(Clone, Copy)]
 pub(crate) struct Part {
     pub(crate) size: usize,

@@ -9,10 +9,11 @@ pub(crate) trait Says {
     /// What the characters at the front of a text say, up to what is none.
     ghost say: { List ℕ → List ℕ };
 
-    /// Adds what one character or more say that stand at the front. Answers what stands behind them, and nothing where no character
-    /// stands there. The error is out of memory.
+    /// Adds what one character or more say that stand at the front. Answers what stands behind them, and
+    /// nothing where no character stands there. The error is out of memory.
     fn push<'a>(value: &mut String, text: &'a str) -> Result<Option<&'a str>, AllocError>
-        ensures said { IfOk result (λ left. string_bytes value.old ++ say text.now ≡ string_bytes value.new ++ left_says say left) }
+        ensures said { IfOk result (λ left. string_bytes value.old ++ say text.now
+            ≡ string_bytes value.new ++ left_says say left) }
         ensures shorter { IfOk result (λ left. bytes_left left ≤ length text.now) };
 }
 

@@ -1,7 +1,11 @@
 //! Strings and block strings: GraphQL specification of October 2021, section 2.9.4.
 ghost use Rattle.std.specs.Prelude.{◌≡◌, ◌≤◌, ◌<◌, ◌+◌, drop, length, min, IfSome, IsTrue};
 ghost use Rattle.graphql_tokens.specs.Bytes.{begins};
-ghost use Rattle.graphql_tokens.specs.Strings.{begins_with_quotes, block_character_size, block_characters, braced_size, character_size, characters, escape_size, hex_digit, hex_number, in_braces, is_escaped, is_leading, is_scalar, is_trailing, names_scalar, number_size, unit_at, unit_size};
+ghost use Rattle.graphql_tokens.specs.Strings.{begins_with_quotes, block_character_size, block_characters};
+ghost use Rattle.graphql_tokens.specs.Strings.{braced_size, character_size, characters, escape_size};
+ghost use Rattle.graphql_tokens.specs.Strings.{hex_digit, hex_number, in_braces, is_escaped, is_leading};
+ghost use Rattle.graphql_tokens.specs.Strings.{is_scalar, is_trailing, names_scalar, number_size, unit_at};
+ghost use Rattle.graphql_tokens.specs.Strings.{unit_size};
 
 use crate::ignored::{is_control, is_line_end};
 use crate::numbers::begins;
@@ -112,7 +116,8 @@ fn names_scalar(digits: &[u8]) -> bool
     is_scalar(hex_number(digits))
 }
 
-/// How many bytes hexadecimal digits and `}` take, if they stand at the front, and are of a Unicode scalar value.
+/// How many bytes hexadecimal digits and `}` take, if they stand at the front, and are of a Unicode scalar
+/// value.
 fn in_braces(text: &[u8]) -> usize
     ensures same { result ≡ in_braces text.now }
     ensures within { result ≤ length text.now }

@@ -1,7 +1,8 @@
 //! The values of strings and block strings: GraphQL specification of October 2021, section 2.9.4.
 ghost use Rattle.std.specs.Prelude.{◌≡◌, ◌++◌, ◌≤◌, length, string_bytes, IfOk, OnOk};
 ghost use Rattle.std.specs.List.{prefix_len};
-ghost use Rattle.graphql_tokens.specs.BlockStringValues.{behind_quotes, block_characters_say, block_says, block_string_value, is_plain_in_block};
+ghost use Rattle.graphql_tokens.specs.BlockStringValues.{behind_quotes, block_characters_say, block_says};
+ghost use Rattle.graphql_tokens.specs.BlockStringValues.{block_string_value, is_plain_in_block};
 ghost use Rattle.graphql_tokens.specs.StringValues.{behind_quote, characters_say, is_plain, string_value};
 
 use crate::escapes::push_escaped;
@@ -116,8 +117,8 @@ fn behind_quotes<'a>(token: &'a str) -> &'a str
     }
 }
 
-/// The value of a string token, of its bytes with the quotes. Of a text that is no such token it means nothing. The error is out of
-/// memory.
+/// The value of a string token, of its bytes with the quotes. Of a text that is no such token it means
+/// nothing. The error is out of memory.
 pub fn string_value(alloc: Global, token: &str) -> Result<Text, AllocError>
     ensures { IfOk result (λ value. value ≡ string_value token.now) }
 {
@@ -125,8 +126,8 @@ pub fn string_value(alloc: Global, token: &str) -> Result<Text, AllocError>
     Ok(Text::from_string(value))
 }
 
-/// The value of a block string token, of its bytes with the quotes. Of a text that is no such token it means nothing. The error is out
-/// of memory.
+/// The value of a block string token, of its bytes with the quotes. Of a text that is no such token it means
+/// nothing. The error is out of memory.
 pub fn block_string_value(alloc: Global, token: &str) -> Result<Text, AllocError>
     ensures { IfOk result (λ value. value ≡ block_string_value token.now) }
 {

@@ -1,10 +1,10 @@
 //! The keys that tables and sets hash by, and their hasher.
 //!
-//! Whoever knows the keys can make names that all get one hash, and a table of such names takes a time that grows with
-//! their square. So a table of names from strangers is given keys that nobody can foretell. The hasher is std's
-//! `FoldHasher` with both of its numbers taken from the keys: each step multiplies two words (of a text of at most eight
-//! bytes, the text and its length), each joined with a secret one, so without the keys no two texts can be chosen that
-//! collide under many of them.
+//! Whoever knows the keys can make names that all get one hash. A table of such names takes a time that grows
+//! with their square. So a table of names from strangers is given keys that nobody can foretell. The hasher is
+//! std's `FoldHasher` with both of its numbers taken from the keys. Each step multiplies two words, each
+//! joined with a secret one. Of a text of at most eight bytes these are the text and its length. So without
+//! the keys no two texts can be chosen that collide under many of them.
 ghost use Rattle.std.specs.Prelude.{◌≡◌, ◌+◌, ◌≤◌, length};
 ghost use Rattle.std.specs.Hash.FoldHasher as folding;
 ghost use Rattle.graphql_nodes.specs.KeyedHash as keyed;
@@ -13,8 +13,8 @@ use std::hash::{BuildHasher, Hasher};
 use std::random::RandomSource;
 use std::{fmt, io};
 
-/// What a table or set hashes by, and keeps through clones. Answers and orders never depend on it, and what contracts see of
-/// a table or set leaves it out.
+/// What a table or set hashes by, and keeps through clones. Answers and orders never depend on it, and what
+/// contracts see of a table or set leaves it out.
 #[derive(Clone, Copy, PartialEq, Eq)]
 pub struct HashKeys {
     start: u64,
@@ -28,20 +28,20 @@ impl HashKeys {
         factor: 0x9e37_79b9_7f4a_7c15,
     };
 
-    /// The keys of sixteen bytes that the source gives, as the runtime does. They serve servers and whoever else takes names
-    /// from strangers: nobody can foretell them.
+    /// The keys of sixteen bytes that the source gives, as the runtime does. They serve servers and whoever
+    /// else takes names from strangers: nobody can foretell them.
     ///
-    /// The error is the source's own, where it gives no bytes. Whoever then goes on with [`HashKeys::FIXED`] goes on
-    /// without protection.
-    /// No clause: the trait of sources promises nothing of the bytes, nor of when it fails.
+    /// The error is the source's own, where it gives no bytes. Whoever then goes on with [`HashKeys::FIXED`]
+    /// goes on without protection. No clause: the trait of sources promises nothing of the bytes, nor of when
+    /// it fails.
     pub fn drawn<S: RandomSource>(source: &S) -> io::Result<HashKeys> {
         let mut bytes = [0; 16];
         source.fill_bytes(&mut bytes)?;
         Ok(HashKeys::from_bytes(bytes))
     }
 
-    /// The keys that these bytes are, eight for each of the two words, the lowest first. They serve keys that are known
-    /// beforehand, as in tests; where names come from strangers, [`HashKeys::drawn`] serves.
+    /// The keys that these bytes are, eight for each of the two words, the lowest first. They serve keys that
+    /// are known beforehand, as in tests; where names come from strangers, [`HashKeys::drawn`] serves.
     pub fn from_bytes(bytes: [u8; 16]) -> HashKeys
         ensures start { result.start ≡ folding.read_u64 bytes 0 }
         ensures factor { result.factor ≡ folding.read_u64 bytes 8 }

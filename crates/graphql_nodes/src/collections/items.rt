@@ -1,5 +1,6 @@
 //! Lists.
-ghost use Rattle.std.specs.Prelude.{◌≡◌, [], ◌∷◌, ◌++◌, ◌<◌, ◌^◌, length, ◌==◌, slice_get, Some, OnOk, OnErr, IfOk, IfErr};
+ghost use Rattle.std.specs.Prelude.{◌≡◌, [], ◌∷◌, ◌++◌, ◌<◌, ◌^◌, length, ◌==◌, slice_get, Some, OnOk, OnErr};
+ghost use Rattle.std.specs.Prelude.{IfOk, IfErr};
 ghost use Rattle.std.specs.Borrow.{sem};
 ghost use Rattle.std.specs.Option.{option_copied};
 ghost use Rattle.std.proofs.Common.{rules};
@@ -21,7 +22,8 @@ use std::ops::{Deref, DerefMut, Index, IndexMut};
 use std::slice::{Iter, IterMut};
 use std::vec::IntoIter;
 
-/// A `Vec` that contracts see as the list of its elements. Lists are equal, and hashed, by their elements in order.
+/// A `Vec` that contracts see as the list of its elements. Lists are equal, and hashed, by their elements in
+/// order.
 pub struct Items<T> {
     items: Vec<T>,
 }
@@ -119,7 +121,8 @@ impl<T> Items<T> {
         self.as_slice().iter()
     }
 
-    /// Adds an element at the end. The error is out of memory: the list is as it was, and the element is dropped.
+    /// Adds an element at the end. The error is out of memory: the list is as it was, and the element is
+    /// dropped.
     pub fn push(&mut self, item: T) -> Result<(), AllocError>
     where
         T: Drop,
@@ -228,8 +231,8 @@ impl<T> Index<usize> for Items<T> {
 impl<T> IndexMut<usize> for Items<T> {
     ghost use Rattle.graphql_nodes.specs.ItemsLending.{LendsItem};
 
-    /// The element at a place, to write to. Premise: the list has that place. When the loan ends, this element is what was
-    /// written, and all others are as they were.
+    /// The element at a place, to write to. Premise: the list has that place. When the loan ends, this
+    /// element is what was written, and all others are as they were.
     fn index_mut(&mut self, index: usize) -> &mut T
         requires { index < length self.old }
         ensures* writes_back { sem 𝓛 (LendsItem T.row self.entry index result) }
@@ -244,7 +247,8 @@ impl<T: Drop> Extend<T> for Items<T> {
 
     /// Adds what the iterator gives at the end, in order. Premise: the iterator may be called, and ends.
     ///
-    /// The error is out of memory: the list then has what it had and, at the end, what the iterator gave before.
+    /// The error is out of memory: the list then has what it had and, at the end, what the iterator gave
+    /// before.
     fn extend<U: IntoIterator<Item = T>>(&mut self, iter: U) -> Result<(), AllocError> {
         self.items.extend(iter)
     }
@@ -255,8 +259,8 @@ impl<T: Drop> FromIterator<T> for Items<T> {
 
     ghost from_iter_gives = { λ xs it. it ≡ xs };
 
-    /// What the iterator gives, in order, as `collect` answers it. Premise: the iterator may be called, and ends. The error is
-    /// out of memory, and drops what was given.
+    /// What the iterator gives, in order, as `collect` answers it. Premise: the iterator may be called, and
+    /// ends. The error is out of memory, and drops what was given.
     fn from_iter<U: IntoIterator<Item = T>>(
         alloc: Global,
         iter: U,
@@ -273,7 +277,8 @@ impl<T: Drop> IntoIterator for Items<T> {
 
     type IntoIter = IntoIter<T>;
 
-    ghost into_iter_gives = { λ it r. (into_iter_items r ≡ it) × (into_iter_len r ≡ length it) × (into_iter_len r < 2 ^ 64)
+    ghost into_iter_gives = { λ it r. (into_iter_items r ≡ it) × (into_iter_len r ≡ length it)
+        × (into_iter_len r < 2 ^ 64)
         × EveryRun (into_iter_steps {X = T} {Z = Global}) (λ p. ItemsAre p (into_iter_items p.from)) };
 
     /// The elements themselves, one by one, in order.

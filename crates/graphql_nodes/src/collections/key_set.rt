@@ -1,10 +1,12 @@
 //! Sets in the order of insertion.
-ghost use Rattle.std.specs.Prelude.{◌≡◌, ◌==◌, ◌<◌, ◌^◌, [], length, position, slice_get, Some, option_map, IfSome, not, IfOk, IfErr, OnOk, OnErr, true, false};
+ghost use Rattle.std.specs.Prelude.{◌≡◌, ◌==◌, ◌<◌, ◌^◌, [], length, position, slice_get, Some, option_map};
+ghost use Rattle.std.specs.Prelude.{IfSome, not, IfOk, IfErr, OnOk, OnErr, true, false};
 ghost use Rattle.std.specs.Cmp;
 ghost use Rattle.std.specs.Option.{option_copied};
 ghost use Rattle.std.specs.Map.Iter.{ShowsInOrder, deref};
 ghost use Rattle.std.specs.List.{find, list_all, list_any, IsDistinct};
-ghost use Rattle.graphql_nodes.specs.KeySets.{set_eq, set_eq_equiv, insert_key, remove_key, has_key, IsSetClone};
+ghost use Rattle.graphql_nodes.specs.KeySets.{set_eq, set_eq_equiv, insert_key, remove_key, has_key};
+ghost use Rattle.graphql_nodes.specs.KeySets.{IsSetClone};
 
 use crate::collections::hash_keys::HashKeys;
 use indexmap::IndexSet;
@@ -14,8 +16,8 @@ use std::fmt;
 use std::hash::Hash;
 use std::marker::Model;
 
-/// A set in the order of insertion, which contracts see as the list of its keys. They see nothing of the keys that it
-/// hashes by.
+/// A set in the order of insertion, which contracts see as the list of its keys. They see nothing of the keys
+/// that it hashes by.
 ///
 /// Sets are equal where they have the same keys, in any order.
 pub struct KeySet<T: Eq + Hash> {
@@ -40,7 +42,8 @@ impl<T: Eq + Hash> Model for KeySet<T> {
 }
 
 impl<T: Eq + Hash> KeySet<T> {
-    /// No key. The set hashes by fixed keys: for one that strangers fill, take [`with_keys`](KeySet::with_keys).
+    /// No key. The set hashes by fixed keys: for one that strangers fill, take
+    /// [`with_keys`](KeySet::with_keys).
     pub fn new(alloc: Global) -> KeySet<T>
         ensures { result ≡ [] }
     {
@@ -156,8 +159,8 @@ impl<T: Eq + Hash> KeySet<T> {
         self.set.iter()
     }
 
-    /// Whether a key equal to this one is there, as [`contains`](KeySet::contains) answers. No hash is made if it stands at
-    /// the place.
+    /// Whether a key equal to this one is there, as [`contains`](KeySet::contains) answers. No hash is made
+    /// if it stands at the place.
     fn contains_from(&self, place: usize, key: &T) -> bool
         ensures { result ≡ has_key (T.eq key.now) self.now }
     {
@@ -167,7 +170,8 @@ impl<T: Eq + Hash> KeySet<T> {
         }
     }
 
-    /// Whether the other set has each key of this one. That takes no hash where both have their keys in one order.
+    /// Whether the other set has each key of this one. That takes no hash where both have their keys in one
+    /// order.
     fn has_its_keys_in(&self, other: &KeySet<T>) -> bool
         ensures { result ≡ list_all (λ k. has_key (T.eq k) other.now) self.now }
     {
@@ -183,7 +187,8 @@ impl<T: Eq + Hash> KeySet<T> {
 impl<T: Eq + Hash + Drop> KeySet<T> {
     /// Puts the key last, or leaves the equal one that is there. Answers whether there was none.
     ///
-    /// The error is out of memory, which only a new key meets. It gives the key back, and leaves the set as it was.
+    /// The error is out of memory, which only a new key meets. It gives the key back, and leaves the set as
+    /// it was.
     pub fn insert(&mut self, key: T) -> Result<bool, AllocFailed<T>>
         ensures added { IfOk result (λ added. added ≡ not (has_key (T.eq key) self.old)) }
         ensures keys { OnOk result (self.new ≡ insert_key T.eq self.old key) }
@@ -229,8 +234,8 @@ impl<T: Eq + Hash> Eq for KeySet<T> {
 impl<T: Eq + Hash + Clone + Drop> Clone for KeySet<T> {
     ghost is_clone = { IsSetClone T.is_clone };
 
-    /// A set of clones. Where clones of the keys are the originals, it has the same keys in the same order. The error is out
-    /// of memory.
+    /// A set of clones. Where clones of the keys are the originals, it has the same keys in the same order.
+    /// The error is out of memory.
     #[tactic(auto, using(crate::proofs::KeySetClones::exact_keys))]
     fn clone(&self) -> Result<KeySet<T>, AllocError> {
         let set = self.set.clone()?;

@@ -12,7 +12,8 @@ use std::fmt;
 use std::hash::{Hash, Hasher};
 use std::marker::Model;
 
-/// A `&'static str` that contracts see as its bytes. Texts are equal and hashed by these. `Display` is the text.
+/// A `&'static str` that contracts see as its bytes. Texts are equal and hashed by these. `Display` is the
+/// text.
 #[derive(Drop)]
 pub struct StaticText {
     inner: &'static str,

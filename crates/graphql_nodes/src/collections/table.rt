@@ -1,5 +1,7 @@
 //! Maps in the order of insertion.
-ghost use Rattle.std.specs.Prelude.{◌≡◌, ◌==◌, ◌<◌, ◌+◌, ◌^◌, [], ◌∷◌, ◌++◌, length, position, slice_get, Some, None, IsSome, IfSome, IfOk, IfErr, OnOk, OnErr, is_some, option_map, if◌then◌else◌};
+ghost use Rattle.std.specs.Prelude.{◌≡◌, ◌==◌, ◌<◌, ◌+◌, ◌^◌, [], ◌∷◌, ◌++◌, length, position, slice_get};
+ghost use Rattle.std.specs.Prelude.{Some, None, IsSome, IfSome, IfOk, IfErr, OnOk, OnErr, is_some};
+ghost use Rattle.std.specs.Prelude.{option_map, if◌then◌else◌};
 ghost use Rattle.std.specs.Borrow.{sem};
 ghost use Rattle.std.specs.Cmp;
 ghost use Rattle.std.specs.Cmp.{partial_equiv_from_equiv};
@@ -7,7 +9,9 @@ ghost use Rattle.std.specs.HashMap.Eq.{hash_map_eq_symm, hash_map_eq_trans, hash
 ghost use Rattle.std.specs.Map.Iter.{ShowsInOrder, ShowsValuesInOrder, deref, deref_pair};
 ghost use Rattle.std.specs.List.{list_all};
 ghost use Rattle.std.specs.Option.{option_copied, option_copied_mut, option_eq};
-ghost use Rattle.graphql_nodes.specs.Tables.{keys_of, values_of, lookup, lookup_key, set_value, remove_entry, insert_entry, insert_all, set_value_at, as_map, table_eq, HasUniqueKeys, IsTableClone};
+ghost use Rattle.graphql_nodes.specs.Tables.{keys_of, values_of, lookup, lookup_key, set_value, remove_entry};
+ghost use Rattle.graphql_nodes.specs.Tables.{insert_entry, insert_all, set_value_at, as_map, table_eq};
+ghost use Rattle.graphql_nodes.specs.Tables.{HasUniqueKeys, IsTableClone};
 
 use crate::collections::hash_keys::HashKeys;
 use indexmap::IndexMap;
@@ -17,8 +21,8 @@ use std::fmt;
 use std::hash::Hash;
 use std::marker::Model;
 
-/// A map in the order of insertion, which contracts see as the list of its entries. They see nothing of the keys that
-/// it hashes by.
+/// A map in the order of insertion, which contracts see as the list of its entries. They see nothing of the
+/// keys that it hashes by.
 ///
 /// Tables are equal where they have equal values under the same keys, in any order.
 pub struct Table<K: Eq + Hash, V> {
@@ -45,7 +49,8 @@ impl<K: Eq + Hash, V> Model for Table<K, V> {
 impl<K: Eq + Hash, V> Table<K, V> {
     ghost use Rattle.graphql_nodes.specs.TableLending.{LendsEntry, LendsPlace};
 
-    /// No entry. The table hashes by fixed keys: for one that strangers fill, take [`with_keys`](Table::with_keys).
+    /// No entry. The table hashes by fixed keys: for one that strangers fill, take
+    /// [`with_keys`](Table::with_keys).
     pub fn new(alloc: Global) -> Table<K, V>
         ensures { result ≡ [] }
     {
@@ -128,8 +133,8 @@ impl<K: Eq + Hash, V> Table<K, V> {
         self.map.contains_key(key)
     }
 
-    /// The value at the key, to write to, if there is one. When the loan ends, the entry has what was written, and its key
-    /// and the rest of the table are as they were.
+    /// The value at the key, to write to, if there is one. When the loan ends, the entry has what was
+    /// written, and its key and the rest of the table are as they were.
     #[tactic(auto, using(crate::proofs::TableLemmas::as_found))]
     pub fn get_mut(&mut self, key: &K) -> Option<&mut V>
         ensures* writes_back { sem 𝓛 (LendsEntry K.row V.row K.Hash self.entry (K.eq key.now) result) }
@@ -163,8 +168,8 @@ impl<K: Eq + Hash, V> Table<K, V> {
         self.map.get_index(index)
     }
 
-    /// The value at a place, to write to, if there is an entry. When the loan ends, the entry has what was written, and its
-    /// key and the rest of the table are as they were.
+    /// The value at a place, to write to, if there is an entry. When the loan ends, the entry has what was
+    /// written, and its key and the rest of the table are as they were.
     #[tactic(auto, using(crate::proofs::TableLemmas::as_found_at))]
     pub fn get_index_mut(&mut self, index: usize) -> Option<&mut V>
         ensures* writes_back { sem 𝓛 (LendsPlace K.row V.row K.Hash self.entry index result) }
@@ -211,8 +216,8 @@ impl<K: Eq + Hash, V> Table<K, V> {
         self.map.values()
     }
 
-    /// The value at the key, if there is one, as [`get`](Table::get) finds it. No hash is made if its entry stands at the
-    /// place.
+    /// The value at the key, if there is one, as [`get`](Table::get) finds it. No hash is made if its entry
+    /// stands at the place.
     fn get_from(&self, place: usize, key: &K) -> Option<&V>
         ensures { option_copied result ≡ lookup (K.eq key.now) self.now }
     {
@@ -234,12 +239,14 @@ impl<K: Eq + Hash, V> Table<K, V> {
         }
     }
 
-    /// Whether the other table has an equal value at each key of this one. That takes no hash where both have their keys
-    /// in one order.
+    /// Whether the other table has an equal value at each key of this one. That takes no hash where both have
+    /// their keys in one order.
     fn has_its_values_in(&self, other: &Table<K, V>) -> bool
     where
         V: PartialEq,
-        ensures { result ≡ list_all (λ k. option_eq V.eq (lookup (K.eq k) self.now) (lookup (K.eq k) other.now)) (keys_of self.now) }
+        ensures { result
+            ≡ list_all (λ k. option_eq V.eq (lookup (K.eq k) self.now) (lookup (K.eq k) other.now))
+            (keys_of self.now) }
     {
         for place in 0..self.len() {
             let Some((key, value)) = self.map.get_index(place) else {
@@ -254,11 +261,11 @@ impl<K: Eq + Hash, V> Table<K, V> {
 }
 
 impl<K: Eq + Hash + Drop, V> Table<K, V> {
-    /// Puts the value at the key. An equal key that is there stays, in its place, and a new one goes last. Answers the value
-    /// that stood there, if one did.
+    /// Puts the value at the key. An equal key that is there stays, in its place, and a new one goes last.
+    /// Answers the value that stood there, if one did.
     ///
-    /// The error is out of memory, which only a new key meets. It gives the key and the value back, and leaves the table as
-    /// it was.
+    /// The error is out of memory, which only a new key meets. It gives the key and the value back, and
+    /// leaves the table as it was.
     pub fn insert(&mut self, key: K, value: V) -> Result<Option<V>, AllocFailed<(K, V)>>
         ensures old { IfOk result (λ old. old ≡ lookup (K.eq key) self.old) }
         ensures entries { OnOk result (self.new ≡ insert_entry K.eq self.old key value) }
@@ -270,7 +277,8 @@ impl<K: Eq + Hash + Drop, V> Table<K, V> {
         self.map.insert(key, value)
     }
 
-    /// Inserts each entry of the other table in turn, as [`insert`](Table::insert) does. The other table is then empty.
+    /// Inserts each entry of the other table in turn, as [`insert`](Table::insert) does. The other table is
+    /// then empty.
     ///
     /// The error is out of memory, and leaves both tables as they were.
     pub fn append(&mut self, other: &mut Table<K, V>) -> Result<(), AllocError>
@@ -304,7 +312,11 @@ impl<K: Eq + Hash + fmt::Debug, V: fmt::Debug> fmt::Debug for Table<K, V> {
 impl<K: Eq + Hash, V: PartialEq> PartialEq for Table<K, V> {
     ghost eq = { table_eq K.eq V.eq };
 
-    ghost laws = { let v = V.laws in record { symm = λ a b. hash_map_eq_symm K.eq V.eq v.symm (as_map a) (as_map b); trans = λ a b c. hash_map_eq_trans K.eq V.eq K.Eq.laws v.trans (as_map a) (as_map b) (as_map c) } };
+    ghost laws = { let v = V.laws in
+        record {
+          symm = λ a b. hash_map_eq_symm K.eq V.eq v.symm (as_map a) (as_map b);
+          trans = λ a b c. hash_map_eq_trans K.eq V.eq K.Eq.laws v.trans (as_map a) (as_map b) (as_map c);
+        } };
 
     #[tactic(auto, using(crate::proofs::SameLength::tables_of_one_length, crate::proofs::SameLength::tables_of_two_lengths))]
     fn eq(&self, other: &Table<K, V>) -> bool {
@@ -313,14 +325,20 @@ impl<K: Eq + Hash, V: PartialEq> PartialEq for Table<K, V> {
 }
 
 impl<K: Eq + Hash, V: Eq> Eq for Table<K, V> {
-    ghost laws = { let v = V.Eq.laws in Cmp.equiv (record { symm = λ a b. hash_map_eq_symm K.eq V.eq v.symm (as_map a) (as_map b); trans = λ a b c. hash_map_eq_trans K.eq V.eq K.Eq.laws (partial_equiv_from_equiv v).trans (as_map a) (as_map b) (as_map c) }) (λ a. hash_map_eq_refl K.eq V.eq v.refl (as_map a)) };
+    ghost laws = { let v = V.Eq.laws in
+        Cmp.equiv (record {
+          symm = λ a b. hash_map_eq_symm K.eq V.eq v.symm (as_map a) (as_map b);
+          trans = λ a b c.
+              hash_map_eq_trans K.eq V.eq K.Eq.laws (partial_equiv_from_equiv v).trans (as_map a) (as_map b)
+              (as_map c);
+        }) (λ a. hash_map_eq_refl K.eq V.eq v.refl (as_map a)) };
 }
 
 impl<K: Eq + Hash + Clone + Drop, V: Clone + Drop> Clone for Table<K, V> {
     ghost is_clone = { IsTableClone K.is_clone V.is_clone };
 
-    /// A table of clones. Where clones of the keys and the values are the originals, it has the same entries in the same order.
-    /// The error is out of memory.
+    /// A table of clones. Where clones of the keys and the values are the originals, it has the same entries
+    /// in the same order. The error is out of memory.
     #[tactic(auto, using(crate::proofs::TableLemmas::exact_clones))]
     fn clone(&self) -> Result<Table<K, V>, AllocError> {
         let map = self.map.clone()?;

@@ -22,8 +22,8 @@ struct Seen {
     text: Rc<NameText>,
 }
 
-/// Texts of names that were seen. A text has a slot by its hash, and the first of a slot keeps it, so a name takes one look,
-/// whatever names there are.
+/// Texts of names that were seen. A text has a slot by its hash, and the first of a slot keeps it. So a name
+/// takes one look, whatever names there are.
 #[derive(Drop)]
 pub struct SeenNames {
     slots: Vec<Option<Seen>>,
@@ -39,8 +39,8 @@ impl SeenNames {
         Ok(SeenNames { slots })
     }
 
-    /// A name with this text, whatever it is, and no location. It shares its text with one that was seen, if the slot of the
-    /// text holds it. The error is out of memory.
+    /// A name with this text, whatever it is, and no location. It shares its text with one that was seen, if
+    /// the slot of the text holds it. The error is out of memory.
     pub fn name(&mut self, alloc: Global, text: &str) -> Result<Name, AllocError>
         ensures { IfOk result (λ name. name ≡ record { text = text.now; location = None }) }
     {

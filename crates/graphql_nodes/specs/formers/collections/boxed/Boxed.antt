@@ -47,23 +47,35 @@ module _ (R S : RattleType) (h : R.Denot → S.Denot) where
   unfolding part_of
   box_places a = record {
     mir_same = λ i. (box_of (one_value R (a.mir_same i) (λ _. ftrue) (λ _ _. nothing) gnil)).mir;
-    own_same = λ b i. (box_of (one_value R (a.mir_same i) (a.own_same b.value i) (a.shr_same b.value i) gnil)).own_val (with_value b tt);
-    shr_same = λ b i. (box_of (one_value R (a.mir_same i) (a.own_same b.value i) (a.shr_same b.value i) gnil)).shr_at (with_value b tt);
+    own_same = λ b i.
+        (box_of (one_value R (a.mir_same i) (a.own_same b.value i) (a.shr_same b.value i) gnil)).own_val
+        (with_value b tt);
+    shr_same = λ b i.
+        (box_of (one_value R (a.mir_same i) (a.own_same b.value i) (a.shr_same b.value i) gnil)).shr_at
+        (with_value b tt);
   }
 
   pub the_places : Alike R S h → Alike (C.the_row R) (C.the_row S) ((the_former this).map R.Denot S.Denot h)
-  the_places a = view_places fields this view (λ X Y k u. refl) (λ X u. refl) R.Denot S.Denot h (C.the_row R).coded (C.the_row S).coded
+  the_places a =
+      view_places fields this view (λ X Y k u. refl) (λ X u. refl) R.Denot S.Denot h (C.the_row R).coded
+      (C.the_row S).coded
       (invariant R.Denot) (invariant S.Denot) (λ u p q. refl) (λ u p q. refl) (λ u e. tt) (λ u e. tt)
       (over (I.the_row R)) (over (I.the_row S))
-      (struct_places (I.the_type R) (I.the_type S) ((λ b. with_value b (h b.value)), tt) _ (λ d. refl) refl (laid _ _ _ (box_places a), tt))
+      (struct_places (I.the_type R) (I.the_type S) (
+        (λ b. with_value b (h b.value)),
+        tt,
+      ) _ (λ d. refl) refl (laid _ _ _ (box_places a), tt))
 
-  pub the_codes_placed : Recodes R S h → Recodes (C.the_row R) (C.the_row S) ((the_former this).map R.Denot S.Denot h)
+  pub the_codes_placed : Recodes R S h
+      → Recodes (C.the_row R) (C.the_row S) ((the_former this).map R.Denot S.Denot h)
   the_codes_placed e d = e d
 
 -- boxes are compared as what they hold, also where h replaces that
-pub the_eq_natural : (X Y : Type 0) (h : X → Y) (G : eq.Ghosts Y) (m n : X) → G.eq (h m) (h n) ≡ G.eq (h m) (h n)
+pub the_eq_natural : (X Y : Type 0) (h : X → Y) (G : eq.Ghosts Y) (m n : X)
+    → G.eq (h m) (h n) ≡ G.eq (h m) (h n)
 the_eq_natural X Y h G m n = refl
 
 -- a box is hashed as what it holds, also where h replaces that
-pub the_hash_input_natural : (X Y : Type 0) (h : X → Y) (G : hash.Ghosts Y) (E : eq.Ghosts Y) (m : X) → G.hash_input (h m) ≡ G.hash_input (h m)
+pub the_hash_input_natural : (X Y : Type 0) (h : X → Y) (G : hash.Ghosts Y) (E : eq.Ghosts Y) (m : X)
+    → G.hash_input (h m) ≡ G.hash_input (h m)
 the_hash_input_natural X Y h G E m = refl
