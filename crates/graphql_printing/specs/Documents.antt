@@ -6,7 +6,7 @@
 -- directives keeps its keyword behind a definition that `takes_braces`.
 use Rattle.std.specs.Prelude.{ℕ, Bool, false, List, [], ◌∷◌, ◌++◌, if◌then◌else◌, codes}
 use Rattle.graphql_nodes.specs.declared.type_kind.TypeKind.TheVariants as t
-use Rattle.graphql_ast.specs.DefinitionParts.{no_parts}
+use Rattle.graphql_ast.specs.Parts.{directed, fielded}
 use Rattle.graphql_ast.specs.declared.definition.Definition.{Definition}
 use Rattle.graphql_ast.specs.declared.definition.Definition.TheVariants as d
 use Rattle.graphql_ast.specs.declared.operation.OperationDefinition.{OperationDefinition}
@@ -24,23 +24,23 @@ definition_text braces (d.OperationDefinition n) = operation_behind braces n.val
 definition_text braces (d.FragmentDefinition n) = fragment_definition_text n.value
 definition_text braces (d.DirectiveDefinition n) = described 0 n.value.description ++ directive_shape n.value
 definition_text braces (d.SchemaDefinition n) = described 0 n.value.description ++ schema_shape n.value.directives n.value.root_operations
-definition_text braces (d.ScalarTypeDefinition n) = described 0 n.value.description ++ type_shape t.Scalar n.value.name (record no_parts { directives = n.value.directives })
+definition_text braces (d.ScalarTypeDefinition n) = described 0 n.value.description ++ type_shape t.Scalar n.value.name (directed n.value.directives)
 definition_text braces (d.ObjectTypeDefinition n) =
-    described 0 n.value.description ++ type_shape t.Object n.value.name (record no_parts { names = n.value.implements_interfaces; directives = n.value.directives; fields = n.value.fields })
+    described 0 n.value.description ++ type_shape t.Object n.value.name (fielded n.value.implements_interfaces n.value.directives n.value.fields)
 definition_text braces (d.InterfaceTypeDefinition n) =
-    described 0 n.value.description ++ type_shape t.Interface n.value.name (record no_parts { names = n.value.implements_interfaces; directives = n.value.directives; fields = n.value.fields })
-definition_text braces (d.UnionTypeDefinition n) = described 0 n.value.description ++ type_shape t.Union n.value.name (record no_parts { directives = n.value.directives; names = n.value.members })
-definition_text braces (d.EnumTypeDefinition n) = described 0 n.value.description ++ type_shape t.Enum n.value.name (record no_parts { directives = n.value.directives; values = n.value.values })
-definition_text braces (d.InputObjectTypeDefinition n) = described 0 n.value.description ++ type_shape t.InputObject n.value.name (record no_parts { directives = n.value.directives; input_fields = n.value.fields })
+    described 0 n.value.description ++ type_shape t.Interface n.value.name (fielded n.value.implements_interfaces n.value.directives n.value.fields)
+definition_text braces (d.UnionTypeDefinition n) = described 0 n.value.description ++ type_shape t.Union n.value.name (record (directed n.value.directives) { names = n.value.members })
+definition_text braces (d.EnumTypeDefinition n) = described 0 n.value.description ++ type_shape t.Enum n.value.name (record (directed n.value.directives) { values = n.value.values })
+definition_text braces (d.InputObjectTypeDefinition n) = described 0 n.value.description ++ type_shape t.InputObject n.value.name (record (directed n.value.directives) { input_fields = n.value.fields })
 definition_text braces (d.SchemaExtension n) = codes "extend " ++ schema_shape n.value.directives n.value.root_operations
-definition_text braces (d.ScalarTypeExtension n) = codes "extend " ++ type_shape t.Scalar n.value.name (record no_parts { directives = n.value.directives })
+definition_text braces (d.ScalarTypeExtension n) = codes "extend " ++ type_shape t.Scalar n.value.name (directed n.value.directives)
 definition_text braces (d.ObjectTypeExtension n) =
-    codes "extend " ++ type_shape t.Object n.value.name (record no_parts { names = n.value.implements_interfaces; directives = n.value.directives; fields = n.value.fields })
+    codes "extend " ++ type_shape t.Object n.value.name (fielded n.value.implements_interfaces n.value.directives n.value.fields)
 definition_text braces (d.InterfaceTypeExtension n) =
-    codes "extend " ++ type_shape t.Interface n.value.name (record no_parts { names = n.value.implements_interfaces; directives = n.value.directives; fields = n.value.fields })
-definition_text braces (d.UnionTypeExtension n) = codes "extend " ++ type_shape t.Union n.value.name (record no_parts { directives = n.value.directives; names = n.value.members })
-definition_text braces (d.EnumTypeExtension n) = codes "extend " ++ type_shape t.Enum n.value.name (record no_parts { directives = n.value.directives; values = n.value.values })
-definition_text braces (d.InputObjectTypeExtension n) = codes "extend " ++ type_shape t.InputObject n.value.name (record no_parts { directives = n.value.directives; input_fields = n.value.fields })
+    codes "extend " ++ type_shape t.Interface n.value.name (fielded n.value.implements_interfaces n.value.directives n.value.fields)
+definition_text braces (d.UnionTypeExtension n) = codes "extend " ++ type_shape t.Union n.value.name (record (directed n.value.directives) { names = n.value.members })
+definition_text braces (d.EnumTypeExtension n) = codes "extend " ++ type_shape t.Enum n.value.name (record (directed n.value.directives) { values = n.value.values })
+definition_text braces (d.InputObjectTypeExtension n) = codes "extend " ++ type_shape t.InputObject n.value.name (record (directed n.value.directives) { input_fields = n.value.fields })
 
 -- definitions, each behind an empty line; where the flag is set, the first of them stands behind a definition
 -- that would take a `{` for its own

@@ -8,8 +8,8 @@ use Rattle.graphql_nodes.specs.OperationTexts.{operation_text}
 use Rattle.graphql_nodes.specs.declared.operation_type.OperationType.{OperationType}
 use Rattle.graphql_nodes.specs.declared.type_kind.TypeKind.{TypeKind}
 use Rattle.graphql_nodes.specs.declared.type_kind.TypeKind.TheVariants as t
-use Rattle.graphql_ast.specs.declared.definition_parts.DefinitionParts.{DefinitionParts}
 use Rattle.graphql_ast.specs.declared.directive.DirectiveList.{DirectiveList}
+use Rattle.graphql_ast.specs.declared.parts.Parts.{Parts}
 use Rattle.graphql_ast.specs.declared.type_system.DirectiveDefinition.{DirectiveDefinition}
 use Rattle.graphql_ast.specs.declared.type_system.EnumValueDefinition.{EnumValueDefinition}
 use Rattle.graphql_ast.specs.declared.type_system.FieldDefinition.{FieldDefinition}
@@ -88,20 +88,20 @@ keyword_text t.Enum = codes "enum"
 keyword_text t.InputObject = codes "input"
 
 -- interfaces, directives and fields
-abbrev pub fielded_text : DefinitionParts → List ℕ
-fielded_text parts = interfaces_text parts.names ++ directives_text parts.directives.0 ++ braces (codes " {") 0 field_definition_text parts.fields
+abbrev pub fielded_text : Parts → List ℕ
+fielded_text parts = interfaces_text parts.names ++ directives_text parts.directives ++ braces (codes " {") 0 field_definition_text parts.fields
 
 -- what a type of this kind has behind its name: sections 3.5 to 3.10
-abbrev pub behind_name : TypeKind → DefinitionParts → List ℕ
-behind_name t.Scalar parts = directives_text parts.directives.0
+abbrev pub behind_name : TypeKind → Parts → List ℕ
+behind_name t.Scalar parts = directives_text parts.directives
 behind_name t.Object parts = fielded_text parts
 behind_name t.Interface parts = fielded_text parts
-behind_name t.Union parts = directives_text parts.directives.0 ++ members_text parts.names
-behind_name t.Enum parts = directives_text parts.directives.0 ++ braces (codes " {") 0 enum_value_text parts.values
-behind_name t.InputObject parts = directives_text parts.directives.0 ++ braces (codes " {") 0 input_value_text parts.input_fields
+behind_name t.Union parts = directives_text parts.directives ++ members_text parts.names
+behind_name t.Enum parts = directives_text parts.directives ++ braces (codes " {") 0 enum_value_text parts.values
+behind_name t.InputObject parts = directives_text parts.directives ++ braces (codes " {") 0 input_value_text parts.input_fields
 
 -- a type of this kind, defined or extended: section 3.4
-abbrev pub type_shape : TypeKind → NameView → DefinitionParts → List ℕ
+abbrev pub type_shape : TypeKind → NameView → Parts → List ℕ
 type_shape kind name parts = keyword_text kind ++ codes " " ++ name.text ++ behind_name kind parts
 
 -- the schema, defined or extended: section 3.3

@@ -4,7 +4,7 @@ ghost use Rattle.std.specs.Fmt.{WritesOnOk};
 ghost use Rattle.std.specs.List.{list_any};
 ghost use Rattle.graphql_nodes.specs.LocationTexts.{location_text};
 ghost use Rattle.graphql_nodes.specs.declared.type_kind.TypeKind.TheVariants as t;
-ghost use Rattle.graphql_ast.specs.DefinitionParts.{no_parts};
+ghost use Rattle.graphql_ast.specs.Parts.{directed, fielded};
 ghost use Rattle.graphql_printing.specs.Texts.{directives_text};
 ghost use Rattle.graphql_printing.specs.TypeSystem.{argument_definitions_text, described, directive_shape, enum_value_further_in, enum_value_text, field_definition_text, field_further_in, fielded_text, input_value_further_in, input_value_text, interfaces_text, members_text, name_text, repeatable_text, root_text, schema_shape, takes_lines, type_shape};
 
@@ -189,7 +189,7 @@ pub(crate) fn write_scalar<W: Write>(
     name: &Name,
     directives: &DirectiveList,
 ) -> fmt::Result
-    ensures { WritesOnOk W.write_str_gives f.old result (type_shape t.Scalar name.now (record no_parts { directives = directives.now })) f.new }
+    ensures { WritesOnOk W.write_str_gives f.old result (type_shape t.Scalar name.now (directed directives.now)) f.new }
 {
     write_head(f, "scalar", name, directives)
 }
@@ -203,7 +203,7 @@ pub(crate) fn write_fielded<W: Write>(
     directives: &DirectiveList,
     fields: &[Node<FieldDefinition>],
 ) -> fmt::Result
-    ensures { WritesOnOk W.write_str_gives f.old result (keyword.now ++ codes " " ++ name.now.text ++ fielded_text (record no_parts { names = interfaces.now; directives = directives.now; fields = fields.now })) f.new }
+    ensures { WritesOnOk W.write_str_gives f.old result (keyword.now ++ codes " " ++ name.now.text ++ fielded_text (fielded interfaces.now directives.now fields.now)) f.new }
 {
     write_keyword(f, keyword, name)?;
     write_enclosed(f, " implements ", " & ", "", interfaces, 0)?;
@@ -218,7 +218,7 @@ pub(crate) fn write_union<W: Write>(
     directives: &DirectiveList,
     members: &[NamedType],
 ) -> fmt::Result
-    ensures { WritesOnOk W.write_str_gives f.old result (type_shape t.Union name.now (record no_parts { directives = directives.now; names = members.now })) f.new }
+    ensures { WritesOnOk W.write_str_gives f.old result (type_shape t.Union name.now (record (directed directives.now) { names = members.now })) f.new }
 {
     write_head(f, "union", name, directives)?;
     write_enclosed(f, " = ", " | ", "", members, 0)
@@ -231,7 +231,7 @@ pub(crate) fn write_enum<W: Write>(
     directives: &DirectiveList,
     values: &[Node<EnumValueDefinition>],
 ) -> fmt::Result
-    ensures { WritesOnOk W.write_str_gives f.old result (type_shape t.Enum name.now (record no_parts { directives = directives.now; values = values.now })) f.new }
+    ensures { WritesOnOk W.write_str_gives f.old result (type_shape t.Enum name.now (record (directed directives.now) { values = values.now })) f.new }
 {
     write_head(f, "enum", name, directives)?;
     write_braces(f, " {", values, 0)
@@ -244,7 +244,7 @@ pub(crate) fn write_input_object<W: Write>(
     directives: &DirectiveList,
     fields: &[Node<InputValueDefinition>],
 ) -> fmt::Result
-    ensures { WritesOnOk W.write_str_gives f.old result (type_shape t.InputObject name.now (record no_parts { directives = directives.now; input_fields = fields.now })) f.new }
+    ensures { WritesOnOk W.write_str_gives f.old result (type_shape t.InputObject name.now (record (directed directives.now) { input_fields = fields.now })) f.new }
 {
     write_head(f, "input", name, directives)?;
     write_braces(f, " {", fields, 0)

@@ -10,8 +10,8 @@ use Rattle.graphql_nodes.specs.NameView.{NameView}
 use Rattle.graphql_nodes.specs.NodeView.{NodeView}
 use Rattle.graphql_ast.specs.declared.definition.Definition.{Definition}
 use Rattle.graphql_ast.specs.declared.definition.Definition.TheVariants as d
-use Rattle.graphql_ast.specs.declared.definition_parts.DefinitionParts.{DefinitionParts}
 use Rattle.graphql_ast.specs.declared.directive.DirectiveList.{DirectiveList}
+use Rattle.graphql_ast.specs.declared.parts.Parts.{Parts}
 use Rattle.graphql_ast.specs.declared.type_system.InputValueDefinition.{InputValueDefinition}
 use Rattle.graphql_grammar.specs.declared.fault.Item.TheVariants as i
 use Rattle.graphql_grammar.specs.declared.kind.Kind.{Kind}
@@ -38,7 +38,7 @@ use Rattle.graphql_productions.proofs.TypeSystemLaws.{argument_definitions_law, 
 pub type_body_law : (file : FileId) (kind : TypeKind) (depth : ℕ) → Lawful (type_body file kind depth)
 unfolding type_body name
 type_body_law file kind depth =
-    let n : Piece (NameView × DefinitionParts) = seq (name file) (parts file kind depth) in
+    let n : Piece (NameView × Parts) = seq (name file) (parts file kind depth) in
     let nl : Lawful n = seq_law (name file) (parts file kind depth) (name_law file) (parts_law file kind depth) (λ other h. refl) in
     mapped_law (type_of kind) (seq (sign (keyword kind)) n) (seq_law (sign (keyword kind)) n (sign_law (keyword kind)) nl (λ other h. refl))
 
@@ -114,9 +114,9 @@ system_definition_law file depth =
 pub extension_body_law : (file : FileId) (kind : TypeKind) (depth : ℕ) → Lawful (extension_body file kind depth)
 unfolding extension_body name
 extension_body_law file kind depth =
-    let p : Piece DefinitionParts = filtered has_part (expecting i.ExtensionPart) (parts file kind depth) in
+    let p : Piece Parts = filtered has_part (expecting i.ExtensionPart) (parts file kind depth) in
     let pl : Lawful p = filtered_law has_part (expecting i.ExtensionPart) (parts file kind depth) (parts_law file kind depth) in
-    let n : Piece (NameView × DefinitionParts) = seq (name file) p in
+    let n : Piece (NameView × Parts) = seq (name file) p in
     let nl : Lawful n = seq_law (name file) p (name_law file) pl (λ other h. refl) in
     mapped_law (extension_of kind) (seq (sign (keyword kind)) n) (seq_law (sign (keyword kind)) n (sign_law (keyword kind)) nl (λ other h. refl))
 
@@ -131,8 +131,8 @@ schema_extension_parts_law file depth =
 schema_extension_body_law : (file : FileId) (depth : ℕ) → Lawful (schema_extension_body file depth)
 unfolding schema_extension_body
 schema_extension_body_law file depth =
-    let p : Piece DefinitionParts = mapped schema_parts (seq (directives file true depth) (optional_roots file depth)) in
-    let f : Piece DefinitionParts = filtered has_part (expecting i.ExtensionPart) p in
+    let p : Piece Parts = mapped schema_parts (seq (directives file true depth) (optional_roots file depth)) in
+    let f : Piece Parts = filtered has_part (expecting i.ExtensionPart) p in
     let fl : Lawful f = filtered_law has_part (expecting i.ExtensionPart) p (schema_extension_parts_law file depth) in
     mapped_law schema_extension_of (seq (sign k.Schema) f) (seq_law (sign k.Schema) f (sign_law k.Schema) fl (λ kind h. refl))
 

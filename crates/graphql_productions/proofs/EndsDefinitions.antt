@@ -8,10 +8,10 @@ use Rattle.graphql_nodes.specs.declared.type_kind.TypeKind.{TypeKind}
 use Rattle.graphql_nodes.specs.declared.type_kind.TypeKind.TheVariants as t
 use Rattle.graphql_nodes.specs.NameView.{NameView}
 use Rattle.graphql_nodes.specs.NodeView.{NodeView}
-use Rattle.graphql_ast.specs.DefinitionParts.{type_definition, type_extension}
+use Rattle.graphql_ast.specs.Declarations.{type_definition, type_extension}
 use Rattle.graphql_ast.specs.declared.definition.Definition.{Definition}
 use Rattle.graphql_ast.specs.declared.definition.Definition.TheVariants as d
-use Rattle.graphql_ast.specs.declared.definition_parts.DefinitionParts.{DefinitionParts}
+use Rattle.graphql_ast.specs.declared.parts.Parts.{Parts}
 use Rattle.graphql_ast.specs.declared.type_system.InputValueDefinition.{InputValueDefinition}
 use Rattle.graphql_grammar.specs.declared.fault.Item.TheVariants as i
 use Rattle.graphql_grammar.specs.declared.kind.Kind.TheVariants as k
@@ -33,7 +33,7 @@ use Rattle.graphql_productions.proofs.TypeSystemLaws.{argument_definitions_law, 
 
 -- ---- definitions of the type system, with a description and at a place
 
-type_takes : (kind : TypeKind) (about : Option NameView) (n : NameView) (x : DefinitionParts) (at : Option SourceSpan) → parts_take kind x ≡ takes_braces (type_definition kind about n x at)
+type_takes : (kind : TypeKind) (about : Option NameView) (n : NameView) (x : Parts) (at : Option SourceSpan) → parts_take kind x ≡ takes_braces (type_definition kind about n x at)
 type_takes t.Scalar about n x at = refl
 type_takes t.Object about n x at = refl
 type_takes t.Interface about n x at = refl
@@ -49,8 +49,8 @@ module _ (file : FileId) (depth : ℕ) (about : Option NameView) (at : Option So
   type_body_braced : (kind : TypeKind) → Braced (type_body file kind depth) made_takes
   unfolding type_body
   type_body_braced kind =
-      let n : Piece (NameView × DefinitionParts) = seq (name file) (parts file kind depth) in
-      let w : Piece (Unit {0} × (NameView × DefinitionParts)) = seq (sign (keyword kind)) n in
+      let n : Piece (NameView × Parts) = seq (name file) (parts file kind depth) in
+      let w : Piece (Unit {0} × (NameView × Parts)) = seq (sign (keyword kind)) n in
       mapped_bounded (type_of kind) w (λ made. limits (made_takes made))
       (as_well w (λ x. parts_take kind x.1.1) (λ x. made_takes (type_of kind x))
       (behind_word (keyword kind) n (λ x. parts_take kind x.1) (behind_name file (parts file kind depth) (parts_take kind) (parts_braced file kind depth)))
@@ -105,7 +105,7 @@ system_definition_braced file depth =
 
 -- ---- extensions, at a place
 
-extension_takes : (kind : TypeKind) (n : NameView) (x : DefinitionParts) (at : Option SourceSpan) → parts_take kind x ≡ takes_braces (type_extension kind n x at)
+extension_takes : (kind : TypeKind) (n : NameView) (x : Parts) (at : Option SourceSpan) → parts_take kind x ≡ takes_braces (type_extension kind n x at)
 extension_takes t.Scalar n x at = refl
 extension_takes t.Object n x at = refl
 extension_takes t.Interface n x at = refl
@@ -121,10 +121,10 @@ module _ (file : FileId) (depth : ℕ) (at : Option SourceSpan) where
   extension_body_braced : (kind : TypeKind) → Braced (extension_body file kind depth) extends_takes
   unfolding extension_body
   extension_body_braced kind =
-      let p : Piece DefinitionParts = filtered has_part (expecting i.ExtensionPart) (parts file kind depth) in
+      let p : Piece Parts = filtered has_part (expecting i.ExtensionPart) (parts file kind depth) in
       let pb : Braced p (parts_take kind) = filtered_bounded has_part (expecting i.ExtensionPart) (parts file kind depth) (λ x. limits (parts_take kind x)) (parts_braced file kind depth) in
-      let n : Piece (NameView × DefinitionParts) = seq (name file) p in
-      let w : Piece (Unit {0} × (NameView × DefinitionParts)) = seq (sign (keyword kind)) n in
+      let n : Piece (NameView × Parts) = seq (name file) p in
+      let w : Piece (Unit {0} × (NameView × Parts)) = seq (sign (keyword kind)) n in
       mapped_bounded (extension_of kind) w (λ made. limits (extends_takes made))
       (as_well w (λ x. parts_take kind x.1.1) (λ x. extends_takes (extension_of kind x))
       (behind_word (keyword kind) n (λ x. parts_take kind x.1) (behind_name file p (parts_take kind) pb))
@@ -133,8 +133,8 @@ module _ (file : FileId) (depth : ℕ) (at : Option SourceSpan) where
   schema_extension_body_braced : Braced (schema_extension_body file depth) extends_takes
   unfolding schema_extension_body
   schema_extension_body_braced =
-      let p : Piece DefinitionParts = mapped schema_parts (seq (directives file true depth) (optional_roots file depth)) in
-      let f : Piece DefinitionParts = filtered has_part (expecting i.ExtensionPart) p in
+      let p : Piece Parts = mapped schema_parts (seq (directives file true depth) (optional_roots file depth)) in
+      let f : Piece Parts = filtered has_part (expecting i.ExtensionPart) p in
       mapped_bounded schema_extension_of (seq (sign k.Schema) f) (λ made. limits (extends_takes made))
       (behind_word k.Schema f (λ x. is_none x.roots) (filtered_bounded has_part (expecting i.ExtensionPart) p (λ x. limits (is_none x.roots)) (schema_extension_parts_braced file depth)))
 

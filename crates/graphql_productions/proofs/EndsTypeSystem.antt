@@ -7,8 +7,8 @@ use Rattle.graphql_nodes.specs.declared.type_kind.TypeKind.{TypeKind}
 use Rattle.graphql_nodes.specs.declared.type_kind.TypeKind.TheVariants as t
 use Rattle.graphql_nodes.specs.NameView.{NameView}
 use Rattle.graphql_nodes.specs.NodeView.{NodeView}
-use Rattle.graphql_ast.specs.declared.definition_parts.DefinitionParts.{DefinitionParts}
 use Rattle.graphql_ast.specs.declared.directive.DirectiveList.{DirectiveList}
+use Rattle.graphql_ast.specs.declared.parts.Parts.{Parts}
 use Rattle.graphql_ast.specs.declared.type_system.EnumValueDefinition.{EnumValueDefinition}
 use Rattle.graphql_ast.specs.declared.type_system.FieldDefinition.{FieldDefinition}
 use Rattle.graphql_ast.specs.declared.type_system.InputValueDefinition.{InputValueDefinition}
@@ -130,7 +130,7 @@ fielded_braced file depth =
     (seq_bounded n d (implementing_law file) db.lawful (λ x. limits (is_none x.1.1)) (λ _. db) (apart n.more d.first refl) (λ x empty. less n.more refl (is_none x.1.1)))
 
 -- whether these parts of such a type take braces
-abbrev pub parts_take : TypeKind → DefinitionParts → Bool
+abbrev pub parts_take : TypeKind → Parts → Bool
 parts_take t.Scalar x = false
 parts_take t.Object x = is_none x.fields
 parts_take t.Interface x = is_none x.fields

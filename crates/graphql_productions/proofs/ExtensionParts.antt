@@ -4,8 +4,8 @@ use Rattle.graphql_nodes.specs.declared.source.FileId.{FileId}
 use Rattle.graphql_nodes.specs.declared.type_kind.TypeKind.{TypeKind}
 use Rattle.graphql_nodes.specs.declared.type_kind.TypeKind.TheVariants as t
 use Rattle.graphql_nodes.specs.NodeView.{NodeView}
-use Rattle.graphql_ast.specs.declared.definition_parts.DefinitionParts.{DefinitionParts}
 use Rattle.graphql_ast.specs.declared.directive.DirectiveList.{DirectiveList}
+use Rattle.graphql_ast.specs.declared.parts.Parts.{Parts}
 use Rattle.graphql_ast.specs.declared.type_system.EnumValueDefinition.{EnumValueDefinition}
 use Rattle.graphql_ast.specs.declared.type_system.FieldDefinition.{FieldDefinition}
 use Rattle.graphql_ast.specs.declared.type_system.InputValueDefinition.{InputValueDefinition}
@@ -26,7 +26,7 @@ use Rattle.graphql_productions.proofs.ViableDirectives.{directive_begins, direct
 use Rattle.graphql_productions.proofs.ViableTypeSystem.{parts_begins, roots_leads}
 
 -- what stands behind `extend schema`
-abbrev schema_extension_parts : FileId → ℕ → Piece DefinitionParts
+abbrev schema_extension_parts : FileId → ℕ → Piece Parts
 schema_extension_parts file depth = mapped schema_parts (seq (directives file true depth) (optional_roots file depth))
 
 -- ---- lists that are never empty
@@ -96,7 +96,7 @@ both_flags false b e = absurd cc
 
 -- ---- what stands behind the name of an extension
 
-fielded_words : (file : FileId) (depth : ℕ) (x : DefinitionParts) (front : List WordView) → (fielded file depth).spells x front → has_part x ≡ false → front ≡ []
+fielded_words : (file : FileId) (depth : ℕ) (x : Parts) (front : List WordView) → (fielded file depth).spells x front → has_part x ≡ false → front ≡ []
 unfolding fielded names_behind fields
 fielded_words file depth x front h e =
     let f = three_flags (is_none h.0.1.0.0) (is_none h.0.0) (is_none h.0.1.1) (sym (ap has_part h.1) ∙ e) in
@@ -111,7 +111,7 @@ module _ {A : Type 0} (file : FileId) (depth : ℕ) (p : Piece (List A)) (filled
   directed_words : (x : DirectiveList × List A) (front : List WordView) → (seq (directives file true depth) (mapped or_none (optional p))).spells x front → (is_none x.0.0 ≡ true) × (is_none x.1 ≡ true) → front ≡ []
   directed_words x front h f = no_words front h.head h.tail h.whole (directive_words file depth x.0 h.head h.first f.0) (list_words p filled x.1 h.tail h.second f.1)
 
-parts_words : (file : FileId) (kind : TypeKind) (depth : ℕ) (x : DefinitionParts) (front : List WordView) → (parts file kind depth).spells x front → has_part x ≡ false → front ≡ []
+parts_words : (file : FileId) (kind : TypeKind) (depth : ℕ) (x : Parts) (front : List WordView) → (parts file kind depth).spells x front → has_part x ≡ false → front ≡ []
 unfolding parts names_behind enum_values input_values
 parts_words file t.Scalar depth x front h e = directive_words file depth h.0 front h.2 (one_flag (is_none h.0.0) (sym (ap has_part h.1) ∙ e))
 parts_words file t.Object depth x front h e = fielded_words file depth x front h e
@@ -125,7 +125,7 @@ parts_words file t.InputObject depth x front h e =
     let p : Piece (List (NodeView InputValueDefinition)) = enclosed k.LeftBrace k.RightBrace (expecting i.InputValue) depth (λ inside. some (input_value file inside)) in
     directed_words file depth p (enclosed_filled k.LeftBrace k.RightBrace (expecting i.InputValue) depth (input_value file)) h.0 front h.2 (two_flags (is_none h.0.0.0) (is_none h.0.1) (sym (ap has_part h.1) ∙ e))
 
-schema_parts_words : (file : FileId) (depth : ℕ) (x : DefinitionParts) (front : List WordView) → (schema_extension_parts file depth).spells x front → has_part x ≡ false → front ≡ []
+schema_parts_words : (file : FileId) (depth : ℕ) (x : Parts) (front : List WordView) → (schema_extension_parts file depth).spells x front → has_part x ≡ false → front ≡ []
 schema_parts_words file depth x front h e =
     let f = both_flags (is_none h.0.0.0) (is_none h.0.1) (sym (ap has_part h.1) ∙ e) in
     no_words front h.2.head h.2.tail h.2.whole (directive_words file depth h.0.0 h.2.head h.2.first f.0)

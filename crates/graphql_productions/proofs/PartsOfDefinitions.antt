@@ -8,9 +8,10 @@ use Rattle.graphql_nodes.specs.declared.source.FileId.{FileId}
 use Rattle.graphql_nodes.specs.declared.source.SourceSpan.{SourceSpan}
 use Rattle.graphql_nodes.specs.declared.type_kind.TypeKind.{TypeKind}
 use Rattle.graphql_nodes.specs.declared.type_kind.TypeKind.TheVariants as t
-use Rattle.graphql_ast.specs.DefinitionParts.{type_definition, type_extension}
+use Rattle.graphql_ast.specs.Declarations.{type_definition, type_extension}
+use Rattle.graphql_ast.specs.Parts.{directive_list}
 use Rattle.graphql_ast.specs.declared.definition.Definition.{Definition}
-use Rattle.graphql_ast.specs.declared.definition_parts.DefinitionParts.{DefinitionParts}
+use Rattle.graphql_ast.specs.declared.parts.Parts.{Parts}
 use Rattle.graphql_ast.specs.declared.type_system.InputValueDefinition.{InputValueDefinition}
 use Rattle.graphql_grammar.specs.declared.fault.Item.TheVariants as i
 use Rattle.graphql_grammar.specs.declared.kind.Kind.TheVariants as k
@@ -40,7 +41,7 @@ module _ {asked : TreePart → Type 0} {file : FileId} {Known : List WordView �
       (description : Option NameView) (location : Option SourceSpan) → Holds asked (description_parts description) → asked (Node location) → Holds asked
       (definition_parts (f description location))
 
-  type_made : (kind : TypeKind) (p : DefinitionParts) → IsBody serves kind p → (name : NameView) → asked (Name name)
+  type_made : (kind : TypeKind) (p : Parts) → IsBody serves kind p → (name : NameView) → asked (Name name)
       → IsDescribed (λ description location. type_definition kind description name p location)
   type_made t.Scalar p body text n o at d l = (l, join asked (description_parts o) _ d (n, body.0))
   type_made t.Object p body text n o at d l = (l, join asked (description_parts o) _ d (n, body.0))
@@ -128,7 +129,7 @@ module _ {asked : TreePart → Type 0} {file : FileId} {Known : List WordView �
   wanted_there true test same passes = serves.wanted
   wanted_there false test same passes = absurd (let w = sym passes ∙ same in cc)
 
-  extension_there : (kind : TypeKind) (p : DefinitionParts) → IsBody serves kind p → has_part p ≡ true → (name : NameView) → asked (Name name) → IsExtension (type_extension kind name p)
+  extension_there : (kind : TypeKind) (p : Parts) → IsBody serves kind p → has_part p ≡ true → (name : NameView) → asked (Name name) → IsExtension (type_extension kind name p)
   extension_there t.Scalar p body passes text n at l = (l, (wanted_there _ (has_part p) body.1 passes, (n, body.0)))
   extension_there t.Object p body passes text n at l = (l, (wanted_there _ (has_part p) body.1 passes, (n, body.0)))
   extension_there t.Interface p body passes text n at l = (l, (wanted_there _ (has_part p) body.1 passes, (n, body.0)))
@@ -139,8 +140,8 @@ module _ {asked : TreePart → Type 0} {file : FileId} {Known : List WordView �
   extension_yields : (kind : TypeKind) (depth : ℕ) → Yields Known (extension_body file kind depth) IsExtension
   unfolding extension_body
   extension_yields kind depth =
-      let f : Piece DefinitionParts = filtered has_part (expecting i.ExtensionPart) (parts file kind depth) in
-      let Whole : DefinitionParts → Type 0 = λ p. IsBody serves kind p × (has_part p ≡ true) in
+      let f : Piece Parts = filtered has_part (expecting i.ExtensionPart) (parts file kind depth) in
+      let Whole : Parts → Type 0 = λ p. IsBody serves kind p × (has_part p ≡ true) in
       mapped_yields serves (extension_of kind) (seq (sign (keyword kind)) (seq (name file) f)) (λ x. Unit {0} × (Holds asked (name_parts x.1.0) × Whole x.1.1)) IsExtension
       (seq_yields serves (sign (keyword kind)) (seq (name file) f) (λ _. Unit {0}) (λ x. Holds asked (name_parts x.0) × Whole x.1) (λ x front known h. tt)
       (seq_yields serves (name file) f (λ n. Holds asked (name_parts n)) Whole (name_covers serves)
@@ -148,8 +149,8 @@ module _ {asked : TreePart → Type 0} {file : FileId} {Known : List WordView �
       (λ x all. extension_there kind x.1.1 all.1.1.0 all.1.1.1 x.1.0 all.1.0.0)
 
   -- what stands behind `extend schema`
-  abbrev IsSchema : DefinitionParts → Type 0
-  IsSchema p = Holds asked (directives_parts true p.directives ++ flat_map (node_parts root_parts) p.roots) × (has_part p ≡ not (is_none p.directives.0 && is_none p.roots))
+  abbrev IsSchema : Parts → Type 0
+  IsSchema p = Holds asked (directives_parts true (directive_list p) ++ flat_map (node_parts root_parts) p.roots) × (has_part p ≡ not (is_none p.directives && is_none p.roots))
 
   schema_parts_yield : (depth : ℕ) → Yields Known (mapped schema_parts (seq (directives file true depth) (optional_roots file depth))) IsSchema
   schema_parts_yield depth =
@@ -162,9 +163,9 @@ module _ {asked : TreePart → Type 0} {file : FileId} {Known : List WordView �
   schema_extension_yields : (depth : ℕ) → Yields Known (schema_extension_body file depth) IsExtension
   unfolding schema_extension_body
   schema_extension_yields depth =
-      let p : Piece DefinitionParts = mapped schema_parts (seq (directives file true depth) (optional_roots file depth)) in
-      let f : Piece DefinitionParts = filtered has_part (expecting i.ExtensionPart) p in
-      let Whole : DefinitionParts → Type 0 = λ p. IsSchema p × (has_part p ≡ true) in
+      let p : Piece Parts = mapped schema_parts (seq (directives file true depth) (optional_roots file depth)) in
+      let f : Piece Parts = filtered has_part (expecting i.ExtensionPart) p in
+      let Whole : Parts → Type 0 = λ p. IsSchema p × (has_part p ≡ true) in
       mapped_yields serves schema_extension_of (seq (sign k.Schema) f) (λ x. Unit {0} × Whole x.1) IsExtension
       (seq_yields serves (sign k.Schema) f (λ _. Unit {0}) Whole (λ x front known h. tt) (filtered_yields serves has_part (expecting i.ExtensionPart) p IsSchema (schema_parts_yield depth)))
       (λ x all location l. (l, (wanted_there _ (has_part x.1) all.1.0.1 all.1.1, all.1.0.0)))

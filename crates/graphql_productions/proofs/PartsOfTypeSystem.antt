@@ -5,8 +5,9 @@ use Rattle.graphql_nodes.specs.NodeView.{NodeView}
 use Rattle.graphql_nodes.specs.declared.source.FileId.{FileId}
 use Rattle.graphql_nodes.specs.declared.type_kind.TypeKind.{TypeKind}
 use Rattle.graphql_nodes.specs.declared.type_kind.TypeKind.TheVariants as t
-use Rattle.graphql_ast.specs.declared.definition_parts.DefinitionParts.{DefinitionParts}
+use Rattle.graphql_ast.specs.Parts.{directive_list}
 use Rattle.graphql_ast.specs.declared.directive.DirectiveList.{DirectiveList}
+use Rattle.graphql_ast.specs.declared.parts.Parts.{Parts}
 use Rattle.graphql_ast.specs.declared.type_reference.Type.{«Type» as TypeReference}
 use Rattle.graphql_ast.specs.declared.type_system.InputValueDefinition.{InputValueDefinition}
 use Rattle.graphql_grammar.specs.declared.fault.FaultKind.TheVariants.{Expected}
@@ -34,16 +35,16 @@ and_all true = refl
 and_all false = refl
 
 -- what stands behind the name of a type of this kind
-abbrev pub body_parts : TypeKind → DefinitionParts → List TreePart
-body_parts t.Scalar p = directives_parts true p.directives
-body_parts t.Object p = names_parts p.names ++ (directives_parts true p.directives ++ fields_parts p.fields)
-body_parts t.Interface p = names_parts p.names ++ (directives_parts true p.directives ++ fields_parts p.fields)
-body_parts t.Union p = directives_parts true p.directives ++ names_parts p.names
-body_parts t.Enum p = directives_parts true p.directives ++ enum_values_parts p.values
-body_parts t.InputObject p = directives_parts true p.directives ++ input_values_parts p.input_fields
+abbrev pub body_parts : TypeKind → Parts → List TreePart
+body_parts t.Scalar p = directives_parts true (directive_list p)
+body_parts t.Object p = names_parts p.names ++ (directives_parts true (directive_list p) ++ fields_parts p.fields)
+body_parts t.Interface p = names_parts p.names ++ (directives_parts true (directive_list p) ++ fields_parts p.fields)
+body_parts t.Union p = directives_parts true (directive_list p) ++ names_parts p.names
+body_parts t.Enum p = directives_parts true (directive_list p) ++ enum_values_parts p.values
+body_parts t.InputObject p = directives_parts true (directive_list p) ++ input_values_parts p.input_fields
 
 -- whether it is directives at most
-abbrev pub is_directives : TypeKind → DefinitionParts → Bool
+abbrev pub is_directives : TypeKind → Parts → Bool
 is_directives t.Scalar p = true
 is_directives t.Object p = is_none p.names && is_none p.fields
 is_directives t.Interface p = is_none p.names && is_none p.fields
@@ -163,8 +164,8 @@ module _ {asked : TreePart → Type 0} {file : FileId} {Known : List WordView �
   -- ---- what stands behind a name
 
   -- all parts are as is asked, and where there is any, it is of this kind
-  abbrev pub IsBody : TypeKind → DefinitionParts → Type 0
-  IsBody kind p = Holds asked (body_parts kind p) × (has_part p ≡ not (is_none p.directives.0 && is_directives kind p))
+  abbrev pub IsBody : TypeKind → Parts → Type 0
+  IsBody kind p = Holds asked (body_parts kind p) × (has_part p ≡ not (is_none p.directives && is_directives kind p))
 
   fielded_yields : (depth : ℕ) → Yields Known (fielded file depth) (IsBody t.Object)
   unfolding fielded

@@ -8,11 +8,12 @@ use Rattle.graphql_nodes.specs.declared.type_kind.TypeKind.{TypeKind}
 use Rattle.graphql_nodes.specs.declared.type_kind.TypeKind.TheVariants as t
 use Rattle.graphql_nodes.specs.NameView.{NameView}
 use Rattle.graphql_nodes.specs.NodeView.{NodeView}
-use Rattle.graphql_ast.specs.DefinitionParts.{no_parts, schema_definition, schema_extension, type_definition, type_extension}
+use Rattle.graphql_ast.specs.Declarations.{schema_definition, schema_extension, type_definition, type_extension}
+use Rattle.graphql_ast.specs.Parts.{directed}
 use Rattle.graphql_ast.specs.declared.definition.Definition.{Definition}
 use Rattle.graphql_ast.specs.declared.definition.Definition.TheVariants as d
-use Rattle.graphql_ast.specs.declared.definition_parts.DefinitionParts.{DefinitionParts}
 use Rattle.graphql_ast.specs.declared.directive.DirectiveList.{DirectiveList}
+use Rattle.graphql_ast.specs.declared.parts.Parts.{Parts}
 use Rattle.graphql_ast.specs.declared.type_reference.Type.{«Type» as TypeReference}
 use Rattle.graphql_ast.specs.declared.type_system.EnumValueDefinition.{EnumValueDefinition}
 use Rattle.graphql_ast.specs.declared.type_system.FieldDefinition.{FieldDefinition}
@@ -164,35 +165,35 @@ roots file depth = enclosed k.LeftBrace k.RightBrace no_root depth (λ inside. s
 -- ---- what a definition or extension of a kind holds behind its name
 
 -- what a scalar type has: section 3.5
-abbrev pub scalar_parts : DirectiveList → DefinitionParts
-scalar_parts directives = record no_parts { directives = directives }
+abbrev pub scalar_parts : DirectiveList → Parts
+scalar_parts directives = directed directives
 
 -- what an object or interface type has: sections 3.6 and 3.7
-abbrev pub fielded_parts : List NameView × (DirectiveList × List (NodeView FieldDefinition)) → DefinitionParts
-fielded_parts x = record no_parts { names = x.0; directives = x.1.0; fields = x.1.1 }
+abbrev pub fielded_parts : List NameView × (DirectiveList × List (NodeView FieldDefinition)) → Parts
+fielded_parts x = record (directed x.1.0) { names = x.0; fields = x.1.1 }
 
 -- what a union type has: section 3.8
-abbrev pub union_parts : DirectiveList × List NameView → DefinitionParts
-union_parts x = record no_parts { directives = x.0; names = x.1 }
+abbrev pub union_parts : DirectiveList × List NameView → Parts
+union_parts x = record (directed x.0) { names = x.1 }
 
 -- what an enum type has: section 3.9
-abbrev pub enum_parts : DirectiveList × List (NodeView EnumValueDefinition) → DefinitionParts
-enum_parts x = record no_parts { directives = x.0; values = x.1 }
+abbrev pub enum_parts : DirectiveList × List (NodeView EnumValueDefinition) → Parts
+enum_parts x = record (directed x.0) { values = x.1 }
 
 -- what an input object type has: section 3.10
-abbrev pub input_parts : DirectiveList × List (NodeView InputValueDefinition) → DefinitionParts
-input_parts x = record no_parts { directives = x.0; input_fields = x.1 }
+abbrev pub input_parts : DirectiveList × List (NodeView InputValueDefinition) → Parts
+input_parts x = record (directed x.0) { input_fields = x.1 }
 
 -- what the schema has: section 3.3
-abbrev pub schema_parts : DirectiveList × List (NodeView (OperationType × NameView)) → DefinitionParts
-schema_parts x = record no_parts { directives = x.0; roots = x.1 }
+abbrev pub schema_parts : DirectiveList × List (NodeView (OperationType × NameView)) → Parts
+schema_parts x = record (directed x.0) { roots = x.1 }
 
 -- the interfaces, directives and fields of an object or interface type: sections 3.6 and 3.7
-unfoldable pub fielded : FileId → ℕ → Piece DefinitionParts
+unfoldable pub fielded : FileId → ℕ → Piece Parts
 fielded file depth = mapped fielded_parts (seq (names_behind file k.Implements k.Ampersand) (seq (directives file true depth) (fields file depth)))
 
 -- what stands behind the name of a type of this kind: sections 3.5 to 3.10
-unfoldable pub parts : FileId → TypeKind → ℕ → Piece DefinitionParts
+unfoldable pub parts : FileId → TypeKind → ℕ → Piece Parts
 parts file t.Scalar depth = mapped scalar_parts (directives file true depth)
 parts file t.Object depth = fielded file depth
 parts file t.Interface depth = fielded file depth
@@ -216,7 +217,7 @@ abbrev pub Described : Type 0
 Described = Option NameView → Option SourceSpan → Definition
 
 -- the definition of a type of this kind, of its name and what it has
-abbrev pub type_of : TypeKind → Unit {0} × (NameView × DefinitionParts) → Described
+abbrev pub type_of : TypeKind → Unit {0} × (NameView × Parts) → Described
 type_of kind x = λ description location. type_definition kind description x.1.0 x.1.1 location
 
 -- ScalarTypeDefinition .. InputObjectTypeDefinition, behind the description
@@ -309,11 +310,11 @@ is_none [] = true
 is_none (x ∷ xs) = false
 
 -- whether there is any part
-abbrev pub has_part : DefinitionParts → Bool
-has_part p = not (is_none p.directives.0 && (is_none p.names && (is_none p.fields && (is_none p.values && (is_none p.input_fields && is_none p.roots)))))
+abbrev pub has_part : Parts → Bool
+has_part p = not (is_none p.directives && (is_none p.names && (is_none p.fields && (is_none p.values && (is_none p.input_fields && is_none p.roots)))))
 
 -- the extension of a type of this kind, of its name and what it adds
-abbrev pub extension_of : TypeKind → Unit {0} × (NameView × DefinitionParts) → Option SourceSpan → Definition
+abbrev pub extension_of : TypeKind → Unit {0} × (NameView × Parts) → Option SourceSpan → Definition
 extension_of kind x location = type_extension kind x.1.0 x.1.1 location
 
 -- ScalarTypeExtension .. InputObjectTypeExtension, behind `extend`
@@ -326,7 +327,7 @@ abbrev pub optional_roots : FileId → ℕ → Piece (List (NodeView (OperationT
 optional_roots file depth = mapped or_none (optional (roots file depth))
 
 -- the extension of the schema, of what it adds
-abbrev pub schema_extension_of : Unit {0} × DefinitionParts → Option SourceSpan → Definition
+abbrev pub schema_extension_of : Unit {0} × Parts → Option SourceSpan → Definition
 schema_extension_of x location = schema_extension x.1 location
 
 -- SchemaExtension, behind `extend`: section 3.3.2

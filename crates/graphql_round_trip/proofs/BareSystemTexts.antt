@@ -9,9 +9,11 @@ use Rattle.graphql_nodes.specs.declared.operation_type.OperationType.{OperationT
 use Rattle.graphql_nodes.specs.declared.type_kind.TypeKind.{TypeKind}
 use Rattle.graphql_nodes.specs.declared.type_kind.TypeKind.TheVariants as t
 use Rattle.graphql_ast.specs.Bare.{bare_directive_list}
+use Rattle.graphql_ast.specs.BareDeclarations.{bare_parts}
 use Rattle.graphql_ast.specs.BareTypeSystem.{bare_directive_definition, bare_enum_value_definition, bare_field_definition, bare_input_value_definition, bare_root_operation}
-use Rattle.graphql_ast.specs.declared.definition_parts.DefinitionParts.{DefinitionParts}
+use Rattle.graphql_ast.specs.Parts.{directive_list}
 use Rattle.graphql_ast.specs.declared.directive.DirectiveList.{DirectiveList}
+use Rattle.graphql_ast.specs.declared.parts.Parts.{Parts}
 use Rattle.graphql_ast.specs.declared.type_system.DirectiveDefinition.{DirectiveDefinition}
 use Rattle.graphql_ast.specs.declared.type_system.EnumValueDefinition.{EnumValueDefinition}
 use Rattle.graphql_ast.specs.declared.type_system.FieldDefinition.{FieldDefinition}
@@ -86,40 +88,29 @@ braces_stay bare text stays xs = on_lines_stay bare text text (codes " {") (code
 
 -- ---- types
 
--- what a definition or extension is made of, without locations
-abbrev pub bare_parts : DefinitionParts → DefinitionParts
-bare_parts parts = record {
-  directives = bare_directive_list parts.directives;
-  names = map bare_name parts.names;
-  fields = map (bare_node bare_field_definition) parts.fields;
-  values = map (bare_node bare_enum_value_definition) parts.values;
-  input_fields = map (bare_node bare_input_value_definition) parts.input_fields;
-  roots = map (bare_node bare_root_operation) parts.roots;
-}
-
-fielded_stays : (parts : DefinitionParts) → fielded_text (bare_parts parts) ≡ fielded_text parts
+fielded_stays : (parts : Parts) → fielded_text (bare_parts parts) ≡ fielded_text parts
 fielded_stays parts =
     let interfaces = interfaces_stay parts.names in
-    let directives = directives_say_no_location parts.directives in
+    let directives = directives_say_no_location (directive_list parts) in
     let fields = braces_stay (bare_node bare_field_definition) field_definition_text field_stays parts.fields in
     λ i. interfaces i ++ directives i ++ fields i
 
-behind_name_stays : (kind : TypeKind) (parts : DefinitionParts) → behind_name kind (bare_parts parts) ≡ behind_name kind parts
-behind_name_stays t.Scalar parts = directives_say_no_location parts.directives
+behind_name_stays : (kind : TypeKind) (parts : Parts) → behind_name kind (bare_parts parts) ≡ behind_name kind parts
+behind_name_stays t.Scalar parts = directives_say_no_location (directive_list parts)
 behind_name_stays t.Object parts = fielded_stays parts
 behind_name_stays t.Interface parts = fielded_stays parts
-behind_name_stays t.Union parts = let directives = directives_say_no_location parts.directives in let members = members_stay parts.names in λ i. directives i ++ members i
+behind_name_stays t.Union parts = let directives = directives_say_no_location (directive_list parts) in let members = members_stay parts.names in λ i. directives i ++ members i
 behind_name_stays t.Enum parts =
-    let directives = directives_say_no_location parts.directives in
+    let directives = directives_say_no_location (directive_list parts) in
     let values = braces_stay (bare_node bare_enum_value_definition) enum_value_text enum_value_stays parts.values in
     λ i. directives i ++ values i
 behind_name_stays t.InputObject parts =
-    let directives = directives_say_no_location parts.directives in
+    let directives = directives_say_no_location (directive_list parts) in
     let fields = braces_stay (bare_node bare_input_value_definition) input_value_text input_value_stays parts.input_fields in
     λ i. directives i ++ fields i
 
 -- a type of any kind, defined or extended
-pub type_shape_says_no_location : (kind : TypeKind) (name : NameView) (parts : DefinitionParts) → type_shape kind (bare_name name) (bare_parts parts) ≡ type_shape kind name parts
+pub type_shape_says_no_location : (kind : TypeKind) (name : NameView) (parts : Parts) → type_shape kind (bare_name name) (bare_parts parts) ≡ type_shape kind name parts
 type_shape_says_no_location kind name parts = let behind = behind_name_stays kind parts in λ i. keyword_text kind ++ codes " " ++ name.text ++ behind i
 
 -- ---- the schema and directives

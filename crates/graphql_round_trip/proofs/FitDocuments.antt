@@ -5,9 +5,9 @@ use Rattle.graphql_nodes.specs.declared.source.FileId.{FileId}
 use Rattle.graphql_nodes.specs.declared.source.SourceSpan.{SourceSpan}
 use Rattle.graphql_nodes.specs.declared.type_kind.TypeKind.{TypeKind}
 use Rattle.graphql_nodes.specs.declared.type_kind.TypeKind.TheVariants as t
-use Rattle.graphql_ast.specs.DefinitionParts.{type_definition, type_extension}
+use Rattle.graphql_ast.specs.Declarations.{type_definition, type_extension}
 use Rattle.graphql_ast.specs.declared.definition.Definition.{Definition}
-use Rattle.graphql_ast.specs.declared.definition_parts.DefinitionParts.{DefinitionParts}
+use Rattle.graphql_ast.specs.declared.parts.Parts.{Parts}
 use Rattle.graphql_grammar.specs.declared.fault.Item.TheVariants as i
 use Rattle.graphql_grammar.specs.declared.kind.Kind.TheVariants as k
 use Rattle.graphql_grammar.specs.Kinds.{only}
@@ -30,7 +30,7 @@ abbrev DescribedFits : ℕ → Described → Type 0
 DescribedFits depth f = (description : Option NameView) (location : Option SourceSpan) → definition_nesting (f description location) ≤ depth
 
 -- the definition of a type nests as deep as its parts
-type_definition_fits : (kind : TypeKind) (description : Option NameView) (name : NameView) (parts : DefinitionParts) (location : Option SourceSpan) (depth : ℕ)
+type_definition_fits : (kind : TypeKind) (description : Option NameView) (name : NameView) (parts : Parts) (location : Option SourceSpan) (depth : ℕ)
     → parts_nesting parts ≤ depth → definition_nesting (type_definition kind description name parts location) ≤ depth
 type_definition_fits t.Scalar description name parts location depth fits = omega (arith, fits)
 type_definition_fits t.Object description name parts location depth fits = omega (arith, fits)
@@ -80,7 +80,7 @@ abbrev ExtendedFits : ℕ → (Option SourceSpan → Definition) → Type 0
 ExtendedFits depth f = (location : Option SourceSpan) → definition_nesting (f location) ≤ depth
 
 -- the extension of a type nests as deep as its parts
-type_extension_fits : (kind : TypeKind) (name : NameView) (parts : DefinitionParts) (location : Option SourceSpan) (depth : ℕ)
+type_extension_fits : (kind : TypeKind) (name : NameView) (parts : Parts) (location : Option SourceSpan) (depth : ℕ)
     → parts_nesting parts ≤ depth → definition_nesting (type_extension kind name parts location) ≤ depth
 type_extension_fits t.Scalar name parts location depth fits = omega (arith, fits)
 type_extension_fits t.Object name parts location depth fits = omega (arith, fits)

@@ -3,7 +3,8 @@ use Rattle.std.proofs.Common.{◌≤◌, ℕ, true, [], ◌∷◌, None, arith}
 use Rattle.graphql_nodes.specs.declared.source.FileId.{FileId}
 use Rattle.graphql_nodes.specs.declared.type_kind.TypeKind.{TypeKind}
 use Rattle.graphql_nodes.specs.declared.type_kind.TypeKind.TheVariants as t
-use Rattle.graphql_ast.specs.declared.definition_parts.DefinitionParts.{DefinitionParts}
+use Rattle.graphql_ast.specs.Parts.{directive_list}
+use Rattle.graphql_ast.specs.declared.parts.Parts.{Parts}
 use Rattle.graphql_grammar.specs.declared.fault.Item.TheVariants as i
 use Rattle.graphql_grammar.specs.declared.kind.Kind.{Kind}
 use Rattle.graphql_grammar.specs.declared.kind.Kind.TheVariants as k
@@ -65,9 +66,9 @@ roots_fit file depth = enclosed_fits k.LeftBrace k.RightBrace no_root depth (λ 
 -- ---- what stands behind a name
 
 -- how deep nests what a definition or extension of any kind holds
-abbrev pub parts_nesting : DefinitionParts → ℕ
+abbrev pub parts_nesting : Parts → ℕ
 parts_nesting p =
-    greatest (directives_nesting p.directives ∷ between field_nesting p.fields ∷ between enum_value_nesting p.values ∷ between input_nesting p.input_fields ∷ between (λ _. 0) p.roots ∷ [])
+    greatest (directives_nesting (directive_list p) ∷ between field_nesting p.fields ∷ between enum_value_nesting p.values ∷ between input_nesting p.input_fields ∷ between (λ _. 0) p.roots ∷ [])
 
 fielded_fits : (file : FileId) (depth : ℕ) → Fits (fielded file depth) parts_nesting depth
 unfolding fielded

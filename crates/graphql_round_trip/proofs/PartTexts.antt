@@ -2,15 +2,15 @@
 use Rattle.std.proofs.Common.{◌≤◌, ℕ, true, List, [], ◌∷◌, ◌++◌, map, refl, ap, sym, append-nil}
 use Rattle.std.specs.Prelude.{codes}
 use Rattle.std.specs.List.{AllByRecursion}
-use Rattle.graphql_nodes.specs.Comparing.{bare_name, bare_node}
+use Rattle.graphql_nodes.specs.Comparing.{bare_name}
 use Rattle.graphql_nodes.specs.NameView.{NameView}
 use Rattle.graphql_nodes.specs.declared.source.FileId.{FileId}
 use Rattle.graphql_nodes.specs.declared.type_kind.TypeKind.{TypeKind}
 use Rattle.graphql_nodes.specs.declared.type_kind.TypeKind.TheVariants as t
-use Rattle.graphql_ast.specs.Bare.{bare_directive_list}
-use Rattle.graphql_ast.specs.BareTypeSystem.{bare_enum_value_definition, bare_field_definition, bare_input_value_definition, bare_root_operation}
-use Rattle.graphql_ast.specs.declared.definition_parts.DefinitionParts.{DefinitionParts}
+use Rattle.graphql_ast.specs.BareDeclarations.{bare_parts}
+use Rattle.graphql_ast.specs.Parts.{directive_list, of_type}
 use Rattle.graphql_ast.specs.declared.directive.DirectiveList.{DirectiveList}
+use Rattle.graphql_ast.specs.declared.parts.Parts.{Parts}
 use Rattle.graphql_tokens.specs.declared.token.TokenKind.TheVariants as token
 use Rattle.graphql_grammar.specs.declared.fault.FaultKind.TheVariants.{Expected}
 use Rattle.graphql_grammar.specs.declared.fault.Item.TheVariants as i
@@ -42,34 +42,14 @@ use Rattle.graphql_round_trip.proofs.SeparatedTexts.{separated_prints}
 use Rattle.graphql_round_trip.proofs.StandingApart.{IsApart, apart_joined, directives_apart}
 use Rattle.graphql_round_trip.proofs.TokenTexts.{ampersand_is_token, equals_is_token, pipe_is_token}
 
--- these parts without locations
-abbrev pub bare_parts : DefinitionParts → DefinitionParts
-bare_parts p = record {
-  directives = bare_directive_list p.directives;
-  names = map bare_name p.names;
-  fields = map (bare_node bare_field_definition) p.fields;
-  values = map (bare_node bare_enum_value_definition) p.values;
-  input_fields = map (bare_node bare_input_value_definition) p.input_fields;
-  roots = map (bare_node bare_root_operation) p.roots;
-}
-
--- of these parts, what a type of this kind may have
-abbrev pub own_parts : TypeKind → DefinitionParts → DefinitionParts
-own_parts t.Scalar p = scalar_parts p.directives
-own_parts t.Object p = fielded_parts (p.names, (p.directives, p.fields))
-own_parts t.Interface p = fielded_parts (p.names, (p.directives, p.fields))
-own_parts t.Union p = union_parts (p.directives, p.names)
-own_parts t.Enum p = enum_parts (p.directives, p.values)
-own_parts t.InputObject p = input_parts (p.directives, p.input_fields)
-
 -- how deep they nest
-abbrev pub parts_nesting : TypeKind → DefinitionParts → ℕ
-parts_nesting t.Scalar p = directives_nesting p.directives
-parts_nesting t.Object p = body_nesting p.directives field_nesting p.fields
-parts_nesting t.Interface p = body_nesting p.directives field_nesting p.fields
-parts_nesting t.Union p = directives_nesting p.directives
-parts_nesting t.Enum p = body_nesting p.directives enum_value_nesting p.values
-parts_nesting t.InputObject p = body_nesting p.directives input_nesting p.input_fields
+abbrev pub parts_nesting : TypeKind → Parts → ℕ
+parts_nesting t.Scalar p = directives_nesting (directive_list p)
+parts_nesting t.Object p = body_nesting (directive_list p) field_nesting p.fields
+parts_nesting t.Interface p = body_nesting (directive_list p) field_nesting p.fields
+parts_nesting t.Union p = directives_nesting (directive_list p)
+parts_nesting t.Enum p = body_nesting (directive_list p) enum_value_nesting p.values
+parts_nesting t.InputObject p = body_nesting (directive_list p) input_nesting p.input_fields
 
 -- ---- interfaces and members
 
@@ -121,60 +101,60 @@ body_fits directives nesting xs depth fits =
 
 module _ (file : FileId) (depth : ℕ) where
   -- interfaces, directives and fields
-  fielded_print : (p : DefinitionParts) → IsWellFormed (names_parts p.names ++ (directives_parts true p.directives ++ fields_parts p.fields)) → body_nesting p.directives field_nesting p.fields ≤ depth →
-      Prints (fielded file depth) bare_parts (bare_parts (fielded_parts (p.names, (p.directives, p.fields)))) (fielded_text p) ends_token
+  fielded_print : (p : Parts) → IsWellFormed (names_parts p.names ++ (directives_parts true (directive_list p) ++ fields_parts p.fields)) → body_nesting (directive_list p) field_nesting p.fields ≤ depth →
+      Prints (fielded file depth) bare_parts (bare_parts (of_type t.Object p)) (fielded_text p) ends_token
   unfolding fielded
   fielded_print p well fits =
-      let applied : List ℕ = directives_text p.directives.0 in
+      let applied : List ℕ = directives_text p.directives in
       let body : List ℕ = braces (codes " {") 0 field_definition_text p.fields in
-      let names = part_of_front (names_parts p.names) (directives_parts true p.directives ++ fields_parts p.fields) well in
-      let others = part_of_front (directives_parts true p.directives) (fields_parts p.fields) names.1 in
-      let fit = body_fits p.directives field_nesting p.fields depth fits in
+      let names = part_of_front (names_parts p.names) (directives_parts true (directive_list p) ++ fields_parts p.fields) well in
+      let others = part_of_front (directives_parts true (directive_list p)) (fields_parts p.fields) names.1 in
+      let fit = body_fits (directive_list p) field_nesting p.fields depth fits in
       regrouped _ (fielded_text p) (grouped3 (interfaces_text p.names) applied body)
-      (mapped_text fielded_parts bare_parts (bare_parts (fielded_parts (p.names, (p.directives, p.fields)))) (λ x same. ap fielded_parts same)
+      (mapped_text fielded_parts bare_parts (bare_parts (of_type t.Object p)) (λ x same. ap fielded_parts same)
       (seq_text (interfaces_print file p.names names.0)
-      (seq_text (directives_print file true depth p.directives others.0 fit.0)
+      (seq_text (directives_print file true depth (directive_list p) others.0 fit.0)
       (fields_print file depth p.fields others.1 fit.1)
       (braces_apart field_definition_text p.fields))
-      (apart_joined applied body (directives_apart p.directives.0) (braces_apart field_definition_text p.fields))))
+      (apart_joined applied body (directives_apart p.directives) (braces_apart field_definition_text p.fields))))
 
   -- what stands behind the name of a type of this kind
-  pub parts_print : (kind : TypeKind) (p : DefinitionParts) → IsWellFormed (body_parts kind p) → parts_nesting kind p ≤ depth →
-      Prints (parts file kind depth) bare_parts (bare_parts (own_parts kind p)) (behind_name kind p) ends_token
+  pub parts_print : (kind : TypeKind) (p : Parts) → IsWellFormed (body_parts kind p) → parts_nesting kind p ≤ depth →
+      Prints (parts file kind depth) bare_parts (bare_parts (of_type kind p)) (behind_name kind p) ends_token
   unfolding parts
-  parts_print t.Scalar p well fits = mapped_text scalar_parts bare_parts (bare_parts (scalar_parts p.directives)) (λ x same. ap scalar_parts same) (directives_print file true depth p.directives well fits)
+  parts_print t.Scalar p well fits = mapped_text scalar_parts bare_parts (bare_parts (scalar_parts (directive_list p))) (λ x same. ap scalar_parts same) (directives_print file true depth (directive_list p) well fits)
   parts_print t.Object p well fits = fielded_print p well fits
   parts_print t.Interface p well fits = fielded_print p well fits
   parts_print t.Union p well fits =
-      let both = part_of_front (directives_parts true p.directives) (names_parts p.names) well in
-      mapped_text union_parts bare_parts (bare_parts (union_parts (p.directives, p.names))) (λ x same. ap union_parts same)
-      (seq_text (directives_print file true depth p.directives both.0 fits) (members_print file p.names both.1) (members_apart p.names))
+      let both = part_of_front (directives_parts true (directive_list p)) (names_parts p.names) well in
+      mapped_text union_parts bare_parts (bare_parts (union_parts (directive_list p, p.names))) (λ x same. ap union_parts same)
+      (seq_text (directives_print file true depth (directive_list p) both.0 fits) (members_print file p.names both.1) (members_apart p.names))
   parts_print t.Enum p well fits =
-      let both = part_of_front (directives_parts true p.directives) (enum_values_parts p.values) well in
-      let fit = body_fits p.directives enum_value_nesting p.values depth fits in
-      mapped_text enum_parts bare_parts (bare_parts (enum_parts (p.directives, p.values))) (λ x same. ap enum_parts same)
-      (seq_text (directives_print file true depth p.directives both.0 fit.0)
+      let both = part_of_front (directives_parts true (directive_list p)) (enum_values_parts p.values) well in
+      let fit = body_fits (directive_list p) enum_value_nesting p.values depth fits in
+      mapped_text enum_parts bare_parts (bare_parts (enum_parts (directive_list p, p.values))) (λ x same. ap enum_parts same)
+      (seq_text (directives_print file true depth (directive_list p) both.0 fit.0)
       (enum_values_print file depth p.values both.1 fit.1)
       (braces_apart enum_value_text p.values))
   parts_print t.InputObject p well fits =
-      let both = part_of_front (directives_parts true p.directives) (input_values_parts p.input_fields) well in
-      let fit = body_fits p.directives input_nesting p.input_fields depth fits in
-      mapped_text input_parts bare_parts (bare_parts (input_parts (p.directives, p.input_fields))) (λ x same. ap input_parts same)
-      (seq_text (directives_print file true depth p.directives both.0 fit.0)
+      let both = part_of_front (directives_parts true (directive_list p)) (input_values_parts p.input_fields) well in
+      let fit = body_fits (directive_list p) input_nesting p.input_fields depth fits in
+      mapped_text input_parts bare_parts (bare_parts (input_parts (directive_list p, p.input_fields))) (λ x same. ap input_parts same)
+      (seq_text (directives_print file true depth (directive_list p) both.0 fit.0)
       (input_fields_print file depth p.input_fields both.1 fit.1)
       (braces_apart input_value_text p.input_fields))
 
 -- interfaces, directives and fields stand apart from the name before them
-fielded_apart : (p : DefinitionParts) → IsApart (fielded_text p)
+fielded_apart : (p : Parts) → IsApart (fielded_text p)
 fielded_apart p =
-    apart_joined (interfaces_text p.names ++ directives_text p.directives.0) (braces (codes " {") 0 field_definition_text p.fields)
-    (apart_joined (interfaces_text p.names) (directives_text p.directives.0) (interfaces_apart p.names) (directives_apart p.directives.0)) (braces_apart field_definition_text p.fields)
+    apart_joined (interfaces_text p.names ++ directives_text p.directives) (braces (codes " {") 0 field_definition_text p.fields)
+    (apart_joined (interfaces_text p.names) (directives_text p.directives) (interfaces_apart p.names) (directives_apart p.directives)) (braces_apart field_definition_text p.fields)
 
 -- what stands behind a name stands apart from it
-pub behind_name_apart : (kind : TypeKind) (p : DefinitionParts) → IsApart (behind_name kind p)
-behind_name_apart t.Scalar p = directives_apart p.directives.0
+pub behind_name_apart : (kind : TypeKind) (p : Parts) → IsApart (behind_name kind p)
+behind_name_apart t.Scalar p = directives_apart p.directives
 behind_name_apart t.Object p = fielded_apart p
 behind_name_apart t.Interface p = fielded_apart p
-behind_name_apart t.Union p = apart_joined (directives_text p.directives.0) (members_text p.names) (directives_apart p.directives.0) (members_apart p.names)
-behind_name_apart t.Enum p = apart_joined (directives_text p.directives.0) (braces (codes " {") 0 enum_value_text p.values) (directives_apart p.directives.0) (braces_apart enum_value_text p.values)
-behind_name_apart t.InputObject p = apart_joined (directives_text p.directives.0) (braces (codes " {") 0 input_value_text p.input_fields) (directives_apart p.directives.0) (braces_apart input_value_text p.input_fields)
+behind_name_apart t.Union p = apart_joined (directives_text p.directives) (members_text p.names) (directives_apart p.directives) (members_apart p.names)
+behind_name_apart t.Enum p = apart_joined (directives_text p.directives) (braces (codes " {") 0 enum_value_text p.values) (directives_apart p.directives) (braces_apart enum_value_text p.values)
+behind_name_apart t.InputObject p = apart_joined (directives_text p.directives) (braces (codes " {") 0 input_value_text p.input_fields) (directives_apart p.directives) (braces_apart input_value_text p.input_fields)

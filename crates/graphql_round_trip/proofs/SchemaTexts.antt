@@ -7,10 +7,11 @@ use Rattle.graphql_nodes.specs.NameView.{NameView}
 use Rattle.graphql_nodes.specs.NodeView.{NodeView}
 use Rattle.graphql_nodes.specs.declared.operation_type.OperationType.{OperationType}
 use Rattle.graphql_nodes.specs.declared.source.FileId.{FileId}
-use Rattle.graphql_ast.specs.DefinitionParts.{schema_definition, schema_extension}
+use Rattle.graphql_ast.specs.BareDeclarations.{bare_parts}
+use Rattle.graphql_ast.specs.Declarations.{schema_definition, schema_extension}
 use Rattle.graphql_ast.specs.declared.definition.Definition.{Definition}
-use Rattle.graphql_ast.specs.declared.definition_parts.DefinitionParts.{DefinitionParts}
 use Rattle.graphql_ast.specs.declared.directive.DirectiveList.{DirectiveList}
+use Rattle.graphql_ast.specs.declared.parts.Parts.{Parts}
 use Rattle.graphql_grammar.specs.declared.fault.Item.TheVariants as i
 use Rattle.graphql_grammar.specs.declared.kind.Kind.TheVariants as k
 use Rattle.graphql_grammar.specs.Kinds.{only}
@@ -31,7 +32,7 @@ use Rattle.graphql_round_trip.proofs.Grouping.{grouped3, regrouped}
 use Rattle.graphql_round_trip.proofs.KeywordTexts.{keyword_heads}
 use Rattle.graphql_round_trip.proofs.NodeTexts.{keyword_prints}
 use Rattle.graphql_round_trip.proofs.PartLemmas.{part_of_front}
-use Rattle.graphql_round_trip.proofs.PartTexts.{bare_parts, body_fits}
+use Rattle.graphql_round_trip.proofs.PartTexts.{body_fits}
 use Rattle.graphql_round_trip.proofs.PieceTexts.{branch_at, filtered_text, heads_on, mapped_text, seq_text}
 use Rattle.graphql_round_trip.proofs.StandingApart.{IsApart, apart_joined, directives_apart}
 use Rattle.graphql_round_trip.proofs.TypeDefinitionTexts.{passes_as_seen}
@@ -86,10 +87,10 @@ unfolding schema_extension_body
 schema_extension_body_prints file depth directives roots well fits some =
     let both = part_of_front (directives_parts true directives) (flat_map (node_parts root_parts) roots) well in
     let fit = body_fits directives (λ _. 0) roots depth fits in
-    let parts : DefinitionParts = schema_parts (directives, roots) in
+    let parts : Parts = schema_parts (directives, roots) in
     regrouped _ (schema_shape directives roots) (grouped3 (codes "schema") (directives_text directives.0) (roots_text roots))
     (mapped_text schema_extension_of extended_seen (bare_extended (bare_schema_extension_of directives roots))
-    (λ x same. ap (λ (y : Unit {0} × DefinitionParts). λ location. schema_extension y.1 None) same)
+    (λ x same. ap (λ (y : Unit {0} × Parts). λ location. schema_extension y.1 None) same)
     (seq_text (keyword_prints k.Schema (codes "schema") refl refl)
     (filtered_text has_part (expecting i.ExtensionPart) (λ q same. passes_as_seen q parts some same)
     (mapped_text schema_parts bare_parts (bare_parts parts) (λ x same. ap schema_parts same)

@@ -10,10 +10,12 @@ use Rattle.graphql_nodes.specs.declared.source.FileId.{FileId}
 use Rattle.graphql_nodes.specs.declared.source.SourceSpan.{SourceSpan}
 use Rattle.graphql_nodes.specs.declared.type_kind.TypeKind.{TypeKind}
 use Rattle.graphql_nodes.specs.declared.type_kind.TypeKind.TheVariants as t
+use Rattle.graphql_ast.specs.BareDeclarations.{bare_parts}
 use Rattle.graphql_ast.specs.BareDocuments.{bare_definition}
-use Rattle.graphql_ast.specs.DefinitionParts.{type_definition, type_extension}
+use Rattle.graphql_ast.specs.Declarations.{type_definition, type_extension}
+use Rattle.graphql_ast.specs.Parts.{of_type}
 use Rattle.graphql_ast.specs.declared.definition.Definition.{Definition}
-use Rattle.graphql_ast.specs.declared.definition_parts.DefinitionParts.{DefinitionParts}
+use Rattle.graphql_ast.specs.declared.parts.Parts.{Parts}
 use Rattle.graphql_grammar.specs.declared.fault.Item.TheVariants as i
 use Rattle.graphql_grammar.specs.Kinds.{only}
 use Rattle.graphql_grammar.specs.Pieces.{Piece}
@@ -27,7 +29,7 @@ use Rattle.graphql_round_trip.proofs.DescribedTexts.{bare_described, bare_extend
 use Rattle.graphql_round_trip.proofs.Grouping.{grouped3, grouped4, regrouped}
 use Rattle.graphql_round_trip.proofs.KeywordTexts.{keyword_before, keyword_heads}
 use Rattle.graphql_round_trip.proofs.NodeTexts.{name_prints}
-use Rattle.graphql_round_trip.proofs.PartTexts.{bare_parts, behind_name_apart, own_parts, parts_nesting, parts_print}
+use Rattle.graphql_round_trip.proofs.PartTexts.{behind_name_apart, parts_nesting, parts_print}
 use Rattle.graphql_round_trip.proofs.PieceTexts.{branch_at, filtered_text, heads_on, mapped_text, seq_text}
 use Rattle.graphql_round_trip.proofs.TokenTexts.{names}
 
@@ -59,7 +61,7 @@ keyword_is_described t.Enum = refl
 keyword_is_described t.InputObject = refl
 
 -- a type begins with the keyword of its kind
-pub type_heads : (kind : TypeKind) (name : NameView) (p : DefinitionParts) → Heads (only (keyword kind)) (type_shape kind name p) ends_token
+pub type_heads : (kind : TypeKind) (name : NameView) (p : Parts) → Heads (only (keyword kind)) (type_shape kind name p) ends_token
 type_heads kind name p =
     subst (λ (text : List ℕ). Heads (only (keyword kind)) text ends_token) (grouped4 (keyword_text kind) (codes " ") name.text (behind_name kind p))
     (heads_on (codes " " ++ (name.text ++ behind_name kind p)) ends_token (keyword_heads (keyword kind) (keyword_text kind) (keyword_is_name kind) (keyword_is_own kind)) (λ rest _. refl))
@@ -67,7 +69,7 @@ type_heads kind name p =
 -- ---- definitions
 
 -- what is seen of the definition of a type
-bare_type_definition : (kind : TypeKind) (description : Option NameView) (name : NameView) (p : DefinitionParts) (location : Option SourceSpan) →
+bare_type_definition : (kind : TypeKind) (description : Option NameView) (name : NameView) (p : Parts) (location : Option SourceSpan) →
     bare_definition (type_definition kind description name p location) ≡ type_definition kind (option_map bare_name description) (bare_name name) (bare_parts p) None
 bare_type_definition t.Scalar description name p location = refl
 bare_type_definition t.Object description name p location = refl
@@ -86,10 +88,10 @@ type_picked file depth t.Enum = refl
 type_picked file depth t.InputObject = refl
 
 -- the definition of a type without locations, for its description
-abbrev pub bare_type_of : TypeKind → NameView → DefinitionParts → Option NameView → Definition
-bare_type_of kind name p description = type_definition kind description (bare_name name) (bare_parts (own_parts kind p)) None
+abbrev pub bare_type_of : TypeKind → NameView → Parts → Option NameView → Definition
+bare_type_of kind name p description = type_definition kind description (bare_name name) (bare_parts (of_type kind p)) None
 
-module _ (file : FileId) (depth : ℕ) (kind : TypeKind) (name : NameView) (p : DefinitionParts) (named : IsName name.text) (well : IsWellFormed (body_parts kind p))
+module _ (file : FileId) (depth : ℕ) (kind : TypeKind) (name : NameView) (p : Parts) (named : IsName name.text) (well : IsWellFormed (body_parts kind p))
     (fits : parts_nesting kind p ≤ depth) where
   type_body_prints : Prints (type_body file kind depth) described_seen (bare_described (bare_type_of kind name p)) (type_shape kind name p) ends_token
   unfolding type_body
@@ -98,7 +100,7 @@ module _ (file : FileId) (depth : ℕ) (kind : TypeKind) (name : NameView) (p : 
       (mapped_text (type_of kind) described_seen (bare_described (bare_type_of kind name p))
       (λ x same. fun_ext (λ description. fun_ext (λ location.
       bare_type_definition kind description x.1.0 x.1.1 location
-      ∙ ap (λ (y : Unit {0} × (NameView × DefinitionParts)). type_definition kind (option_map bare_name description) y.1.0 y.1.1 None) same)))
+      ∙ ap (λ (y : Unit {0} × (NameView × Parts)). type_definition kind (option_map bare_name description) y.1.0 y.1.1 None) same)))
       (seq_text (keyword_before (keyword kind) (keyword_text kind) (keyword_is_name kind) (keyword_is_own kind))
       (seq_text (name_prints file name named) (parts_print file depth kind p well fits) (behind_name_apart kind p))
       (λ rest _. refl)))
@@ -112,7 +114,7 @@ module _ (file : FileId) (depth : ℕ) (kind : TypeKind) (name : NameView) (p : 
 -- ---- extensions
 
 -- what is seen of the extension of a type
-bare_type_extension : (kind : TypeKind) (name : NameView) (p : DefinitionParts) (location : Option SourceSpan) →
+bare_type_extension : (kind : TypeKind) (name : NameView) (p : Parts) (location : Option SourceSpan) →
     bare_definition (type_extension kind name p location) ≡ type_extension kind (bare_name name) (bare_parts p) None
 bare_type_extension t.Scalar name p location = refl
 bare_type_extension t.Object name p location = refl
@@ -134,29 +136,29 @@ none_seen : {A B : Type 0} (see : A → B) (xs : List A) → is_none (map see xs
 none_seen see [] = refl
 none_seen see (x ∷ xs) = refl
 
-pub has_part_seen : (p : DefinitionParts) → has_part (bare_parts p) ≡ has_part p
+pub has_part_seen : (p : Parts) → has_part (bare_parts p) ≡ has_part p
 has_part_seen p =
-    rw (none_seen _ p.directives.0, none_seen _ p.names, none_seen _ p.fields, none_seen _ p.values, none_seen _ p.input_fields, none_seen _ p.roots) refl
+    rw (none_seen _ p.directives, none_seen _ p.names, none_seen _ p.fields, none_seen _ p.values, none_seen _ p.input_fields, none_seen _ p.roots) refl
 
 -- a type has a part where it has directives or one of its kind
-own_part : (kind : TypeKind) (p : DefinitionParts) → has_part (own_parts kind p) ≡ not (is_none p.directives.0 && is_directives kind p)
+own_part : (kind : TypeKind) (p : Parts) → has_part (of_type kind p) ≡ not (is_none p.directives && is_directives kind p)
 own_part t.Scalar p = refl
-own_part t.Object p = ap (λ (b : Bool). not (is_none p.directives.0 && (is_none p.names && b))) (and-true (is_none p.fields))
-own_part t.Interface p = ap (λ (b : Bool). not (is_none p.directives.0 && (is_none p.names && b))) (and-true (is_none p.fields))
-own_part t.Union p = ap (λ (b : Bool). not (is_none p.directives.0 && b)) (and-true (is_none p.names))
-own_part t.Enum p = ap (λ (b : Bool). not (is_none p.directives.0 && b)) (and-true (is_none p.values))
-own_part t.InputObject p = ap (λ (b : Bool). not (is_none p.directives.0 && b)) (and-true (is_none p.input_fields))
+own_part t.Object p = ap (λ (b : Bool). not (is_none p.directives && (is_none p.names && b))) (and-true (is_none p.fields))
+own_part t.Interface p = ap (λ (b : Bool). not (is_none p.directives && (is_none p.names && b))) (and-true (is_none p.fields))
+own_part t.Union p = ap (λ (b : Bool). not (is_none p.directives && b)) (and-true (is_none p.names))
+own_part t.Enum p = ap (λ (b : Bool). not (is_none p.directives && b)) (and-true (is_none p.values))
+own_part t.InputObject p = ap (λ (b : Bool). not (is_none p.directives && b)) (and-true (is_none p.input_fields))
 
 -- parts that are seen as some of which there is one are some of which there is one
-pub passes_as_seen : (p q : DefinitionParts) → has_part q ≡ true → bare_parts p ≡ bare_parts q → has_part p ≡ true
+pub passes_as_seen : (p q : Parts) → has_part q ≡ true → bare_parts p ≡ bare_parts q → has_part p ≡ true
 passes_as_seen p q has same = sym (has_part_seen p) ∙ ap has_part same ∙ has_part_seen q ∙ has
 
 -- the extension of a type without locations
-abbrev pub bare_extension_of : TypeKind → NameView → DefinitionParts → Definition
-bare_extension_of kind name p = type_extension kind (bare_name name) (bare_parts (own_parts kind p)) None
+abbrev pub bare_extension_of : TypeKind → NameView → Parts → Definition
+bare_extension_of kind name p = type_extension kind (bare_name name) (bare_parts (of_type kind p)) None
 
-module _ (file : FileId) (depth : ℕ) (kind : TypeKind) (name : NameView) (p : DefinitionParts) (named : IsName name.text) (well : IsWellFormed (body_parts kind p))
-    (fits : parts_nesting kind p ≤ depth) (some : not (is_none p.directives.0 && is_directives kind p) ≡ true) where
+module _ (file : FileId) (depth : ℕ) (kind : TypeKind) (name : NameView) (p : Parts) (named : IsName name.text) (well : IsWellFormed (body_parts kind p))
+    (fits : parts_nesting kind p ≤ depth) (some : not (is_none p.directives && is_directives kind p) ≡ true) where
   extension_body_prints : Prints (extension_body file kind depth) extended_seen (bare_extended (bare_extension_of kind name p)) (type_shape kind name p) ends_token
   unfolding extension_body
   extension_body_prints =
@@ -164,10 +166,10 @@ module _ (file : FileId) (depth : ℕ) (kind : TypeKind) (name : NameView) (p : 
       (mapped_text (extension_of kind) extended_seen (bare_extended (bare_extension_of kind name p))
       (λ x same. fun_ext (λ location.
       bare_type_extension kind x.1.0 x.1.1 location
-      ∙ ap (λ (y : Unit {0} × (NameView × DefinitionParts)). type_extension kind y.1.0 y.1.1 None) same))
+      ∙ ap (λ (y : Unit {0} × (NameView × Parts)). type_extension kind y.1.0 y.1.1 None) same))
       (seq_text (keyword_before (keyword kind) (keyword_text kind) (keyword_is_name kind) (keyword_is_own kind))
       (seq_text (name_prints file name named)
-      (filtered_text has_part (expecting i.ExtensionPart) (λ q same. passes_as_seen q (own_parts kind p) (own_part kind p ∙ some) same) (parts_print file depth kind p well fits))
+      (filtered_text has_part (expecting i.ExtensionPart) (λ q same. passes_as_seen q (of_type kind p) (own_part kind p ∙ some) same) (parts_print file depth kind p well fits))
       (behind_name_apart kind p))
       (λ rest _. refl)))
 

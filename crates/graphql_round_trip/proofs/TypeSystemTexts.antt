@@ -10,7 +10,7 @@ use Rattle.graphql_nodes.specs.declared.type_kind.TypeKind.TheVariants as t
 use Rattle.graphql_ast.specs.BareDocuments.{bare_definition}
 use Rattle.graphql_ast.specs.declared.definition.Definition.{Definition}
 use Rattle.graphql_ast.specs.declared.definition.Definition.TheVariants as d
-use Rattle.graphql_ast.specs.declared.definition_parts.DefinitionParts.{DefinitionParts}
+use Rattle.graphql_ast.specs.declared.parts.Parts.{Parts}
 use Rattle.graphql_ast.specs.declared.type_system.DirectiveDefinition.{DirectiveDefinition}
 use Rattle.graphql_ast.specs.declared.type_system.SchemaDefinition.{SchemaDefinition}
 use Rattle.graphql_grammar.specs.declared.kind.Kind.TheVariants as k
@@ -55,7 +55,7 @@ extends (d.InputObjectTypeExtension n) = true
 extends _ = false
 
 -- the definition of a type, with its description
-described_type_heads : (kind : TypeKind) (description : Option NameView) (name : NameView) (p : DefinitionParts) → Heads is_system (described 0 description ++ type_shape kind name p) ends_token
+described_type_heads : (kind : TypeKind) (description : Option NameView) (name : NameView) (p : Parts) → Heads is_system (described 0 description ++ type_shape kind name p) ends_token
 described_type_heads kind description name p = described_heads description (keyword kind) (type_shape kind name p) (keyword_is_described kind) (type_heads kind name p)
 
 -- what is defined of the type system begins with a description or a keyword
@@ -73,7 +73,7 @@ system_heads x is = absurd cc
 
 module _ (file : FileId) (depth : ℕ) where
   -- the definition of a type, with its description
-  described_type_prints : (kind : TypeKind) (description : Option NameView) (name : NameView) (p : DefinitionParts) → IsWellFormed (description_parts description ++ (Name name ∷ body_parts kind p)) →
+  described_type_prints : (kind : TypeKind) (description : Option NameView) (name : NameView) (p : Parts) → IsWellFormed (description_parts description ++ (Name name ∷ body_parts kind p)) →
       parts_nesting kind p ≤ depth →
       Prints (system_definition file depth) bare_definition (bare_type_of kind name p (option_map bare_name description)) (described 0 description ++ type_shape kind name p) ends_token
   described_type_prints kind description name p well fits =
@@ -109,7 +109,7 @@ module _ (file : FileId) (depth : ℕ) where
   system_prints x is well fits = absurd cc
 
   -- the extension of a type
-  extended_type_prints : (kind : TypeKind) (name : NameView) (p : DefinitionParts) → not (is_none p.directives.0 && is_directives kind p) ≡ true → IsWellFormed (Name name ∷ body_parts kind p) →
+  extended_type_prints : (kind : TypeKind) (name : NameView) (p : Parts) → not (is_none p.directives && is_directives kind p) ≡ true → IsWellFormed (Name name ∷ body_parts kind p) →
       parts_nesting kind p ≤ depth → Prints (extension file depth) bare_definition (bare_extension_of kind name p) (codes "extend " ++ type_shape kind name p) ends_token
   extended_type_prints kind name p some well fits =
       extended_extension file depth (bare_extension_of kind name p) (type_extension_prints file depth kind name p well.0 well.1 fits some)

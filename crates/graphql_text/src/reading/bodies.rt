@@ -12,8 +12,9 @@ use crate::reading::kinds::{has_part, keyword, parts};
 use crate::reading::parts::{input_values, roots};
 use crate::reading::separated::{optional_sign, separated};
 use crate::reading::target::{Target, sign};
+use graphql_ast::declaration::{SchemaDeclaration, TypeDeclaration};
 use graphql_ast::definition::Definition;
-use graphql_ast::definition_parts::DefinitionParts;
+use graphql_ast::parts::Parts;
 use graphql_ast::type_system::{DirectiveDefinition, InputValueDefinition};
 use graphql_grammar::fault::{FaultKind, Item, ReadError};
 use graphql_grammar::kind::Kind;
@@ -31,8 +32,8 @@ use std::alloc::{AllocError, Global};
 /// A definition of the type system, but its description and its location.
 #[derive(Drop)]
 pub(crate) enum Body {
-    Schema(DefinitionParts),
-    Type(TypeKind, Name, DefinitionParts),
+    Schema(Parts),
+    Type(TypeKind, Name, Parts),
     Directive(Name, Items<Node<InputValueDefinition>>, bool, Items<DirectiveLocation>),
 }
 
@@ -47,9 +48,25 @@ impl Body {
         ensures { IfOk result (λ made. made ≡ seen_body self description location) }
     {
         match self {
-            Body::Schema(parts) => parts.into_schema_definition(alloc, description, location),
+            Body::Schema(parts) => {
+                let declaration = SchemaDeclaration {
+                    is_extension: false,
+                    description,
+                    location,
+                    parts,
+                };
+                declaration.into_definition(alloc)
+            }
             Body::Type(kind, name, parts) => {
-                parts.into_definition(alloc, kind, description, name, location)
+                let declaration = TypeDeclaration {
+                    kind,
+                    name,
+                    is_extension: false,
+                    description,
+                    location,
+                    parts,
+                };
+                declaration.into_definition(alloc)
             }
             Body::Directive(name, arguments, repeatable, locations) => {
                 let definition = DirectiveDefinition {
@@ -70,8 +87,8 @@ impl Body {
 /// An extension, but its location.
 #[derive(Drop)]
 pub(crate) enum Extension {
-    Schema(DefinitionParts),
-    Type(TypeKind, Name, DefinitionParts),
+    Schema(Parts),
+    Type(TypeKind, Name, Parts),
 }
 
 impl Extension {
@@ -84,8 +101,26 @@ impl Extension {
         ensures { IfOk result (λ made. made ≡ seen_extension self location) }
     {
         match self {
-            Extension::Schema(parts) => parts.into_schema_extension(alloc, location),
-            Extension::Type(kind, name, parts) => parts.into_extension(alloc, kind, name, location),
+            Extension::Schema(parts) => {
+                let declaration = SchemaDeclaration {
+                    is_extension: true,
+                    description: None,
+                    location,
+                    parts,
+                };
+                declaration.into_definition(alloc)
+            }
+            Extension::Type(kind, name, parts) => {
+                let declaration = TypeDeclaration {
+                    kind,
+                    name,
+                    is_extension: true,
+                    description: None,
+                    location,
+                    parts,
+                };
+                declaration.into_definition(alloc)
+            }
         }
     }
 }
@@ -105,8 +140,8 @@ fn schema_body(target: Target, words: &mut Words<'_>) -> Result<Body, ReadError>
     ensures { GivesSeen seen_body result (standing words.new) ((schema_body target.file target.depth).read (standing words.old)) }
 {
     sign(words, Kind::Schema)?;
-    let mut parts = DefinitionParts::new(target.alloc);
-    parts.directives = directives(target.constant(), words)?;
+    let mut parts = Parts::new(target.alloc);
+    parts.directives = directives(target.constant(), words)?.into_items();
     parts.roots = roots(target, words)?;
     Ok(Body::Schema(parts))
 }
@@ -189,11 +224,11 @@ fn optional_roots(
     }
 }
 
-fn schema_parts(target: Target, words: &mut Words<'_>) -> Result<DefinitionParts, ReadError>
+fn schema_parts(target: Target, words: &mut Words<'_>) -> Result<Parts, ReadError>
     ensures { Gives result (standing words.new) ((mapped schema_parts (seq (directives target.file true target.depth) (optional_roots target.file target.depth))).read (standing words.old)) }
 {
-    let mut parts = DefinitionParts::new(target.alloc);
-    parts.directives = directives(target.constant(), words)?;
+    let mut parts = Parts::new(target.alloc);
+    parts.directives = directives(target.constant(), words)?.into_items();
     parts.roots = optional_roots(target, words)?;
     Ok(parts)
 }

@@ -11,7 +11,7 @@ use crate::reading::directives::directives;
 use crate::reading::parts::{enum_values, fields, input_values};
 use crate::reading::separated::names_behind;
 use crate::reading::target::Target;
-use graphql_ast::definition_parts::DefinitionParts;
+use graphql_ast::parts::Parts;
 use graphql_grammar::fault::ReadError;
 use graphql_grammar::kind::Kind;
 use graphql_grammar::words::Words;
@@ -32,10 +32,10 @@ pub(crate) fn keyword(kind: TypeKind) -> Kind
 }
 
 /// Whether there is any part.
-pub(crate) fn has_part(parts: &DefinitionParts) -> bool
+pub(crate) fn has_part(parts: &Parts) -> bool
     ensures { result ≡ has_part parts.now }
 {
-    !(parts.directives.0.is_empty()
+    !(parts.directives.is_empty()
         && parts.names.is_empty()
         && parts.fields.is_empty()
         && parts.values.is_empty()
@@ -44,48 +44,48 @@ pub(crate) fn has_part(parts: &DefinitionParts) -> bool
 }
 
 #[tactic(auto, unfolding(graphql_productions::specs::TypeSystem::fielded))]
-fn fielded(target: Target, words: &mut Words<'_>) -> Result<DefinitionParts, ReadError>
+fn fielded(target: Target, words: &mut Words<'_>) -> Result<Parts, ReadError>
     ensures { Gives result (standing words.new) ((fielded target.file target.depth).read (standing words.old)) }
 {
-    let mut parts = DefinitionParts::new(target.alloc);
+    let mut parts = Parts::new(target.alloc);
     parts.names = names_behind(target, words, Kind::Implements, Kind::Ampersand)?;
-    parts.directives = directives(target.constant(), words)?;
+    parts.directives = directives(target.constant(), words)?.into_items();
     parts.fields = fields(target, words)?;
     Ok(parts)
 }
 
-fn union_parts(target: Target, words: &mut Words<'_>) -> Result<DefinitionParts, ReadError>
+fn union_parts(target: Target, words: &mut Words<'_>) -> Result<Parts, ReadError>
     ensures { Gives result (standing words.new) ((mapped union_parts (seq (directives target.file true target.depth) (names_behind target.file Equals Pipe))).read (standing words.old)) }
 {
-    let mut parts = DefinitionParts::new(target.alloc);
-    parts.directives = directives(target.constant(), words)?;
+    let mut parts = Parts::new(target.alloc);
+    parts.directives = directives(target.constant(), words)?.into_items();
     parts.names = names_behind(target, words, Kind::Equals, Kind::Pipe)?;
     Ok(parts)
 }
 
-fn enum_parts(target: Target, words: &mut Words<'_>) -> Result<DefinitionParts, ReadError>
+fn enum_parts(target: Target, words: &mut Words<'_>) -> Result<Parts, ReadError>
     ensures { Gives result (standing words.new) ((mapped enum_parts (seq (directives target.file true target.depth) (enum_values target.file target.depth))).read (standing words.old)) }
 {
-    let mut parts = DefinitionParts::new(target.alloc);
-    parts.directives = directives(target.constant(), words)?;
+    let mut parts = Parts::new(target.alloc);
+    parts.directives = directives(target.constant(), words)?.into_items();
     parts.values = enum_values(target, words)?;
     Ok(parts)
 }
 
-fn input_parts(target: Target, words: &mut Words<'_>) -> Result<DefinitionParts, ReadError>
+fn input_parts(target: Target, words: &mut Words<'_>) -> Result<Parts, ReadError>
     ensures { Gives result (standing words.new) ((mapped input_parts (seq (directives target.file true target.depth) (input_values target.file LeftBrace RightBrace target.depth))).read (standing words.old)) }
 {
-    let mut parts = DefinitionParts::new(target.alloc);
-    parts.directives = directives(target.constant(), words)?;
+    let mut parts = Parts::new(target.alloc);
+    parts.directives = directives(target.constant(), words)?.into_items();
     parts.input_fields = input_values(target, words, Kind::LeftBrace, Kind::RightBrace)?;
     Ok(parts)
 }
 
-fn scalar_parts(target: Target, words: &mut Words<'_>) -> Result<DefinitionParts, ReadError>
+fn scalar_parts(target: Target, words: &mut Words<'_>) -> Result<Parts, ReadError>
     ensures { Gives result (standing words.new) ((mapped scalar_parts (directives target.file true target.depth)).read (standing words.old)) }
 {
-    let mut parts = DefinitionParts::new(target.alloc);
-    parts.directives = directives(target.constant(), words)?;
+    let mut parts = Parts::new(target.alloc);
+    parts.directives = directives(target.constant(), words)?.into_items();
     Ok(parts)
 }
 
@@ -95,7 +95,7 @@ pub(crate) fn parts(
     target: Target,
     words: &mut Words<'_>,
     kind: TypeKind,
-) -> Result<DefinitionParts, ReadError>
+) -> Result<Parts, ReadError>
     ensures { Gives result (standing words.new) ((parts target.file kind target.depth).read (standing words.old)) }
 {
     match kind {
