@@ -7,9 +7,9 @@ use Rattle.std.specs.Cmp.{IsEquivalence, on_equiv, nat_eq_equiv}
 use Rattle.std.proofs.lemmas.List.{append-nil, map-append}
 use Rattle.std.proofs.lemmas.List.Elements.{filter-append, filter_map-append}
 use Rattle.indexmap.specs.IndexMap.{insert_entry}
-use Rattle.graphql_ast.specs.DefinitionParts.{as_directive, as_name, as_field, as_value, as_input_field, as_root, with_some, parts_of, no_parts, with_part}
-use Rattle.graphql_ast.specs.declared.definition_parts.DefinitionPart.{DefinitionPart}
-use Rattle.graphql_ast.specs.declared.definition_parts.DefinitionParts.{DefinitionParts}
+use Rattle.graphql_ast.specs.Parts.{of_sort, with_lists, with_some, parts_of, no_parts, with_part}
+use Rattle.graphql_ast.specs.declared.parts.Part.{Part}
+use Rattle.graphql_ast.specs.declared.parts.Parts.{Parts}
 use Rattle.apollo_component.specs.Extensions.{id_of, number_of, same_id, same_origin}
 use Rattle.apollo_component.specs.ExtensionTables.{with_extension_part}
 use Rattle.apollo_component.specs.FirstOfEach.{first_of_each}
@@ -31,15 +31,8 @@ filter_map-push {X} {Y} which xs x = filter_map-append which xs (x ∷ []) ∙ b
     by None = append-nil (filter_map which xs)
     by (Some y) = refl
 
-parts_of-push : (ps : List DefinitionPart) (p : DefinitionPart) → parts_of (ps ++ p ∷ []) ≡ with_part p (parts_of ps)
-parts_of-push ps p = (λ i. record {
-  directives = record { 0 = filter_map-push as_directive ps p i };
-  names = filter_map-push as_name ps p i;
-  fields = filter_map-push as_field ps p i;
-  values = filter_map-push as_value ps p i;
-  input_fields = filter_map-push as_input_field ps p i;
-  roots = filter_map-push as_root ps p i;
-})
+parts_of-push : (ps : List Part) (p : Part) → parts_of (ps ++ p ∷ []) ≡ with_part p (parts_of ps)
+parts_of-push ps p = (λ i. with_lists (λ s. filter_map-push (of_sort s) ps p i))
 
 module _ (origin : ComponentOrigin) (cs : List SourcedPart) (c : SourcedPart) where
   -- it is of its origin alone
@@ -79,7 +72,7 @@ of_origin-none cs id none = ap (λ l. parts_of (map (λ c. c.1) l)) (nothing cs 
             found false h = rest h
 
 -- a component of the definition
-pub by_origin-definition : (cs : List SourcedPart) (p : DefinitionPart) → record { definition = with_part p (of_origin Definition cs); extensions = of_extensions cs } ≡ by_origin (cs ++ (Definition, p) ∷ [])
+pub by_origin-definition : (cs : List SourcedPart) (p : Part) → record { definition = with_part p (of_origin Definition cs); extensions = of_extensions cs } ≡ by_origin (cs ++ (Definition, p) ∷ [])
 by_origin-definition cs p = (λ i. record {
   definition = sym (of_origin-own Definition cs (Definition, p) refl) i;
   extensions = map (λ e. (e, sym (of_origin-other (Extension e) cs (Definition, p) refl) i)) (first_of_each same_id (same i));
@@ -88,14 +81,14 @@ by_origin-definition cs p = (λ i. record {
     same : filter_map id_of (origins_in cs) ≡ filter_map id_of (origins_in (cs ++ (Definition, p) ∷ []))
     same = sym (ap (filter_map id_of) (map-append (λ c. c.0) cs ((Definition, p) ∷ [])) ∙ filter_map-append id_of (origins_in cs) (Definition ∷ []) ∙ append-nil (filter_map id_of (origins_in cs)))
 
-module _ (cs : List SourcedPart) (id : ExtensionId) (p : DefinitionPart) where
+module _ (cs : List SourcedPart) (id : ExtensionId) (p : Part) where
   abbrev ids : List ExtensionId
   ids = filter_map id_of (origins_in cs)
 
-  abbrev before : ExtensionId → DefinitionParts
+  abbrev before : ExtensionId → Parts
   before e = of_origin (Extension e) cs
 
-  abbrev after : ExtensionId → DefinitionParts
+  abbrev after : ExtensionId → Parts
   after e = of_origin (Extension e) (cs ++ (Extension id, p) ∷ [])
 
   -- a component of an extension is no one of the definition's
@@ -119,7 +112,7 @@ module _ (cs : List SourcedPart) (id : ExtensionId) (p : DefinitionPart) where
   held = lookup-tabled same_id same_id-equiv before id (of_origin-number cs id) (first_of_each same_id ids)
 
   -- what stands at an identity are its parts
-  held-found : (parts : DefinitionParts) → lookup (same_id id) (of_extensions cs) ≡ Some parts → parts ≡ of_origin (Extension id) cs
+  held-found : (parts : Parts) → lookup (same_id id) (of_extensions cs) ≡ Some parts → parts ≡ of_origin (Extension id) cs
   held-found parts h = by (list_any (same_id id) (first_of_each same_id ids)) (sym held ∙ h)
     where
       by : (b : Bool) → cond b (Some (before id)) None ≡ Some parts → parts ≡ before id
@@ -137,6 +130,6 @@ module _ (cs : List SourcedPart) (id : ExtensionId) (p : DefinitionPart) where
   pub of_extensions-push : with_extension_part id p (of_extensions cs) ≡ of_extensions (cs ++ (Extension id, p) ∷ [])
   of_extensions-push = ap (λ parts. insert_entry same_id (of_extensions cs) id (with_part p parts)) (by (lookup (same_id id) (of_extensions cs)) refl) ∙ of_extensions-insert
     where
-      by : (o : Option DefinitionParts) → lookup (same_id id) (of_extensions cs) ≡ o → unwrap_or o no_parts ≡ before id
+      by : (o : Option Parts) → lookup (same_id id) (of_extensions cs) ≡ o → unwrap_or o no_parts ≡ before id
       by None h = held-none h
       by (Some parts) h = held-found parts h

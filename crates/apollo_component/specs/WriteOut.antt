@@ -12,13 +12,14 @@ use Rattle.graphql_nodes.specs.NameView.{NameView}
 use Rattle.graphql_nodes.specs.NodeView.{NodeView}
 use Rattle.graphql_nodes.specs.declared.source.SourceSpan.{SourceSpan}
 use Rattle.graphql_nodes.specs.declared.type_kind.TypeKind.{TypeKind}
-use Rattle.graphql_ast.specs.DefinitionParts.{parts_of, type_definition, type_extension, schema_definition, schema_extension}
+use Rattle.graphql_ast.specs.Declarations.{type_definition, type_extension, schema_definition, schema_extension}
+use Rattle.graphql_ast.specs.Parts.{parts_of}
 use Rattle.graphql_ast.specs.declared.definition.Definition.{Definition}
-use Rattle.graphql_ast.specs.declared.definition_parts.DefinitionPart.{DefinitionPart}
-use Rattle.graphql_ast.specs.declared.definition_parts.DefinitionParts.{DefinitionParts}
+use Rattle.graphql_ast.specs.declared.parts.Part.{Part}
+use Rattle.graphql_ast.specs.declared.parts.Parts.{Parts}
 use Rattle.apollo_component.specs.Extensions.{id_of, extension_location, same_id, same_origin}
 use Rattle.apollo_component.specs.FirstOfEach.{first_of_each}
-use Rattle.graphql_ast.specs.declared.definition_parts.DefinitionPart.TheVariants as p
+use Rattle.graphql_ast.specs.declared.parts.Part.TheVariants as p
 use Rattle.apollo_component.specs.declared.component.Component.{Component}
 use Rattle.apollo_component.specs.declared.component.ComponentName.{ComponentName}
 use Rattle.apollo_component.specs.declared.extension.ComponentOrigin.{ComponentOrigin}
@@ -28,10 +29,10 @@ use Rattle.apollo_component.specs.declared.parts_by_origin.PartsByOrigin.{PartsB
 
 -- a component: the definition or extension that it comes from, and what it is there
 abbrev pub SourcedPart : Type 0
-SourcedPart = ComponentOrigin × DefinitionPart
+SourcedPart = ComponentOrigin × Part
 
 -- a component, where nodes of this sort are that part
-abbrev pub sourced : {A : Type 0} → (NodeView A → DefinitionPart) → Component A → SourcedPart
+abbrev pub sourced : {A : Type 0} → (NodeView A → Part) → Component A → SourcedPart
 sourced part c = (c.origin, part c.node)
 
 -- a name that a type lists, an interface or a union member, as a component
@@ -47,11 +48,11 @@ abbrev pub identities : List ComponentOrigin → List ExtensionId
 identities os = first_of_each same_id (filter_map id_of os)
 
 -- the parts of one origin
-abbrev pub of_origin : ComponentOrigin → List SourcedPart → DefinitionParts
+abbrev pub of_origin : ComponentOrigin → List SourcedPart → Parts
 of_origin origin cs = parts_of (map (λ c. c.1) (filter (λ c. same_origin origin c.0) cs))
 
 -- the identities of the extensions that these come from, each with its parts
-abbrev pub of_extensions : List SourcedPart → List (ExtensionId × DefinitionParts)
+abbrev pub of_extensions : List SourcedPart → List (ExtensionId × Parts)
 of_extensions cs = map (λ e. (e, of_origin (origins.Extension e) cs)) (identities (origins_in cs))
 
 -- the parts of the definition, and those of each extension

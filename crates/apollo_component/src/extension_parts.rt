@@ -1,17 +1,19 @@
 //! The parts of the extensions of a type or of a schema's definition: GraphQL specification of October 2021, sections 3.3.2 and
 //! 3.4.3.
 ghost use Rattle.std.specs.Prelude.{◌≡◌, [], ◌∷◌, ◌++◌, map, IfOk, OnOk};
-ghost use Rattle.graphql_ast.specs.DefinitionParts.{no_parts, with_part, type_extension, schema_extension};
+ghost use Rattle.graphql_ast.specs.Declarations.{type_extension, schema_extension};
+ghost use Rattle.graphql_ast.specs.Parts.{no_parts, with_part};
 ghost use Rattle.apollo_component.specs.Beginnings.{Begins};
 ghost use Rattle.apollo_component.specs.Extensions.{extension_location};
 ghost use Rattle.apollo_component.specs.ExtensionTables.{entries_held, with_extension_part};
 
-use crate::definition_item::DefinitionItem;
 use crate::extension::ExtensionId;
+use graphql_ast::declaration::{SchemaDeclaration, TypeDeclaration};
 use graphql_ast::definition::Definition;
-use graphql_ast::definition_parts::DefinitionParts;
+use graphql_ast::parts::{Part, Parts};
 use graphql_nodes::collections::table::Table;
 use graphql_nodes::name::Name;
+use graphql_nodes::source::SourceSpan;
 use graphql_nodes::type_kind::TypeKind;
 use std::alloc::{AllocError, Global};
 use std::marker::Model;
@@ -21,8 +23,8 @@ use std::mem;
 #[derive(Drop)]
 enum HeldParts {
     Nothing,
-    One(ExtensionId, DefinitionParts),
-    Many(Table<ExtensionId, DefinitionParts>),
+    One(ExtensionId, Parts),
+    Many(Table<ExtensionId, Parts>),
 }
 
 /// The parts of each extension, by first appearance. Contracts see the list of the identities, each with its parts.
@@ -34,12 +36,12 @@ pub struct ExtensionParts {
 impl Model for ExtensionParts {
     ghost use Rattle.std.specs.Prelude.{List};
     ghost use Rattle.std.specs.Coded.{coded_list, coded×};
-    ghost use Rattle.graphql_ast.specs.contracts.definition_parts.DefinitionParts as parts;
-    ghost use Rattle.graphql_ast.specs.declared.definition_parts.DefinitionParts.{DefinitionParts};
+    ghost use Rattle.graphql_ast.specs.contracts.parts.Parts as parts;
+    ghost use Rattle.graphql_ast.specs.declared.parts.Parts.{Parts};
     ghost use Rattle.apollo_component.specs.contracts.extension.ExtensionId as id;
     ghost use Rattle.apollo_component.specs.declared.extension.ExtensionId.{ExtensionId};
 
-    ghost Value = { List (ExtensionId × DefinitionParts) };
+    ghost Value = { List (ExtensionId × Parts) };
 
     ghost coded = { coded_list (coded× id.the_row.coded parts.the_row.coded) };
 
@@ -60,19 +62,19 @@ impl ExtensionParts {
 
     /// Adds a part of the extension of this identity, the last of its sort there. The error is out of memory, after which
     /// nothing is said of the parts.
-    pub(crate) fn add<P: DefinitionItem>(
+    pub(crate) fn add(
         &mut self,
         alloc: Global,
         id: ExtensionId,
-        part: P,
+        part: Part,
     ) -> Result<(), AllocError>
-        ensures { OnOk result (self.new ≡ with_extension_part id (P.part part) self.old) }
+        ensures { OnOk result (self.new ≡ with_extension_part id part self.old) }
     {
         self.held.add(alloc, id, part)
     }
 
-    /// Adds each, in order, as an extension of a type of this kind and name, at its own location. The error is out of
-    /// memory, after which `written` begins with what it held.
+    /// Adds each, in order, as an extension of a type of this kind and name, at its own location. The error is
+    /// out of memory, after which `written` begins with what it held.
     pub(crate) fn write_types(
         self,
         alloc: Global,
@@ -86,7 +88,7 @@ impl ExtensionParts {
         match self.held {
             HeldParts::Nothing => Ok(()),
             HeldParts::One(id, parts) => {
-                written.push(parts.into_extension(alloc, kind, name.clone()?, id.location())?)?;
+                written.push(extension_of_type(alloc, kind, name, id.location(), parts)?)?;
                 Ok(())
             }
             HeldParts::Many(table) => write_types_of(alloc, table, kind, name, written),
@@ -102,7 +104,7 @@ impl ExtensionParts {
         ensures { OnOk result (written.new.items ≡ written.old.items ++ map (λ e. schema_extension e.1 (extension_location e.0)) self) }
     {
         for (id, parts) in self.held.into_table(alloc)?.into_index_map() {
-            written.push(parts.into_schema_extension(alloc, id.location())?)?;
+            written.push(extension_of_schema(alloc, id.location(), parts)?)?;
         }
         Ok(())
     }
@@ -110,17 +112,13 @@ impl ExtensionParts {
 
 impl HeldParts {
     /// Adds a part of the extension of this identity. The error is out of memory.
-    fn add<P: DefinitionItem>(
-        &mut self,
-        alloc: Global,
-        id: ExtensionId,
-        part: P,
-    ) -> Result<(), AllocError>
-        ensures { OnOk result (entries_held self.new ≡ with_extension_part id (P.part part) (entries_held self.old)) }
+    fn add(&mut self, alloc: Global, id: ExtensionId, part: Part) -> Result<(), AllocError>
+        ensures { let held = entries_held self.old in
+            OnOk result (entries_held self.new ≡ with_extension_part id part held) }
     {
         if let HeldParts::One(first, parts) = self {
             if id == *first {
-                part.push_to(parts)?;
+                parts.push(part)?;
                 return Ok(());
             }
         }
@@ -130,13 +128,9 @@ impl HeldParts {
     }
 
     /// These with one more part. The error is out of memory.
-    fn with<P: DefinitionItem>(
-        self,
-        alloc: Global,
-        id: ExtensionId,
-        part: P,
-    ) -> Result<HeldParts, AllocError>
-        ensures { IfOk result (λ held. entries_held held ≡ with_extension_part id (P.part part) (entries_held self)) }
+    fn with(self, alloc: Global, id: ExtensionId, part: Part) -> Result<HeldParts, AllocError>
+        ensures { let all = with_extension_part id part (entries_held self) in
+            IfOk result (λ held. entries_held held ≡ all) }
     {
         if let HeldParts::Nothing = self {
             return Ok(HeldParts::One(id, one_part(alloc, part)?));
@@ -147,7 +141,7 @@ impl HeldParts {
     }
 
     /// These in a table. The error is out of memory.
-    fn into_table(self, alloc: Global) -> Result<Table<ExtensionId, DefinitionParts>, AllocError>
+    fn into_table(self, alloc: Global) -> Result<Table<ExtensionId, Parts>, AllocError>
         ensures { IfOk result (λ table. table ≡ entries_held self) }
     {
         match self {
@@ -165,7 +159,7 @@ impl HeldParts {
 /// Adds each, in order, as an extension of a type of this kind and name.
 fn write_types_of(
     alloc: Global,
-    extensions: Table<ExtensionId, DefinitionParts>,
+    extensions: Table<ExtensionId, Parts>,
     kind: TypeKind,
     name: &Name,
     written: &mut Vec<Definition>,
@@ -174,31 +168,70 @@ fn write_types_of(
     ensures kept { Begins written.old.items written.new.items }
 {
     for (id, parts) in extensions.into_index_map() {
-        written.push(parts.into_extension(alloc, kind, name.clone()?, id.location())?)?;
+        written.push(extension_of_type(alloc, kind, name, id.location(), parts)?)?;
     }
     Ok(())
 }
 
-/// This part alone.
-fn one_part<P: DefinitionItem>(alloc: Global, part: P) -> Result<DefinitionParts, AllocError>
-    ensures { IfOk result (λ parts. parts ≡ with_part (P.part part) no_parts) }
+/// The extension of a type of this kind and name, at this location, with these parts. The error is out of
+/// memory.
+fn extension_of_type(
+    alloc: Global,
+    kind: TypeKind,
+    name: &Name,
+    location: Option<SourceSpan>,
+    parts: Parts,
+) -> Result<Definition, AllocError>
+    ensures { IfOk result (λ made. made ≡ type_extension kind name.now parts location) }
 {
-    let mut parts = DefinitionParts::new(alloc);
-    part.push_to(&mut parts)?;
+    let extension = TypeDeclaration {
+        kind,
+        name: name.clone()?,
+        is_extension: true,
+        description: None,
+        location,
+        parts,
+    };
+    extension.into_definition(alloc)
+}
+
+/// The extension of the schema at this location, with these parts. The error is out of memory.
+fn extension_of_schema(
+    alloc: Global,
+    location: Option<SourceSpan>,
+    parts: Parts,
+) -> Result<Definition, AllocError>
+    ensures { IfOk result (λ made. made ≡ schema_extension parts location) }
+{
+    let extension = SchemaDeclaration {
+        is_extension: true,
+        description: None,
+        location,
+        parts,
+    };
+    extension.into_definition(alloc)
+}
+
+/// This part alone.
+fn one_part(alloc: Global, part: Part) -> Result<Parts, AllocError>
+    ensures { IfOk result (λ parts. parts ≡ with_part part no_parts) }
+{
+    let mut parts = Parts::new(alloc);
+    parts.push(part)?;
     Ok(parts)
 }
 
 /// Adds a part of the extension of this identity.
-fn add_to<P: DefinitionItem>(
+fn add_to(
     alloc: Global,
-    extensions: &mut Table<ExtensionId, DefinitionParts>,
+    extensions: &mut Table<ExtensionId, Parts>,
     id: ExtensionId,
-    part: P,
+    part: Part,
 ) -> Result<(), AllocError>
-    ensures { OnOk result (extensions.new ≡ with_extension_part id (P.part part) extensions.old) }
+    ensures { OnOk result (extensions.new ≡ with_extension_part id part extensions.old) }
 {
     if let Some(parts) = extensions.get_mut(&id) {
-        part.push_to(parts)?;
+        parts.push(part)?;
         return Ok(());
     }
     extensions.insert(id, one_part(alloc, part)?)?;

@@ -6,8 +6,6 @@
 #![tactic(auto)]
 
 pub mod component;
-#[doc(hidden)]
-pub mod definition_item;
 pub mod directive_list;
 pub mod extension;
 #[doc(hidden)]
@@ -15,6 +13,8 @@ pub mod extension_parts;
 pub mod get_all;
 pub mod laws;
 pub mod named;
+#[doc(hidden)]
+pub mod node_part;
 #[doc(hidden)]
 pub mod parts_by_origin;
 

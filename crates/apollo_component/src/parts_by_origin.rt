@@ -5,11 +5,12 @@ ghost use Rattle.apollo_component.specs.Beginnings.{Begins};
 ghost use Rattle.apollo_component.specs.WriteOut.{SourcedPart, sourced, sourced_name, by_origin, written_type, written_schema};
 
 use crate::component::{Component, ComponentName};
-use crate::definition_item::{DefinitionItem, NodePart};
 use crate::extension::ComponentOrigin;
 use crate::extension_parts::ExtensionParts;
+use crate::node_part::NodePart;
+use graphql_ast::declaration::{SchemaDeclaration, TypeDeclaration};
 use graphql_ast::definition::Definition;
-use graphql_ast::definition_parts::DefinitionParts;
+use graphql_ast::parts::{Part, Parts};
 use graphql_nodes::name::Name;
 use graphql_nodes::node_str::NodeStr;
 use graphql_nodes::source::SourceSpan;
@@ -17,10 +18,10 @@ use graphql_nodes::type_kind::TypeKind;
 use indexmap::map::Values;
 use std::alloc::{AllocError, Global};
 
-/// The parts of a definition, and those of each of its extensions, by first appearance. After a call that wanted memory nothing
-/// is said of them: drop them.
+/// The parts of a definition, and those of each of its extensions, by first appearance. After a call that ran
+/// out of memory nothing is said of them: drop them.
 pub struct PartsByOrigin {
-    definition: DefinitionParts,
+    definition: Parts,
     extensions: ExtensionParts,
 }
 
@@ -39,22 +40,23 @@ impl PartsByOrigin {
         ensures { result ≡ by_origin [] }
     {
         PartsByOrigin {
-            definition: DefinitionParts::new(alloc),
+            definition: Parts::new(alloc),
             extensions: ExtensionParts::new(),
         }
     }
 
     /// Adds a part of this origin, the last of its sort there. The error is out of memory: drop the parts then.
-    pub fn add<P: DefinitionItem>(
+    pub fn add(
         &mut self,
         alloc: Global,
         origin: ComponentOrigin,
-        part: P,
+        part: Part,
     ) -> Result<(), AllocError>
-        ensures { OnOk result ((cs : List SourcedPart) → self.old ≡ by_origin cs → self.new ≡ by_origin (cs ++ (origin, P.part part) ∷ [])) }
+        ensures { OnOk result ((cs : List SourcedPart) → self.old ≡ by_origin cs →
+            self.new ≡ by_origin (cs ++ (origin, part) ∷ [])) }
     {
         match origin {
-            ComponentOrigin::Definition => part.push_to(&mut self.definition)?,
+            ComponentOrigin::Definition => self.definition.push(part)?,
             ComponentOrigin::Extension(id) => self.extensions.add(alloc, id, part)?,
         }
         Ok(())
@@ -71,7 +73,11 @@ impl PartsByOrigin {
     {
         T::make_room(&mut self.definition, components.len())?;
         for component in components {
-            self.add(alloc, component.origin, component.node.clone()?)?;
+            self.add(
+                alloc,
+                component.origin,
+                T::into_part(component.node.clone()?),
+            )?;
         }
         Ok(())
     }
@@ -87,7 +93,11 @@ impl PartsByOrigin {
     {
         T::make_room(&mut self.definition, components.len())?;
         for component in components {
-            self.add(alloc, component.origin, component.node.clone()?)?;
+            self.add(
+                alloc,
+                component.origin,
+                T::into_part(component.node.clone()?),
+            )?;
         }
         Ok(())
     }
@@ -99,7 +109,7 @@ impl PartsByOrigin {
     {
         self.definition.names.reserve_exact(names.len())?;
         for name in names {
-            self.add(alloc, name.origin, name.name.clone()?)?;
+            self.add(alloc, name.origin, Part::Name(name.name.clone()?))?;
         }
         Ok(())
     }
@@ -125,8 +135,15 @@ impl PartsByOrigin {
             definition,
             extensions,
         } = self;
-        let own_name = name.clone()?;
-        written.push(definition.into_definition(alloc, kind, description, own_name, location)?)?;
+        let definition = TypeDeclaration {
+            kind,
+            name: name.clone()?,
+            is_extension: false,
+            description,
+            location,
+            parts: definition,
+        };
+        written.push(definition.into_definition(alloc)?)?;
         extensions.write_types(alloc, kind, name, written)
     }
 
@@ -149,7 +166,13 @@ impl PartsByOrigin {
         } = self;
         let mut written = Vec::new(alloc);
         if is_written {
-            written.push(definition.into_schema_definition(alloc, description, location)?)?;
+            let definition = SchemaDeclaration {
+                is_extension: false,
+                description,
+                location,
+                parts: definition,
+            };
+            written.push(definition.into_definition(alloc)?)?;
         }
         extensions.write_schemas(alloc, &mut written)?;
         Ok(written)

@@ -12,9 +12,10 @@ ghost use Rattle.apollo_folding.specs.HeldRoots.{held_root, held_roots};
 
 use crate::views::{ItemView, PartView};
 use apollo_types::extended_type::ExtendedType;
+use graphql_ast::declaration::TypeDeclaration;
 use graphql_ast::definition::Definition;
-use graphql_ast::definition_parts::DefinitionParts;
 use graphql_ast::directive::DirectiveList;
+use graphql_ast::parts::Parts;
 use graphql_ast::type_system as ast;
 use graphql_ast::type_system::SchemaExtension;
 use graphql_nodes::collections::items::Items;
@@ -29,8 +30,16 @@ fn empty_definition(alloc: Global, extension: &PartView<'_>) -> Result<Definitio
     ensures { IfOk result (λ made. item_of made ≡ Defined (adopted_part (part_seen extension.now))) }
 {
     let name = extension.name.clone()?;
-    let parts = DefinitionParts::new(alloc);
-    let made = parts.into_definition(alloc, extension.kind(), None, name, extension.location)?;
+    let parts = Parts::new(alloc);
+    let definition = TypeDeclaration {
+        kind: extension.kind(),
+        name,
+        is_extension: false,
+        description: None,
+        location: extension.location,
+        parts,
+    };
+    let made = definition.into_definition(alloc)?;
     Ok(made)
 }
 

@@ -6,9 +6,9 @@ use Rattle.std.specs.List.Sorted.{IsPermutation}
 use Rattle.graphql_nodes.specs.NameView.{NameView}
 use Rattle.graphql_nodes.specs.NodeView.{NodeView}
 use Rattle.graphql_nodes.specs.declared.operation_type.OperationType.{OperationType}
-use Rattle.graphql_ast.specs.declared.definition_parts.DefinitionPart.{DefinitionPart}
-use Rattle.graphql_ast.specs.declared.definition_parts.DefinitionPart.TheVariants as parts
-use Rattle.graphql_ast.specs.declared.definition_parts.DefinitionParts.{DefinitionParts}
+use Rattle.graphql_ast.specs.declared.parts.Part.{Part}
+use Rattle.graphql_ast.specs.declared.parts.Part.TheVariants as parts
+use Rattle.graphql_ast.specs.declared.parts.Parts.{Parts}
 use Rattle.graphql_ast.specs.declared.directive.Directive.{Directive}
 use Rattle.graphql_ast.specs.declared.type_system.EnumValueDefinition.{EnumValueDefinition}
 use Rattle.graphql_ast.specs.declared.type_system.FieldDefinition.{FieldDefinition}
@@ -30,7 +30,7 @@ pub record Sections : Type 0 where
   pub roots : List (ComponentOrigin × NodeView (OperationType × NameView))
 
 -- components of one sort
-abbrev pub as_parts : {X : Type 0} → (X → DefinitionPart) → List (ComponentOrigin × X) → List SourcedPart
+abbrev pub as_parts : {X : Type 0} → (X → Part) → List (ComponentOrigin × X) → List SourcedPart
 as_parts part = map (λ x. (x.0, part x.1))
 
 -- all components, sort by sort
@@ -41,17 +41,17 @@ in_sections s = flat_map (λ cs. cs) (
     )
 
 -- the definition's parts and those of each extension, with their origins
-abbrev pub with_origins : PartsByOrigin → List (ComponentOrigin × DefinitionParts)
+abbrev pub with_origins : PartsByOrigin → List (ComponentOrigin × Parts)
 with_origins p = (Definition, p.definition) ∷ map (λ e. (Extension e.0, e.1)) p.extensions
 
 -- what these have of one sort, joined
-abbrev pub joined : {X : Type 0} → (DefinitionParts → List X) → List (ComponentOrigin × DefinitionParts) → List (ComponentOrigin × X)
+abbrev pub joined : {X : Type 0} → (Parts → List X) → List (ComponentOrigin × Parts) → List (ComponentOrigin × X)
 joined sort = flat_map (λ g. map (λ x. (g.0, x)) (sort g.1))
 
 -- the components that parts under their origins make
 abbrev pub sections_of : PartsByOrigin → Sections
 sections_of p = record {
-  directives = joined (λ d. d.directives.0) (with_origins p);
+  directives = joined (λ d. d.directives) (with_origins p);
   names = joined (λ d. d.names) (with_origins p);
   fields = joined (λ d. d.fields) (with_origins p);
   values = joined (λ d. d.values) (with_origins p);

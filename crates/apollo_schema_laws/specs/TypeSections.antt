@@ -7,7 +7,7 @@ use Rattle.graphql_nodes.specs.NodeView.{NodeView}
 use Rattle.graphql_nodes.specs.SameText.{same_text}
 use Rattle.graphql_nodes.specs.Tables.{values_of}
 use Rattle.graphql_nodes.specs.declared.source.SourceSpan.{SourceSpan}
-use Rattle.graphql_ast.specs.declared.definition_parts.DefinitionParts.{DefinitionParts}
+use Rattle.graphql_ast.specs.declared.parts.Parts.{Parts}
 use Rattle.apollo_component.specs.Extensions.{extension_location, same_id}
 use Rattle.apollo_component.specs.WriteOut.{by_origin}
 use Rattle.apollo_component.specs.declared.component.Component.{Component}
@@ -50,7 +50,7 @@ type_sections (Enum n) = record no_components { directives = map node_with_origi
 type_sections (InputObject n) = record no_components { directives = map node_with_origin n.value.directives.0; input_fields = map node_with_origin (values_of n.value.fields) }
 
 -- the parts of extensions, each where it stands
-abbrev pub placed : List (ExtensionId × DefinitionParts) → List (Option SourceSpan × DefinitionParts)
+abbrev pub placed : List (ExtensionId × Parts) → List (Option SourceSpan × Parts)
 placed = map (λ e. (extension_location e.0, e.1))
 
 -- type u has what type t is written out as: its definition's parts and those of its extensions, where these stand, under

@@ -13,7 +13,7 @@ use Rattle.std.specs.Slice.Iter.{iter_rest}
 use Rattle.graphql_nodes.specs.NameView.{NameView}
 use Rattle.graphql_nodes.specs.NodeView.{NodeView}
 use Rattle.graphql_nodes.specs.declared.operation_type.OperationType.{OperationType}
-use Rattle.graphql_ast.specs.declared.definition_parts.DefinitionPart.TheVariants as parts
+use Rattle.graphql_ast.specs.declared.parts.Part.TheVariants as parts
 use Rattle.graphql_ast.specs.declared.directive.Directive.{Directive}
 use Rattle.graphql_ast.specs.declared.type_system.EnumValueDefinition.{EnumValueDefinition}
 use Rattle.graphql_ast.specs.declared.type_system.FieldDefinition.{FieldDefinition}
@@ -25,8 +25,8 @@ use Rattle.apollo_component.specs.declared.extension.ComponentOrigin.{ComponentO
 use Rattle.apollo_types.specs.SchemaRoots.{deref_root}
 use Rattle.apollo_types.specs.declared.components.ComponentRef.{ComponentRef}
 use Rattle.apollo_types.specs.declared.components.ComponentRef.TheVariants as refs
-use Rattle.apollo_types.specs.declared.components.Part.{Part}
-use Rattle.apollo_types.specs.declared.components.Part.TheVariants.{Nothing, Names, Fields, EnumValues, InputFields, Roots}
+use Rattle.apollo_types.specs.declared.components.Rest.{Rest}
+use Rattle.apollo_types.specs.declared.components.Rest.TheVariants.{Nothing, Names, Fields, EnumValues, InputFields, Roots}
 
 -- a directive as a component, with its origin
 abbrev pub of_directive : Component Directive → SourcedPart
@@ -66,13 +66,13 @@ component_seen (refs.InputField c) = of_input_field c.now
 component_seen (refs.Root operation c) = of_root (operation, c.now)
 
 -- what is left of one collection
-abbrev pub part_components : Part → List SourcedPart
-part_components Nothing = []
-part_components (Names names) = map of_name (iter_rest names)
-part_components (Fields fields) = map of_field fields
-part_components (EnumValues values) = map of_value values
-part_components (InputFields fields) = map of_input_field fields
-part_components (Roots roots) = map of_root roots
+abbrev pub rest_components : Rest → List SourcedPart
+rest_components Nothing = []
+rest_components (Names names) = map of_name (iter_rest names)
+rest_components (Fields fields) = map of_field fields
+rest_components (EnumValues values) = map of_value values
+rest_components (InputFields fields) = map of_input_field fields
+rest_components (Roots roots) = map of_root roots
 
 -- each run of `next` of an iterator of components shows what was left, in order
 abbrev pub ComponentsInOrder : Type 0

@@ -4,7 +4,7 @@ ghost use Rattle.std.specs.Iterator.{UpTo, at_most};
 ghost use Rattle.std.specs.Iterator.SizeHint.{IsWithinCount, IsExactHint};
 ghost use Rattle.std.specs.Map.Iter.{TakesFirst};
 ghost use Rattle.apollo_component.specs.WriteOut.{SourcedPart, by_origin};
-ghost use Rattle.apollo_types.specs.Components.{of_directive, of_field, of_value, of_input_field, of_root, component_seen, part_components, ComponentsInOrder};
+ghost use Rattle.apollo_types.specs.Components.{of_directive, of_field, of_value, of_input_field, of_root, component_seen, rest_components, ComponentsInOrder};
 
 use crate::root_operations::RootOperations;
 use apollo_component::component::{Component, ComponentName};
@@ -12,6 +12,7 @@ use apollo_component::directive_list::DirectiveList;
 use apollo_component::extension::ComponentOrigin;
 use apollo_component::parts_by_origin::PartsByOrigin;
 use graphql_ast::directive::Directive;
+use graphql_ast::parts::Part;
 use graphql_ast::type_system::{EnumValueDefinition, FieldDefinition, InputValueDefinition};
 use graphql_nodes::name::Name;
 use graphql_nodes::node::Node;
@@ -52,7 +53,7 @@ impl<'a> ComponentRef<'a> {
 
 /// What is left of one collection of components.
 #[derive(Drop)]
-pub(crate) enum Part<'a> {
+pub(crate) enum Rest<'a> {
     Nothing,
     Names(Iter<'a, ComponentName>),
     Fields(Values<'a, Name, Component<FieldDefinition>>),
@@ -61,18 +62,18 @@ pub(crate) enum Part<'a> {
     Roots(RootOperations<'a>),
 }
 
-impl<'a> Part<'a> {
+impl<'a> Rest<'a> {
     /// The next component, if there is one.
     fn next(&mut self) -> Option<ComponentRef<'a>>
-        ensures { TakesFirst component_seen (part_components self.old) result (part_components self.new) }
+        ensures { TakesFirst component_seen (rest_components self.old) result (rest_components self.new) }
     {
         match self {
-            Part::Nothing => None,
-            Part::Names(names) => Some(ComponentRef::Name(names.next()?)),
-            Part::Fields(fields) => Some(ComponentRef::Field(fields.next()?)),
-            Part::EnumValues(values) => Some(ComponentRef::EnumValue(values.next()?)),
-            Part::InputFields(fields) => Some(ComponentRef::InputField(fields.next()?)),
-            Part::Roots(roots) => {
+            Rest::Nothing => None,
+            Rest::Names(names) => Some(ComponentRef::Name(names.next()?)),
+            Rest::Fields(fields) => Some(ComponentRef::Field(fields.next()?)),
+            Rest::EnumValues(values) => Some(ComponentRef::EnumValue(values.next()?)),
+            Rest::InputFields(fields) => Some(ComponentRef::InputField(fields.next()?)),
+            Rest::Roots(roots) => {
                 let (operation_type, root) = roots.next()?;
                 Some(ComponentRef::Root(operation_type, root))
             }
@@ -81,29 +82,29 @@ impl<'a> Part<'a> {
 
     /// How many components are left.
     fn len(&self) -> usize
-        ensures { result ≡ length (part_components self.now) }
+        ensures { result ≡ length (rest_components self.now) }
     {
         match self {
-            Part::Nothing => 0,
-            Part::Names(names) => names.len(),
-            Part::Fields(fields) => fields.len(),
-            Part::EnumValues(values) => values.len(),
-            Part::InputFields(fields) => fields.len(),
-            Part::Roots(roots) => roots.len(),
+            Rest::Nothing => 0,
+            Rest::Names(names) => names.len(),
+            Rest::Fields(fields) => fields.len(),
+            Rest::EnumValues(values) => values.len(),
+            Rest::InputFields(fields) => fields.len(),
+            Rest::Roots(roots) => roots.len(),
         }
     }
 
     /// Adds each component that is left, in order. The error is out of memory, after which nothing is said of the parts.
     fn add_to(self, alloc: Global, parts: &mut PartsByOrigin) -> Result<(), AllocError>
-        ensures { OnOk result ((cs : List SourcedPart) → parts.old ≡ by_origin cs → parts.new ≡ by_origin (cs ++ part_components self.entry)) }
+        ensures { OnOk result ((cs : List SourcedPart) → parts.old ≡ by_origin cs → parts.new ≡ by_origin (cs ++ rest_components self.entry)) }
     {
         match self {
-            Part::Nothing => {}
-            Part::Names(names) => parts.add_names(alloc, names.as_slice())?,
-            Part::Fields(fields) => parts.add_named_components(alloc, fields)?,
-            Part::EnumValues(values) => parts.add_named_components(alloc, values)?,
-            Part::InputFields(fields) => parts.add_named_components(alloc, fields)?,
-            Part::Roots(roots) => add_roots(alloc, roots, parts)?,
+            Rest::Nothing => {}
+            Rest::Names(names) => parts.add_names(alloc, names.as_slice())?,
+            Rest::Fields(fields) => parts.add_named_components(alloc, fields)?,
+            Rest::EnumValues(values) => parts.add_named_components(alloc, values)?,
+            Rest::InputFields(fields) => parts.add_named_components(alloc, fields)?,
+            Rest::Roots(roots) => add_roots(alloc, roots, parts)?,
         }
         Ok(())
     }
@@ -120,7 +121,7 @@ fn add_roots(
     for (operation_type, root) in roots {
         let name = root.name.clone()?;
         let node = Node::new_opt_location(alloc, (operation_type, name), root.name.location())?;
-        parts.add(alloc, root.origin, node)?;
+        parts.add(alloc, root.origin, Part::Root(node))?;
     }
     Ok(())
 }
@@ -130,8 +131,8 @@ fn add_roots(
 #[derive(Drop)]
 pub struct Components<'a> {
     directives: Iter<'a, Component<Directive>>,
-    names: Part<'a>,
-    values: Part<'a>,
+    names: Rest<'a>,
+    values: Rest<'a>,
 }
 
 impl<'a> Model for Components<'a> {
@@ -140,24 +141,24 @@ impl<'a> Model for Components<'a> {
     ghost use Rattle.std.specs.Slice.Iter.{iter_rest};
     ghost use Rattle.apollo_component.specs.WriteOut.{SourcedPart};
     ghost use Rattle.apollo_component.specs.contracts.extension.ComponentOrigin as origin;
-    ghost use Rattle.graphql_ast.specs.contracts.definition_parts.DefinitionPart as part;
-    ghost use Rattle.apollo_types.specs.Components.{of_directive, part_components};
+    ghost use Rattle.graphql_ast.specs.contracts.parts.Part as part;
+    ghost use Rattle.apollo_types.specs.Components.{of_directive, rest_components};
 
     ghost Value = { List SourcedPart };
 
     ghost coded = { coded_list (coded× origin.the_row.coded part.the_row.coded) };
 
-    ghost view = { λ it. (map of_directive (iter_rest it.directives) ++ part_components it.names) ++ part_components it.values };
+    ghost view = { λ it. (map of_directive (iter_rest it.directives) ++ rest_components it.names) ++ rest_components it.values };
 }
 
 impl<'a> Components<'a> {
     /// These directives, then these collections.
     pub(crate) fn new(
         directives: &'a DirectiveList,
-        names: Part<'a>,
-        values: Part<'a>,
+        names: Rest<'a>,
+        values: Rest<'a>,
     ) -> Components<'a>
-        ensures rest { result ≡ (map of_directive directives.now.0 ++ part_components names.entry) ++ part_components values.entry }
+        ensures rest { result ≡ (map of_directive directives.now.0 ++ rest_components names.entry) ++ rest_components values.entry }
         ensures runs { ComponentsInOrder }
     {
         Components {

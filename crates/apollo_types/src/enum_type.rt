@@ -1,7 +1,7 @@
 //! Enum types: GraphQL specification of October 2021, section 3.9.
 ghost use Rattle.std.specs.Prelude.{◌≡◌};
 
-use crate::components::{Components, Part};
+use crate::components::{Components, Rest};
 use crate::extensible::Extensible;
 use crate::type_of_kind::TypeOfKind;
 use crate::write_out::Head;
@@ -59,8 +59,8 @@ impl Extensible for EnumType {
     fn components(&self) -> Components<'_> {
         Components::new(
             &self.directives,
-            Part::Nothing,
-            Part::EnumValues(self.values.values()),
+            Rest::Nothing,
+            Rest::EnumValues(self.values.values()),
         )
     }
 }

@@ -1,7 +1,7 @@
 //! Input object types: GraphQL specification of October 2021, section 3.10.
 ghost use Rattle.std.specs.Prelude.{◌≡◌};
 
-use crate::components::{Components, Part};
+use crate::components::{Components, Rest};
 use crate::extensible::Extensible;
 use crate::type_of_kind::TypeOfKind;
 use crate::write_out::Head;
@@ -59,8 +59,8 @@ impl Extensible for InputObjectType {
     fn components(&self) -> Components<'_> {
         Components::new(
             &self.directives,
-            Part::Nothing,
-            Part::InputFields(self.fields.values()),
+            Rest::Nothing,
+            Rest::InputFields(self.fields.values()),
         )
     }
 }

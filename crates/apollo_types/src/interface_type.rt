@@ -1,7 +1,7 @@
 //! Interface types: GraphQL specification of October 2021, section 3.7.
 ghost use Rattle.std.specs.Prelude.{◌≡◌};
 
-use crate::components::{Components, Part};
+use crate::components::{Components, Rest};
 use crate::extensible::Extensible;
 use crate::type_of_kind::TypeOfKind;
 use crate::write_out::Head;
@@ -63,8 +63,8 @@ impl Extensible for InterfaceType {
     fn components(&self) -> Components<'_> {
         Components::new(
             &self.directives,
-            Part::Names(self.implements_interfaces.as_slice().iter()),
-            Part::Fields(self.fields.values()),
+            Rest::Names(self.implements_interfaces.as_slice().iter()),
+            Rest::Fields(self.fields.values()),
         )
     }
 }

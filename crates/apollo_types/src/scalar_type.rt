@@ -1,7 +1,7 @@
 //! Scalar types: GraphQL specification of October 2021, section 3.5.
 ghost use Rattle.std.specs.Prelude.{◌≡◌};
 
-use crate::components::{Components, Part};
+use crate::components::{Components, Rest};
 use crate::extensible::Extensible;
 use crate::type_of_kind::TypeOfKind;
 use crate::write_out::Head;
@@ -52,7 +52,7 @@ impl Extensible for ScalarType {
 
     /// The components: directives.
     fn components(&self) -> Components<'_> {
-        Components::new(&self.directives, Part::Nothing, Part::Nothing)
+        Components::new(&self.directives, Rest::Nothing, Rest::Nothing)
     }
 }
 

@@ -8,7 +8,7 @@ ghost use Rattle.apollo_types.specs.Components.{RootsInOrder};
 ghost use Rattle.apollo_types.specs.SchemaRoots.{no_schema_definition, operation_types, root_of, named_roots};
 ghost use Rattle.apollo_types.specs.SchemaDefinitionWriteOut.{schema_components, is_some_object, has_own_root, has_implied_root, is_implied, is_written, write_schema_definition};
 
-use crate::components::{Components, Part};
+use crate::components::{Components, Rest};
 use crate::extended_type::ExtendedType;
 use crate::extensible::Extensible;
 use crate::root_operations::RootOperations;
@@ -207,8 +207,8 @@ impl Extensible for SchemaDefinition {
 
     /// The components: directives, roots.
     fn components(&self) -> Components<'_> {
-        let roots = Part::Roots(self.iter_root_operations());
-        Components::new(&self.directives, Part::Nothing, roots)
+        let roots = Rest::Roots(self.iter_root_operations());
+        Components::new(&self.directives, Rest::Nothing, roots)
     }
 }
 

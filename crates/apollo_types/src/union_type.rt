@@ -1,7 +1,7 @@
 //! Union types: GraphQL specification of October 2021, section 3.8.
 ghost use Rattle.std.specs.Prelude.{◌≡◌};
 
-use crate::components::{Components, Part};
+use crate::components::{Components, Rest};
 use crate::extensible::Extensible;
 use crate::type_of_kind::TypeOfKind;
 use crate::write_out::Head;
@@ -58,8 +58,8 @@ impl Extensible for UnionType {
     fn components(&self) -> Components<'_> {
         Components::new(
             &self.directives,
-            Part::Names(self.members.as_slice().iter()),
-            Part::Nothing,
+            Rest::Names(self.members.as_slice().iter()),
+            Rest::Nothing,
         )
     }
 }

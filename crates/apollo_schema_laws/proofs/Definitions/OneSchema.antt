@@ -1,6 +1,6 @@
 -- A schema definition that a list means, and the one that what is written of it means.
 use Rattle.apollo_schema_laws.proofs.Words.Lists.{one-element-permutation, ◌≡◌, ℕ, List, [], ◌∷◌, ◌++◌, None, Option, Some, map, find, flat_map, length, option_map, slice_get, refl, sym, ap, ◌∙◌, ◌==◌, length-map, map-map, AllByRecursion, IsDistinct, IsPermutation, find-first, find-made, map-flat_map}
-use Rattle.apollo_schema_laws.proofs.Words.Syntax.{bare_name, NodeView, OperationType, Query, Mutation, Subscription, bare_directive, DefinitionParts, Directive}
+use Rattle.apollo_schema_laws.proofs.Words.Syntax.{bare_name, NodeView, OperationType, Query, Mutation, Subscription, bare_directive, Parts, Directive}
 use Rattle.apollo_schema_laws.proofs.Words.Types.{bare_component, bare_component_name, extension_location, by_origin, identities, of_extensions, of_origin, origins_in, Component, ComponentName, ComponentOrigin, Definition, Extension, ExtensionId, PartsByOrigin, bare_schema_definition, root_node, schema_components, root_of, SchemaDefinition}
 use Rattle.apollo_schema_laws.proofs.Words.Meaning.{Root, SchemaPart, root_in, roots_of, same_operation, schema_definition_of, schema_directives_of, schema_extension_source, component, component_name}
 use Rattle.apollo_schema_laws.proofs.Words.Written.{Sections, in_sections, joined, with_origins, no_components, node_with_origin, placed}
@@ -10,7 +10,7 @@ use Rattle.apollo_schema_laws.proofs.Types.{same-located, directives_alone, numb
 use Rattle.apollo_schema_laws.proofs.Definitions.SchemaSections.{IsSchemaRow, entries, is_op, roots-origin, roots_for, schema-components, schema-in_order, schema-row, schema_sections, schema_sorts, filter-joined, from-values, in_operation_order, schema-parts_again}
 
 -- an extension's identity with what is written of it
-abbrev pub extension_written : SchemaDefinition → ExtensionId → ExtensionId × DefinitionParts
+abbrev pub extension_written : SchemaDefinition → ExtensionId → ExtensionId × Parts
 extension_written d e = (e, of_origin (Extension e) (schema_components d))
 
 -- a root under its operation type
@@ -25,8 +25,8 @@ originated o = map (λ x. (o, x))
 abbrev pub written_parts_of : SchemaDefinition → PartsByOrigin
 written_parts_of d = by_origin (schema_components d)
 
-abbrev pub schema_extension_of : ExtensionId × DefinitionParts → SchemaPart
-schema_extension_of e = record { location = extension_location e.0; description = None; directives = e.1.directives.0; roots = e.1.roots }
+abbrev pub schema_extension_of : ExtensionId × Parts → SchemaPart
+schema_extension_of e = record { location = extension_location e.0; description = None; directives = e.1.directives; roots = e.1.roots }
 
 -- the schema definition of a part and of extensions with numbers
 abbrev pub made_schema : SchemaPart → List (ℕ × SchemaPart) → SchemaDefinition
@@ -40,7 +40,7 @@ root-made head es op = refl
 -- the part has what is written of the definition
 pub record IsWrittenHead (d : SchemaDefinition) (head : SchemaPart) : Type 0 where
   pub description : head.description ≡ d.description
-  pub directives : head.directives ≡ (written_parts_of d).definition.directives.0
+  pub directives : head.directives ≡ (written_parts_of d).definition.directives
   pub roots : head.roots ≡ (written_parts_of d).definition.roots
 
 -- another schema definition has the same parts and says the same
@@ -75,7 +75,7 @@ equal-again d u a = (λ i. record {
 
 -- the directives stand in the order of the definition and the extensions
 pub directives-in_parts : (head : SchemaPart) (es : List (ℕ × SchemaPart))
-    → map node_with_origin (flat_map schema_directives_of ((Definition, head) ∷ map schema_extension_source es)) ≡ joined (λ d. d.directives.0) (with_origins (record { definition = directives_alone head.directives; extensions = map (numbered_parts (λ p. p.location) (λ p. directives_alone p.directives)) es }))
+    → map node_with_origin (flat_map schema_directives_of ((Definition, head) ∷ map schema_extension_source es)) ≡ joined (λ d. d.directives) (with_origins (record { definition = directives_alone head.directives; extensions = map (numbered_parts (λ p. p.location) (λ p. directives_alone p.directives)) es }))
 directives-in_parts head es =
     shown-made node_with_origin component (λ o a. refl) (λ (s : SchemaPart). s.directives) ((Definition, head) ∷ map schema_extension_source es) ∙ directives-numbered (λ p. p.location) (λ p. p.directives) head es
 
@@ -101,7 +101,7 @@ module _ (d : SchemaDefinition) (m : IsMadeBy made_schema d) (head : SchemaPart)
   abbrev u : SchemaDefinition
   u = made_schema head es
 
-  abbrev gs : List (ExtensionId × DefinitionParts)
+  abbrev gs : List (ExtensionId × Parts)
   gs = renumbered is (written_parts_of d).extensions
 
   many : length is ≡ length (written_parts_of d).extensions
@@ -117,16 +117,16 @@ module _ (d : SchemaDefinition) (m : IsMadeBy made_schema d) (head : SchemaPart)
   same_parts = same_exts ∙ ap (λ cs. map (λ e. e.1) (of_extensions cs)) (schema-components d)
 
   sourced : map schema_extension_source es ≡ map (λ g. (Extension g.0, schema_extension_of g)) gs
-  sourced = ap (map schema_extension_source) (paired-self es ∙ ap (paired is) written) ∙ numbered-written (λ (p : SchemaPart). p.location) (λ s d. record { location = s; description = None; directives = d.directives.0; roots = d.roots }) (λ s d. refl) is (written_parts_of d).extensions
+  sourced = ap (map schema_extension_source) (paired-self es ∙ ap (paired is) written) ∙ numbered-written (λ (p : SchemaPart). p.location) (λ s d. record { location = s; description = None; directives = d.directives; roots = d.roots }) (λ s d. refl) is (written_parts_of d).extensions
 
   -- the parts with their origins
   abbrev all : List (ComponentOrigin × SchemaPart)
   all = (Definition, head) ∷ map (λ g. (Extension g.0, schema_extension_of g)) gs
 
-  directives-again : map node_with_origin u.directives.0 ≡ joined (λ d. d.directives.0) (with_origins p)
+  directives-again : map node_with_origin u.directives.0 ≡ joined (λ d. d.directives) (with_origins p)
   directives-again =
       ap (λ l. map node_with_origin (flat_map schema_directives_of ((Definition, head) ∷ l))) sourced ∙ shown-made node_with_origin component (λ o a. refl) (λ (s : SchemaPart). s.directives) all
-      ∙ (λ i. originated Definition (h.directives i) ++ shown-joined (λ (s : SchemaPart). s.directives) (λ d. d.directives.0) (λ g. Extension g.0) schema_extension_of (λ g. g.1) (λ g. refl) gs i)
+      ∙ (λ i. originated Definition (h.directives i) ++ shown-joined (λ (s : SchemaPart). s.directives) (λ d. d.directives) (λ g. Extension g.0) schema_extension_of (λ g. g.1) (λ g. refl) gs i)
 
   roots-listed : flat_map roots_of ((Definition, head) ∷ map schema_extension_source es) ≡ map named_entry (joined (λ d. d.roots) (with_origins p))
   roots-listed =
@@ -184,7 +184,7 @@ module _ (d : SchemaDefinition) (m : IsMadeBy made_schema d) (head : SchemaPart)
       nodes : (cs : List (Component Directive)) → map (λ c. c.node) cs ≡ map (λ x. x.1) (map node_with_origin cs)
       nodes cs = sym (map-map (λ (x : ComponentOrigin × NodeView Directive). x.1) node_with_origin cs)
 
-      in_order_again : map (λ x. x.1) (joined (λ d. d.directives.0) (with_origins p)) ≡ map (λ x. x.1) (map node_with_origin d.directives.0)
+      in_order_again : map (λ x. x.1) (joined (λ d. d.directives) (with_origins p)) ≡ map (λ x. x.1) (map node_with_origin d.directives.0)
       in_order_again =
           directives-in_order s (record { definition = directives_alone m.head.directives; extensions = map (numbered_parts (λ p. p.location) (λ p. directives_alone p.directives)) m.extensions }) p (numbered-distinct (λ (p : SchemaPart). p.location) (λ p. directives_alone p.directives) m.extensions m.apart)
           (ap (λ (v : SchemaDefinition). map node_with_origin v.directives.0) m.is ∙ directives-in_parts m.head m.extensions) same_definition same_parts

@@ -34,7 +34,7 @@ schema_numbers-parts start xs s h =
 pub record IsMeantSchema (d : SchemaDefinition) (implied : List Root) : Type 0 where
   pub made : IsMadeBy made_schema d
   pub description : has_own_root d ≡ false → d.description ≡ None
-  pub directives : has_own_root d ≡ false → (written_parts_of d).definition.directives.0 ≡ []
+  pub directives : has_own_root d ≡ false → (written_parts_of d).definition.directives ≡ []
   pub roots : has_own_root d ≡ false → ((op : OperationType) → root_of d op ≡ None) → implied ≡ []
 
 module _ (start : ℕ) (xs : List ListItem) where

@@ -1,6 +1,6 @@
 -- What is written of a schema definition: of two that say the same, of one of roots alone, and of one that is left out.
 use Rattle.apollo_schema_laws.proofs.Words.Lists.{◌≡◌, ℕ, Bool, true, false, cond, not, ◌||◌, ◌&&◌, List, [], ◌∷◌, ◌++◌, None, Option, Some, is_none, map, find, flat_map, length, option_map, refl, sym, ap, ◌∙◌, ◌==◌, length-map, map-map, cons_option, list_any, option_eq, nat_eq, true≢false, arith, and_parts, nat_tests, list_all, flat_map-map, IsDistinct, map-flat_map, nil_from_length}
-use Rattle.apollo_schema_laws.proofs.Words.Syntax.{NameView, OperationType, Query, Mutation, Subscription, SourceSpan, schema_definition, schema_extension, DefinitionParts, Directive, bare_name, default_type_text, same-true, bare_directive, same-refl}
+use Rattle.apollo_schema_laws.proofs.Words.Syntax.{NameView, OperationType, Query, Mutation, Subscription, SourceSpan, schema_definition, schema_extension, Parts, Directive, bare_name, default_type_text, same-true, bare_directive, same-refl}
 use Rattle.apollo_schema_laws.proofs.Words.Types.{extension_location, same_origin, identities, origins_in, Component, ComponentName, PartsByOrigin, ExtensionId, has_implied_root, has_own_root, implied_name, is_written, schema_components, write_schema_definition, root_of, ExtendedType, SchemaDefinition, bare_component, bare_component_name, bare_schema_definition, is_implied, operation_types}
 use Rattle.apollo_schema_laws.proofs.Words.Meaning.{Root, SchemaPart, roots_of, same_operation, schema_extension_source, component_name, default_root, schema_of_roots, roots_in}
 use Rattle.apollo_schema_laws.proofs.Words.Faults.{same_root}
@@ -64,12 +64,12 @@ pub no-own : (d : SchemaDefinition) → has_own_root d ≡ false → (written_pa
 no-own d h = has_none (written_parts_of d).definition.roots (sym (own-said d) ∙ h)
 
 -- where a definition has no directive of its own, none is written of it
-pub no-directives : (head : SchemaPart) (es : List (ℕ × SchemaPart)) → head.directives ≡ [] → (written_parts_of (made_schema head es)).definition.directives.0 ≡ []
+pub no-directives : (head : SchemaPart) (es : List (ℕ × SchemaPart)) → head.directives ≡ [] → (written_parts_of (made_schema head es)).definition.directives ≡ []
 no-directives head es e =
     let p : PartsByOrigin = record { definition = directives_alone head.directives; extensions = map (numbered_parts (λ (s : SchemaPart). s.location) (λ s. directives_alone s.directives)) es } in
-    ap (λ q. q.directives.0) (of_schema-origin (made_schema head es) origins.Definition)
+    ap (λ q. q.directives) (of_schema-origin (made_schema head es) origins.Definition)
     ∙ ap (picked origins.Definition) (directives-in_parts head es)
-    ∙ of-alone origins.Definition (λ q. q.directives.0) (with_origins p) (origins.Definition, p.definition) (definition-alone p) ∙ e
+    ∙ of-alone origins.Definition (λ q. q.directives) (with_origins p) (origins.Definition, p.definition) (definition-alone p) ∙ e
 
 -- where there is no root of any operation type, no part names one
 pub all-none : (l : List (OperationType × ComponentName)) → ((op : OperationType) → option_map (λ r. r.1) (find (λ r. same_operation op r.0) l) ≡ None) → l ≡ []
@@ -94,7 +94,7 @@ module _ (d u : SchemaDefinition) (a : IsSchemaAgain d u) (types others : List (
   implied-root : (op : OperationType) → has_implied_root others u op ≡ has_implied_root types d op
   implied-root op = (λ i. option_eq (pointwise nat_eq) (text-of d u a op i) (same op i))
 
-  abbrev location_part : ExtensionId × DefinitionParts → Option SourceSpan × DefinitionParts
+  abbrev location_part : ExtensionId × Parts → Option SourceSpan × Parts
   location_part e = (extension_location e.0, e.1)
 
   counted : (c : SchemaDefinition) → length (identities (origins_in (schema_components c))) ≡ length (placed (written_parts_of c).extensions)

@@ -1,10 +1,10 @@
 -- The components of a schema definition, whose roots stand in the order of the operation types, and the definition that written parts make again.
 use Rattle.apollo_schema_laws.proofs.Words.Lists.{◌≡◌, Bool, true, cond, List, [], ◌∷◌, ◌++◌, None, Option, Some, map, filter, flat_map, option_map, refl, sym, ap, ◌∙◌, slice_get, append-nil, filter-append, cons_option, list_any, AllByRecursion, IsDistinct, map-map, unwrap_or, filter-map, arith}
-use Rattle.apollo_schema_laws.proofs.Words.Syntax.{OperationType, Query, Mutation, Subscription, DefinitionParts}
+use Rattle.apollo_schema_laws.proofs.Words.Syntax.{OperationType, Query, Mutation, Subscription, Parts}
 use Rattle.apollo_schema_laws.proofs.Words.Types.{same_id, same_origin, of_origin, of_extensions, SourcedPart, by_origin, ComponentName, ComponentOrigin, Extension, Definition, ExtensionId, of_root, root_node, schema_components, root_of, SchemaDefinition, PartsByOrigin}
 use Rattle.apollo_schema_laws.proofs.Words.Meaning.{Root, same_operation, component_name}
 use Rattle.apollo_schema_laws.proofs.Words.Written.{Sections, as_parts, in_sections, joined, with_origins, node_with_origin, no_components}
-use Rattle.graphql_ast.specs.declared.definition_parts.DefinitionPart.TheVariants as parts
+use Rattle.graphql_ast.specs.declared.parts.Part.TheVariants as parts
 use Rattle.apollo_schema_laws.proofs.Lists.{in_order, in_order-map, each-both, shown}
 use Rattle.apollo_schema_laws.proofs.Sections.{ids_in, ids_in-append, ids_in-sections, picked, picked-append, of_origin-sections, parts_in, has_some, has_some-picked, written-in_order, definition-alone, each-alone, extension-alone, marks, of-alone, parts-again, shown-joined}
 
@@ -35,7 +35,7 @@ abbrev pub is_op : OperationType → Root → Bool
 is_op op r = same_operation op r.value.0
 
 -- the roots of an operation type among parts
-abbrev pub roots_for : OperationType → DefinitionParts → List Root
+abbrev pub roots_for : OperationType → Parts → List Root
 roots_for op d = filter (is_op op) d.roots
 
 module _ (o : ComponentOrigin) where
@@ -57,7 +57,7 @@ module _ (o : ComponentOrigin) where
     picked-for Subscription = pieces Subscription ∙ append-nil (picked o (entries Subscription d.subscription))
 
 -- parts of a schema definition: nothing but directives, and roots in the order of the operation types
-pub record IsSchemaRow (d : DefinitionParts) : Type 0 where
+pub record IsSchemaRow (d : Parts) : Type 0 where
   pub names : [] ≡ d.names
   pub fields : [] ≡ d.fields
   pub values : [] ≡ d.values
@@ -65,8 +65,8 @@ pub record IsSchemaRow (d : DefinitionParts) : Type 0 where
   pub roots : roots_for Query d ++ (roots_for Mutation d ++ (roots_for Subscription d ++ [])) ≡ d.roots
 
 -- whether parts have directives, and a root of each operation type
-abbrev pub schema_sorts : List (DefinitionParts → Bool)
-schema_sorts = (λ p. has_some p.directives.0) ∷ (λ p. has_some (roots_for Query p)) ∷ (λ p. has_some (roots_for Mutation p)) ∷ (λ p. has_some (roots_for Subscription p)) ∷ []
+abbrev pub schema_sorts : List (Parts → Bool)
+schema_sorts = (λ p. has_some p.directives) ∷ (λ p. has_some (roots_for Query p)) ∷ (λ p. has_some (roots_for Mutation p)) ∷ (λ p. has_some (roots_for Subscription p)) ∷ []
 
 module _ (d : SchemaDefinition) where
   pub of_schema-origin : (o : ComponentOrigin) → of_origin o (schema_components d) ≡ parts_in o (schema_sections d)
@@ -94,8 +94,8 @@ module _ (d : SchemaDefinition) where
   pub schema-in_order : in_order schema_sorts (map (λ e. e.1) (of_extensions (schema_components d))) ≡ true
   schema-in_order = written-in_order (schema_components d) schema_sorts id_lists ids-listed (λ i. directives i ∷ roots Query i ∷ roots Mutation i ∷ roots Subscription i ∷ [])
     where
-      directives : ◌≡◌ {A = ExtensionId → Bool} (λ e. has_some (of_origin (Extension e) (schema_components d)).directives.0) (λ e. list_any (same_id e) (ids_in (map node_with_origin d.directives.0)))
-      directives = λ i e. (ap (λ (p : DefinitionParts). has_some p.directives.0) (of_schema-origin (Extension e)) ∙ has_some-picked e (map node_with_origin d.directives.0)) i
+      directives : ◌≡◌ {A = ExtensionId → Bool} (λ e. has_some (of_origin (Extension e) (schema_components d)).directives) (λ e. list_any (same_id e) (ids_in (map node_with_origin d.directives.0)))
+      directives = λ i e. (ap (λ (p : Parts). has_some p.directives) (of_schema-origin (Extension e)) ∙ has_some-picked e (map node_with_origin d.directives.0)) i
 
       roots : (op : OperationType) → ◌≡◌ {A = ExtensionId → Bool} (λ e. has_some (roots_for op (of_origin (Extension e) (schema_components d)))) (λ e. list_any (same_id e) (ids_in (entries op (root_of d op))))
       roots op = λ i e. (ap has_some (roots-origin (Extension e) op) ∙ has_some-picked e (entries op (root_of d op))) i
@@ -103,14 +103,14 @@ module _ (d : SchemaDefinition) where
 -- the sections that written parts make, with the roots in the order of the operation types
 abbrev pub in_operation_order : PartsByOrigin → Sections
 in_operation_order p = record no_components {
-  directives = joined (λ d. d.directives.0) (with_origins p);
+  directives = joined (λ d. d.directives) (with_origins p);
   roots = joined (roots_for Query) (with_origins p) ++ (joined (roots_for Mutation) (with_origins p) ++ (joined (roots_for Subscription) (with_origins p) ++ []));
 }
 
 -- where one group alone is of the origin
-row-again : (p : PartsByOrigin) (o : ComponentOrigin) (g : ComponentOrigin × DefinitionParts) → filter (λ g. same_origin o g.0) (with_origins p) ≡ g ∷ [] → IsSchemaRow g.1 → of_origin o (in_sections (in_operation_order p)) ≡ g.1
+row-again : (p : PartsByOrigin) (o : ComponentOrigin) (g : ComponentOrigin × Parts) → filter (λ g. same_origin o g.0) (with_origins p) ≡ g ∷ [] → IsSchemaRow g.1 → of_origin o (in_sections (in_operation_order p)) ≡ g.1
 row-again p o g alone row = of_origin-sections o (in_operation_order p) ∙ (λ i. record {
-  directives = record { 0 = of_sort (λ d. d.directives.0) i };
+  directives = of_sort (λ d. d.directives) i;
   names = row.names i;
   fields = row.fields i;
   values = row.values i;
@@ -118,7 +118,7 @@ row-again p o g alone row = of_origin-sections o (in_operation_order p) ∙ (λ 
   roots = roots i;
 })
   where
-    of_sort : {A : Type 0} (sort : DefinitionParts → List A) → picked o (joined sort (with_origins p)) ≡ sort g.1
+    of_sort : {A : Type 0} (sort : Parts → List A) → picked o (joined sort (with_origins p)) ≡ sort g.1
     of_sort sort = of-alone o sort (with_origins p) g alone
 
     rs : OperationType → List (ComponentOrigin × Root)
@@ -138,8 +138,8 @@ module _ (p : PartsByOrigin) (distinct : IsDistinct same_id (map (λ e. e.0) p.e
   -- parts in the order in which they are written are written again as themselves
   pub schema-parts_again : by_origin comps ≡ p
   schema-parts_again =
-      parts-again p distinct comps ((λ e. marks e.1.directives.0) ∷ (λ e. marks (roots_for Query e.1)) ∷ (λ e. marks (roots_for Mutation e.1)) ∷ (λ e. marks (roots_for Subscription e.1)) ∷ [])
-      (ids_in-sections (in_operation_order p) ∙ (λ i. shown-joined p (λ d. d.directives.0) i ++ (append-nil (ids_in (in_operation_order p).roots) ∙ roots) i)) (sym (in_order-map (λ e. e.1) schema_sorts p.extensions) ∙ ordered)
+      parts-again p distinct comps ((λ e. marks e.1.directives) ∷ (λ e. marks (roots_for Query e.1)) ∷ (λ e. marks (roots_for Mutation e.1)) ∷ (λ e. marks (roots_for Subscription e.1)) ∷ [])
+      (ids_in-sections (in_operation_order p) ∙ (λ i. shown-joined p (λ d. d.directives) i ++ (append-nil (ids_in (in_operation_order p).roots) ∙ roots) i)) (sym (in_order-map (λ e. e.1) schema_sorts p.extensions) ∙ ordered)
       (row-again p Definition (Definition, p.definition) (definition-alone p) first_row)
       (each-both (λ e. filter (λ h. same_id e.0 h.0) p.extensions ≡ e ∷ []) (λ e. IsSchemaRow e.1) (λ e. of_origin (Extension e.0) comps ≡ e.1)
       (λ e alone row. row-again p (Extension e.0) (Extension e.0, e.1) (extension-alone p e alone) row) p.extensions (each-alone p distinct) rows)
@@ -162,6 +162,6 @@ from-values op (x ∷ []) (Some n) h =
     (ap (λ (y : Root). (x.0, root_node (op, component_name x.0 y.value.1)) ∷ []) e ∙ sym (ap (λ (y : Root). (x.0, y) ∷ []) e), ap (λ (y : Root). Some y.value.1) e)
 from-values op (x ∷ y ∷ xs) (Some n) h = absurd (let g : x.1 ∷ y.1 ∷ map (λ x. x.1) xs ≡ root_node (op, n) ∷ [] = h in cc)
 
-pub filter-joined : {A : Type 0} (q : A → Bool) (sort : DefinitionParts → List A) (gs : List (ComponentOrigin × DefinitionParts)) → filter (λ x. q x.1) (joined sort gs) ≡ joined (λ d. filter q (sort d)) gs
+pub filter-joined : {A : Type 0} (q : A → Bool) (sort : Parts → List A) (gs : List (ComponentOrigin × Parts)) → filter (λ x. q x.1) (joined sort gs) ≡ joined (λ d. filter q (sort d)) gs
 filter-joined q sort [] = refl
 filter-joined q sort (g ∷ gs) = filter-append (λ x. q x.1) (map (λ x. (g.0, x)) (sort g.1)) (joined sort gs) ∙ (λ i. filter-map (λ x. q x.1) (λ x. (g.0, x)) (sort g.1) i ++ filter-joined q sort gs i)

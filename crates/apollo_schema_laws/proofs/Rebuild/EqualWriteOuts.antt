@@ -1,6 +1,6 @@
 -- Write-outs that are equal, whatever their locations, are equal lists behind the built-in definitions.
 use Rattle.apollo_schema_laws.proofs.Words.Lists.{◌≡◌, Bool, true, false, cond, List, [], ◌∷◌, ◌++◌, Option, map, filter, flat_map, refl, sym, ap, ◌∙◌, map-append, not-true, AllByRecursion, each-append, each-weaken, arith}
-use Rattle.apollo_schema_laws.proofs.Words.Syntax.{NameView, SourceSpan, TypeKind, Definition, DefinitionParts, type_definition, type_extension, schema_definition, schema_extension, is_built_in, built_in_definitions, values_of}
+use Rattle.apollo_schema_laws.proofs.Words.Syntax.{NameView, SourceSpan, TypeKind, Definition, Parts, type_definition, type_extension, schema_definition, schema_extension, is_built_in, built_in_definitions, values_of}
 use Rattle.apollo_schema_laws.proofs.Words.Types.{ExtensionId, PartsByOrigin, ExtendedType, extension_location, by_origin, is_written, schema_components, type_components, type_description, type_kind, type_location, type_name, write_type}
 use Rattle.apollo_schema_laws.proofs.Words.Meaning.{Directives, Schema, added, is_handed_in, write_directives, write_held_schema_definition, write_held_type, write_schema}
 use Rattle.apollo_schema_laws.proofs.Words.Written.{written_again}
@@ -14,10 +14,10 @@ abbrev IsUnmarked : Definition → Type 0
 IsUnmarked d = is_built_in_directive d ≡ false
 
 -- what types are written out as is of types
-unmarked-definition : (k : TypeKind) (description : Option NameView) (name : NameView) (parts : DefinitionParts) (location : Option SourceSpan) → IsUnmarked (type_definition k description name parts location)
+unmarked-definition : (k : TypeKind) (description : Option NameView) (name : NameView) (parts : Parts) (location : Option SourceSpan) → IsUnmarked (type_definition k description name parts location)
 unmarked-definition k description name parts location = grind arith
 
-unmarked-extension : (k : TypeKind) (name : NameView) (parts : DefinitionParts) (location : Option SourceSpan) → IsUnmarked (type_extension k name parts location)
+unmarked-extension : (k : TypeKind) (name : NameView) (parts : Parts) (location : Option SourceSpan) → IsUnmarked (type_extension k name parts location)
 unmarked-extension k name parts location = grind arith
 
 unmarked-type : (t : ExtendedType) → AllByRecursion IsUnmarked (write_held_type t)
@@ -26,7 +26,7 @@ unmarked-type t = by (is_built_in (type_location t))
     written : PartsByOrigin
     written = by_origin (type_components t)
 
-    make : ExtensionId × DefinitionParts → Definition
+    make : ExtensionId × Parts → Definition
     make e = type_extension (type_kind t) (type_name t) e.1 (extension_location e.0)
 
     extensions : AllByRecursion IsUnmarked (map make written.extensions)
@@ -49,7 +49,7 @@ unmarked-schema s = by (is_written s.types s.schema_definition.value)
     written : PartsByOrigin
     written = by_origin (schema_components s.schema_definition.value)
 
-    make : ExtensionId × DefinitionParts → Definition
+    make : ExtensionId × Parts → Definition
     make e = schema_extension e.1 (extension_location e.0)
 
     extensions : AllByRecursion IsUnmarked (map make written.extensions)

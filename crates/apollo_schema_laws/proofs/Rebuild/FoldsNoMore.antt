@@ -2,7 +2,7 @@
 -- parts. So a schema's write-out folds no more extensions than the list that the schema is of.
 use Rattle.apollo_schema_laws.proofs.Words.Lists.{◌≡◌, List, [], ◌∷◌, None, Option, Some, map, find, flat_map, option_map, refl, sym, subst, ℕ, ◌≤◌, Bool, true, length, ◌∙◌, true≢false, arith, AllByRecursion, cons_option, list_any, IfSome, each-append}
 use Rattle.apollo_schema_laws.proofs.Words.Lists.{length-map, ◌+◌, ◌++◌, filter, ap, length-append, filter_map-append, recursion_from_All, All, filter_map, range_with_len, IsDistinct, enumerate_from, option_map_or, unwrap_or, each-weaken, filter_map-numbered}
-use Rattle.apollo_schema_laws.proofs.Words.Syntax.{NameView, NodeView, same_text, values_of, OperationType, Query, Mutation, Subscription, DefinitionPart, Directive, SourceSpan, DefinitionParts, by_text, keys_of, lookup}
+use Rattle.apollo_schema_laws.proofs.Words.Syntax.{NameView, NodeView, same_text, values_of, OperationType, Query, Mutation, Subscription, Part, Directive, SourceSpan, Parts, by_text, keys_of, lookup}
 use Rattle.apollo_schema_laws.proofs.Words.Types.{same_key, SourcedPart, sourced, identities, of_extensions, of_origin, origins_in, Component, ComponentName, ComponentOrigin, of_directive, of_name, of_root, schema_components, named_roots, type_components, each-first, list_any-first_of_each, extension_id, same_id, Definition, Extension, ExtensionId, first_of_each-distinct, ExtendedType, SchemaDefinition, name_laws}
 use Rattle.apollo_schema_laws.proofs.Words.Meaning.{EnumBody, InputObjectBody, InterfaceBody, ObjectBody, ScalarBody, SchemaPart, TypeBody, TypePart, UnionBody, SourcedSchema, root_in, roots_of, same_operation, schema_definition_of, schema_directives_of, Sourced, body_fields, body_input_fields, body_interfaces, body_members, body_values, component, component_name, extended_schema}
 use Rattle.apollo_schema_laws.proofs.Words.Meaning.{sourced_directives, distinct_entries, distinct_names, field_entry, input_field_entry, same_component_name, value_entry, type_of_kind, adopted, with_adopted, implied_schema, Added, ListItem, OfSchema, OfType, added_items, extended_part, Extended, Folding, schema_extensions}
@@ -12,7 +12,7 @@ use Rattle.std.proofs.lemmas.Map.Made.{length-le_from_is_member}
 use Rattle.std.proofs.lemmas.Map.Steps.{list_any_congr}
 use Rattle.std.proofs.lemmas.List.Sums.{count_by-le-length, length-filter}
 use Rattle.apollo_meaning.specs.Order.SpentIds.{SpendsIds}
-use Rattle.graphql_ast.specs.declared.definition_parts.DefinitionPart.TheVariants as parts
+use Rattle.graphql_ast.specs.declared.parts.Part.TheVariants as parts
 use Rattle.apollo_schema_laws.proofs.Lists.{each-flat_map, each-made, each-map, if-found, grouped-few, each-of, passed, same-once}
 use Rattle.apollo_schema_laws.proofs.Sections.{each-among, is_among, ids_in, same_id-equiv}
 use Rattle.apollo_schema_laws.proofs.Types.{made, written, numbers_of, schema_numbers, extension_of, held_items}
@@ -46,7 +46,7 @@ module _ (P : ComponentOrigin → Type 0) where
         let all : List ComponentName = flat_map (λ (s : Sourced). map (component_name s.0) (of s.1)) ps in
         each-map From of_name (distinct_names all) (each-first (λ (c : ComponentName). P c.origin) same_component_name all (each-sourced (λ (c : ComponentName). c.origin) component_name (λ o n. refl) of ps a))
 
-    entries : {T : Type 0} (entry : ComponentOrigin → NodeView T → NameView × Component T) → ((o : ComponentOrigin) (n : NodeView T) → (entry o n).1.origin ≡ o) → (part : NodeView T → DefinitionPart)
+    entries : {T : Type 0} (entry : ComponentOrigin → NodeView T → NameView × Component T) → ((o : ComponentOrigin) (n : NodeView T) → (entry o n).1.origin ≡ o) → (part : NodeView T → Part)
         → (of : TypePart → List (NodeView T)) → AllByRecursion From (map (sourced part) (values_of (distinct_entries (flat_map (λ s. map (entry s.0) (of s.1)) ps))))
     entries {T} entry is part of =
         let all : List (NameView × Component T) = flat_map (λ (s : Sourced). map (entry s.0) (of s.1)) ps in
@@ -94,7 +94,7 @@ written-among : (ids : List ExtensionId) (cs : List SourcedPart) → AllByRecurs
 written-among ids cs a =
     omega (
       arith,
-      length-map {B = ExtensionId × DefinitionParts} (identities (origins_in cs)) (λ e. (e, of_origin (Extension e) cs)),
+      length-map {B = ExtensionId × Parts} (identities (origins_in cs)) (λ e. (e, of_origin (Extension e) cs)),
       length-le_from_is_member same_id-equiv (identities (origins_in cs)) ids (first_of_each-distinct same_id (ids_in cs))
           (λ e h. among-there ids e cs a (sym (list_any-first_of_each same_id same_id-equiv e (ids_in cs)) ∙ h)),
     )
@@ -199,7 +199,7 @@ module _ (c : Bool) where
   held-counted : (t : ExtendedType) → length (filter_map extended_part (held_items c t)) ≡ length (written t).extensions
   held-counted t = grind (arith, extensions (written t).extensions)
     where
-      extensions : (es : List (ExtensionId × DefinitionParts)) → length (filter_map extended_part (map (λ e. Extended (extension_of t e)) es)) ≡ length es
+      extensions : (es : List (ExtensionId × Parts)) → length (filter_map extended_part (map (λ e. Extended (extension_of t e)) es)) ≡ length es
       extensions [] = refl
       extensions (e ∷ es) = omega (arith, extensions es)
 

@@ -1,6 +1,6 @@
 -- The types of a list with a write-out are the types that were written out.
 use Rattle.apollo_schema_laws.proofs.Words.Lists.{◌≡◌, ℕ, Bool, true, false, cond, List, [], ◌∷◌, ◌++◌, None, Option, Some, is_some, map, filter, flat_map, option_map, refl, sym, ap, subst, ◌∙◌, append-nil, filter-append, map-map, AllByRecursion, IsDistinct, filter_map, list_any, option_map_or, option_or, unwrap_or, each-weaken, option_cases, filter-all, arith, filter-fails}
-use Rattle.apollo_schema_laws.proofs.Words.Syntax.{is_built_in, entries_by_text, NameView, same, same_text, by_text, HasUniqueKeys, keys_of, values_of, lookup, DefinitionParts}
+use Rattle.apollo_schema_laws.proofs.Words.Syntax.{is_built_in, entries_by_text, NameView, same, same_text, by_text, HasUniqueKeys, keys_of, values_of, lookup, Parts}
 use Rattle.apollo_schema_laws.proofs.Words.Types.{first_of_each, ExtensionId, bare_extended_type, type_location, type_name, ExtendedType, name_laws, first_of_each-distinct}
 use Rattle.apollo_schema_laws.proofs.Words.Meaning.{ListItem, Defined, Extended, defined_part, extended_part, first, extensions_of, of_kind, TypePart, kind_of, folding_order, whole, Sourced, AreTypesOf, extension_part, type_names, type_from, parts, Schema, TypeNamed}
 use Rattle.apollo_schema_laws.proofs.Words.Written.{IsMeantByList, with_built_ins}
@@ -153,11 +153,11 @@ module _ (schema : Schema) (list : IsMeantByList schema) where
       pub extensions-again : extensions_of again_items n ≡ map (extension_of t) (written t).extensions
       extensions-again = extensions-about n again_items ∙ ap (λ l. extensions_of l n) view-type ∙ go (written t).extensions
         where
-          go : (es : List (ExtensionId × DefinitionParts)) → extensions_of (map (λ e. Extended (extension_of t e)) es) n ≡ map (extension_of t) es
+          go : (es : List (ExtensionId × Parts)) → extensions_of (map (λ e. Extended (extension_of t e)) es) n ≡ map (extension_of t) es
           go [] = refl
           go (e ∷ es) = ap (λ b. cond b (extension_of t e ∷ extensions_of (map (λ e. Extended (extension_of t e)) es) n) (extensions_of (map (λ e. Extended (extension_of t e)) es) n)) (key n t found) ∙ ap (λ l. extension_of t e ∷ l) (go es)
 
-      pub fits : (es : List (ExtensionId × DefinitionParts)) → AllByRecursion (Fits (record (definition_part t) { ignorable = flag })) (map (extension_of t) es)
+      pub fits : (es : List (ExtensionId × Parts)) → AllByRecursion (Fits (record (definition_part t) { ignorable = flag })) (map (extension_of t) es)
       fits [] = tt
       fits (e ∷ es) = ((refl, kind-body _ e.1 ∙ sym (kind-body _ (written t).definition)), fits es)
 

@@ -1,6 +1,6 @@
 -- The list with a write-out, item by item, and what it is completed with.
 use Rattle.apollo_schema_laws.proofs.Words.Lists.{◌≡◌, Bool, true, false, cond, List, [], ◌∷◌, ◌++◌, None, Option, Some, map, filter, flat_map, slice_get, refl, sym, ap, subst, ◌∙◌, append-nil, filter-append, filter_map-append, AllByRecursion, filter_map, each-append, each-weaken, filter-fails, ℕ, option_map_or, option_or, or-none, map-map, filter_map-made, option_cases, filter-all, filter_map-unmade, arith}
-use Rattle.apollo_schema_laws.proofs.Words.Syntax.{is_built_in, NameView, SourceSpan, schema_definition, schema_extension, DefinitionParts, built_in_definitions, NodeView, default_type_text, by_text, lookup, values_of, OperationType, Query, Mutation, Subscription}
+use Rattle.apollo_schema_laws.proofs.Words.Syntax.{is_built_in, NameView, SourceSpan, schema_definition, schema_extension, Parts, built_in_definitions, NodeView, default_type_text, by_text, lookup, values_of, OperationType, Query, Mutation, Subscription}
 use Rattle.apollo_schema_laws.proofs.Words.Types.{extension_location, ExtensionId, is_written, write_schema_definition, type_location, ExtendedType, SchemaDefinition, is_some_object, is_object, type_kind}
 use Rattle.apollo_schema_laws.proofs.Words.Meaning.{Directives, directive_definitions, is_handed_in, Defined, Extended, ListItem, Other, SchemaDefined, SchemaExtended, defined_schema, extended_part, extended_schema, first_schema, schema_extensions, SchemaPart, write_directives, adopted, adopted_by, NoSubject, Subject, TheSchema, TypeNamed}
 use Rattle.apollo_schema_laws.proofs.Words.Meaning.{extended_names, orphans_of, with_adopted, implicit_roots, implied_schema, is_object_name, adopting_schema, schema_for, extensions_of, first, Root, kind_of, same_kind, roots_in, folding_order, whole, AreTypesOf, Schema, directive_part}
@@ -44,7 +44,7 @@ module _ (c : Bool) where
 
 -- the definition's part
 abbrev pub written_head : SchemaDefinition → Option SourceSpan → SchemaPart
-written_head d location = record { location = location; description = d.description; directives = (written_parts_of d).definition.directives.0; roots = (written_parts_of d).definition.roots }
+written_head d location = record { location = location; description = d.description; directives = (written_parts_of d).definition.directives; roots = (written_parts_of d).definition.roots }
 
 module _ (c : Bool) (d : SchemaDefinition) (location : Option SourceSpan) (types : List (NameView × ExtendedType)) where
   abbrev pub schema_items : List ListItem
@@ -53,7 +53,7 @@ module _ (c : Bool) (d : SchemaDefinition) (location : Option SourceSpan) (types
   abbrev pub head_items : List ListItem
   head_items = cond (is_written types d) (SchemaDefined (written_head d location) ∷ []) []
 
-  abbrev pub schema_extension_items : List (ExtensionId × DefinitionParts) → List ListItem
+  abbrev pub schema_extension_items : List (ExtensionId × Parts) → List ListItem
   schema_extension_items es = map (λ e. SchemaExtended (schema_extension_of e)) es
 
   pub schema-listed : schema_items ≡ head_items ++ schema_extension_items (written_parts_of d).extensions
@@ -64,14 +64,14 @@ module _ (c : Bool) (d : SchemaDefinition) (location : Option SourceSpan) (types
       head : (b : Bool) → document_items c (cond b (schema_definition d.description (written_parts_of d).definition location ∷ []) []) ≡ cond b (SchemaDefined (written_head d location) ∷ []) []
       head b = grind arith
 
-      later : (es : List (ExtensionId × DefinitionParts)) → document_items c (map (λ e. schema_extension e.1 (extension_location e.0)) es) ≡ schema_extension_items es
+      later : (es : List (ExtensionId × Parts)) → document_items c (map (λ e. schema_extension e.1 (extension_location e.0)) es) ≡ schema_extension_items es
       later es = simp map-map
 
   -- they are all about the schema
   each-schema : AllByRecursion IsOfSchema schema_items
   each-schema = subst (AllByRecursion IsOfSchema) (sym schema-listed) (by (is_written types d))
     where
-      exts : (es : List (ExtensionId × DefinitionParts)) → AllByRecursion IsOfSchema (schema_extension_items es)
+      exts : (es : List (ExtensionId × Parts)) → AllByRecursion IsOfSchema (schema_extension_items es)
       exts = each-made IsOfSchema (λ e. SchemaExtended (schema_extension_of e)) (λ e. (refl, refl, (refl, refl)))
 
       by : (b : Bool) → AllByRecursion IsOfSchema (cond b (SchemaDefined (written_head d location) ∷ []) [] ++ schema_extension_items (written_parts_of d).extensions)
@@ -117,7 +117,7 @@ module _ (c : Bool) (d : SchemaDefinition) (location : Option SourceSpan) (types
       about-parts NoSubject [] (directive_items ds) (filter-fails IsOfSchema (is_about NoSubject) (λ x h. h.1) (schema_items c d location types) (each-schema c d location types))
       (filter-all (is_about NoSubject) (directive_items ds) (each-weaken IsElse (λ x. is_about NoSubject x ≡ true) (λ x h. h.1) (directive_items ds) (each-directive ds))) (filter-fails (IsOfType c) (is_about NoSubject) (λ x h. h.1) (flat_map (held_items c) ts) (each-type c ts))
 
-  exts-all : (es : List (ExtensionId × DefinitionParts)) → filter_map extended_schema (schema_extension_items c d location types es) ≡ map schema_extension_of es
+  exts-all : (es : List (ExtensionId × Parts)) → filter_map extended_schema (schema_extension_items c d location types es) ≡ map schema_extension_of es
   exts-all es = ap (filter_map extended_schema) (sym (map-map SchemaExtended schema_extension_of es)) ∙ filter_map-made extended_schema SchemaExtended (λ s. refl) (map schema_extension_of es)
 
   pub list-first_schema : first_schema written_list ≡ cond (is_written types d) (Some (written_head d location)) None

@@ -1,9 +1,9 @@
 -- The parts that are written out have all components of the sections, and the directives in order.
 use Rattle.apollo_schema_laws.proofs.Words.Lists.{map-id, ◌≡◌, Bool, true, false, List, [], ◌∷◌, ◌++◌, map, filter, refl, sym, ap, subst, ◌∙◌, true≢false, arith, or_right, not-true, flat_map-map, IsPermutation-map, map-map, IsEquivalence, AllByRecursion, IsDistinct, cons_option, flat_map, list_any, IsPermutation, each-weaken, each-filter, flat_map-each, append-nil, flat_map-append, map-flat_map, list_any-map}
-use Rattle.apollo_schema_laws.proofs.Words.Syntax.{DefinitionPart, DefinitionParts, NodeView, Directive}
+use Rattle.apollo_schema_laws.proofs.Words.Syntax.{Part, Parts, NodeView, Directive}
 use Rattle.apollo_schema_laws.proofs.Words.Types.{id_of, same_id, same_origin, SourcedPart, origins_in, identities, of_origin, of_extensions, ComponentOrigin, Definition, Extension, ExtensionId, PartsByOrigin, list_any-first_of_each, first_of_each-distinct, first_of_each}
 use Rattle.apollo_schema_laws.proofs.Words.Written.{Sections, HasSameComponents, as_parts, in_sections, with_origins, joined, sections_of}
-use Rattle.graphql_ast.specs.declared.definition_parts.DefinitionPart.TheVariants as parts
+use Rattle.graphql_ast.specs.declared.parts.Part.TheVariants as parts
 use Rattle.apollo_schema_laws.proofs.Lists.{each-from_map, each-made, keys-distinct, each-split, groups, passes, new_to_these, first_of_each-append, marked, first-shown, flat_map-nothing}
 use Rattle.apollo_schema_laws.proofs.Sections.SectionLemmas.{same_id-equiv, ids_in, picked, of_origin-sections, ids_in-sections, of-alone, definition-alone, each-alone, extension-alone, shown-joined, marks, has_some, has_some-picked}
 
@@ -39,7 +39,7 @@ unfolding IsDistinct
 distinct-with_definition ids d = (each-made (λ o. same_origin Definition o ≡ false) (λ k. Extension k) (λ k. refl) ids, keys-distinct same_origin (λ k. Extension k) ids d)
 
 -- what parts have of one sort, without origins
-pub joined-values : {A : Type 0} (sort : DefinitionParts → List A) (gs : List (ComponentOrigin × DefinitionParts)) → map (λ x. x.1) (joined sort gs) ≡ flat_map (λ g. sort g.1) gs
+pub joined-values : {A : Type 0} (sort : Parts → List A) (gs : List (ComponentOrigin × Parts)) → map (λ x. x.1) (joined sort gs) ≡ flat_map (λ g. sort g.1) gs
 joined-values {A} sort gs = map-flat_map (λ x. x.1) (λ g. map (λ x. (g.0, x)) (sort g.1)) gs ∙ (λ i. flat_map (λ g. (map-map (λ (x : ComponentOrigin × A). x.1) (λ x. (g.0, x)) (sort g.1) ∙ map-id (sort g.1)) i) gs)
 
 module _ (s : Sections) (p : PartsByOrigin) (same_definition : p.definition ≡ of_origin Definition (in_sections s)) (same_parts : map (λ e. e.1) p.extensions ≡ map (λ e. e.1) (of_extensions (in_sections s))) where
@@ -63,18 +63,18 @@ module _ (s : Sections) (p : PartsByOrigin) (same_definition : p.definition ≡ 
   origins-split xs ys a = each-split (λ x. list_any (λ a. same_origin a x.0) origins ≡ true) xs ys a
 
   -- the written parts have of one sort what is picked of each origin
-  pub written-values : {A : Type 0} (sort : DefinitionParts → List A) (xs : List (ComponentOrigin × A)) → ((o : ComponentOrigin) → sort (of_origin o (in_sections s)) ≡ picked o xs)
+  pub written-values : {A : Type 0} (sort : Parts → List A) (xs : List (ComponentOrigin × A)) → ((o : ComponentOrigin) → sort (of_origin o (in_sections s)) ≡ picked o xs)
       → map (λ x. x.1) (joined sort (with_origins p)) ≡ picked Definition xs ++ flat_map (λ e. picked (Extension e) xs) ids
   written-values sort xs is =
       joined-values sort (with_origins p)
-      ∙ (λ i. (ap sort same_definition ∙ is Definition) i ++ (flat_map-map (λ (g : ComponentOrigin × DefinitionParts). sort g.1) (λ e. (Extension e.0, e.1)) p.extensions
-      ∙ sym (flat_map-map sort (λ (e : ExtensionId × DefinitionParts). e.1) p.extensions) ∙ ap (flat_map sort) same_parts
-      ∙ ap (flat_map sort) (map-map (λ (e : ExtensionId × DefinitionParts). e.1) (λ e. (e, of_origin (Extension e) (in_sections s))) ids)
+      ∙ (λ i. (ap sort same_definition ∙ is Definition) i ++ (flat_map-map (λ (g : ComponentOrigin × Parts). sort g.1) (λ e. (Extension e.0, e.1)) p.extensions
+      ∙ sym (flat_map-map sort (λ (e : ExtensionId × Parts). e.1) p.extensions) ∙ ap (flat_map sort) same_parts
+      ∙ ap (flat_map sort) (map-map (λ (e : ExtensionId × Parts). e.1) (λ e. (e, of_origin (Extension e) (in_sections s))) ids)
       ∙ flat_map-map sort (λ e. of_origin (Extension e) (in_sections s)) ids) i)
       ∙ (λ i. picked Definition xs ++ flat_map (λ e. is (Extension e) i) ids)
 
   -- the components of one sort are those of the written parts
-  pub kept : {A : Type 0} (sort : DefinitionParts → List A) (xs : List (ComponentOrigin × A)) → ((o : ComponentOrigin) → sort (of_origin o (in_sections s)) ≡ picked o xs) → HasOrigins xs
+  pub kept : {A : Type 0} (sort : Parts → List A) (xs : List (ComponentOrigin × A)) → ((o : ComponentOrigin) → sort (of_origin o (in_sections s)) ≡ picked o xs) → HasOrigins xs
       → IsPermutation (map (λ x. x.1) xs) (map (λ x. x.1) (joined sort (with_origins p)))
   kept sort xs is there =
       subst (λ l. IsPermutation (map (λ x. x.1) xs) l) (map-flat_map (λ x. x.1) (λ o. filter (λ x. same_origin o x.0) xs) origins ∙ ap (λ l. picked Definition xs ++ l) (flat_map-map (λ o. picked o xs) (λ e. Extension e) ids) ∙ sym (written-values sort xs is))
@@ -83,7 +83,7 @@ module _ (s : Sections) (p : PartsByOrigin) (same_definition : p.definition ≡ 
   abbrev Among : SourcedPart → Type 0
   Among c = list_any (λ a. same_origin a c.0) origins ≡ true
 
-  section : {A : Type 0} (part : A → DefinitionPart) (xs : List (ComponentOrigin × A)) → AllByRecursion Among (as_parts part xs) → HasOrigins xs
+  section : {A : Type 0} (part : A → Part) (xs : List (ComponentOrigin × A)) → AllByRecursion Among (as_parts part xs) → HasOrigins xs
   section part xs there = each-from_map (λ c. list_any (λ a. same_origin a c.0) origins ≡ true) (λ x. (x.0, part x.1)) xs there
 
   all_there : AllByRecursion Among (in_sections s)
@@ -105,7 +105,7 @@ module _ (s : Sections) (p : PartsByOrigin) (same_definition : p.definition ≡ 
 
   pub written-keeps : HasSameComponents s (sections_of p)
   written-keeps = record {
-    directives = kept (λ d. d.directives.0) s.directives (λ o. ap (λ d. d.directives.0) (of_origin-sections o s)) sections-there.0;
+    directives = kept (λ d. d.directives) s.directives (λ o. ap (λ d. d.directives) (of_origin-sections o s)) sections-there.0;
     names = kept (λ d. d.names) s.names (λ o. ap (λ d. d.names) (of_origin-sections o s)) sections-there.1;
     fields = kept (λ d. d.fields) s.fields (λ o. ap (λ d. d.fields) (of_origin-sections o s)) sections-there.2;
     values = kept (λ d. d.values) s.values (λ o. ap (λ d. d.values) (of_origin-sections o s)) sections-there.3;
@@ -123,14 +123,14 @@ has_none [] h = refl
 has_none (x ∷ xs) h = absurd (true≢false h)
 
 -- the directives of parts
-abbrev of_parts : DefinitionParts → List (NodeView Directive)
-of_parts d = d.directives.0
+abbrev of_parts : Parts → List (NodeView Directive)
+of_parts d = d.directives
 
 module _ (q : PartsByOrigin) (distinct : IsDistinct same_id (map (λ e. e.0) q.extensions)) where
   abbrev directives : List (ComponentOrigin × NodeView Directive)
   directives = joined of_parts (with_origins q)
 
-  abbrev has_directives : ExtensionId × DefinitionParts → Bool
+  abbrev has_directives : ExtensionId × Parts → Bool
   has_directives = marked (λ e. marks (of_parts e.1))
 
   -- extensions with directives come first, in order
@@ -147,7 +147,7 @@ module _ (q : PartsByOrigin) (distinct : IsDistinct same_id (map (λ e. e.0) q.e
   -- those with directives have all of them
   of_first : flat_map (λ e. picked (Extension e) directives) (map (λ e. e.0) (filter has_directives q.extensions)) ≡ flat_map (λ g. of_parts g.1) q.extensions
   of_first =
-      flat_map-map (λ e. picked (Extension e) directives) (λ (e : ExtensionId × DefinitionParts). e.0) (filter has_directives q.extensions)
+      flat_map-map (λ e. picked (Extension e) directives) (λ (e : ExtensionId × Parts). e.0) (filter has_directives q.extensions)
       ∙ flat_map-each (λ g. (picked (Extension g.0) directives ≡ of_parts g.1) × (has_directives g ≡ true)) (λ g. picked (Extension g.0) directives) (λ g. of_parts g.1) (λ g h. h.0) (filter has_directives q.extensions)
       (each-filter (λ g. picked (Extension g.0) directives ≡ of_parts g.1) has_directives q.extensions of_each)
       ∙ flat_map-filter (λ g. of_parts g.1) has_directives (λ g none. has_none (of_parts g.1) none) q.extensions

@@ -1,9 +1,10 @@
 -- Components in sections: their identities, what is of one origin, and what parts make again.
 use Rattle.apollo_schema_laws.proofs.Words.Lists.{◌≡◌, Bool, true, false, cond, not, List, [], ◌∷◌, ◌++◌, Option, map, filter, refl, sym, ap, ◌∙◌, arith, map-append, append-nil, map-id, filter-append, filter_map-append, map-map, IsEquivalence, on_equiv, nat_eq_equiv, AllByRecursion, IsDistinct, filter_map, flat_map, list_any, each-weaken, filter-map, filter-fails}
-use Rattle.apollo_schema_laws.proofs.Words.Syntax.{as_directive, as_name, as_field, as_value, as_input_field, as_root, DefinitionPart, DefinitionParts}
+use Rattle.apollo_schema_laws.proofs.Words.Syntax.{Part, Parts}
 use Rattle.apollo_schema_laws.proofs.Words.Types.{id_of, number_of, same_id, same_origin, first_of_each, SourcedPart, origins_in, identities, of_origin, of_extensions, by_origin, ComponentOrigin, Definition, Extension, ExtensionId, PartsByOrigin}
 use Rattle.apollo_schema_laws.proofs.Words.Written.{Sections, as_parts, in_sections, with_origins, joined, sections_of}
-use Rattle.graphql_ast.specs.declared.definition_parts.DefinitionPart.TheVariants as parts
+use Rattle.graphql_ast.specs.Parts.{Directives, Names, Fields, Values, InputFields, Roots, of_sort}
+use Rattle.graphql_ast.specs.declared.parts.Part.TheVariants as parts
 use Rattle.apollo_schema_laws.proofs.Lists.{in_order, is_nothing, in_order-map, first-in_order, filter_map-none, filter_map-some, map-each, each-made, own-group, marked, shown, first-shown_again}
 
 pub same_id-equiv : IsEquivalence same_id
@@ -32,13 +33,13 @@ module _ (origin : ComponentOrigin) where
   picked-append xs ys = ap (map (λ x. x.1)) (filter-append (λ x. same_origin origin x.0) xs ys) ∙ map-append (λ x. x.1) (filter (λ x. same_origin origin x.0) xs) (filter (λ x. same_origin origin x.0) ys)
 
   -- what a choice takes of parts of one sort, and of parts of several
-  found-in : {A B : Type 0} (part : A → DefinitionPart) (which : DefinitionPart → Option B) (xs : List (ComponentOrigin × A)) → filter_map which (picked (as_parts part xs)) ≡ filter_map (λ a. which (part a)) (picked xs)
+  found-in : {A B : Type 0} (part : A → Part) (which : Part → Option B) (xs : List (ComponentOrigin × A)) → filter_map which (picked (as_parts part xs)) ≡ filter_map (λ a. which (part a)) (picked xs)
   found-in part which [] = refl
   found-in part which (x ∷ xs) = grind (arith, found-in part which xs)
 
   module _ (s : Sections) where
     -- a choice that takes one sort finds that section
-    found : {A : Type 0} (which : DefinitionPart → Option A) (l : List A)
+    found : {A : Type 0} (which : Part → Option A) (l : List A)
         → filter_map (λ a. which (parts.Directive a)) (picked s.directives) ++ (filter_map (λ a. which (parts.Name a)) (picked s.names) ++ (filter_map (λ a. which (parts.Field a)) (picked s.fields)
         ++ (filter_map (λ a. which (parts.EnumValue a)) (picked s.values) ++ (filter_map (λ a. which (parts.InputField a)) (picked s.input_fields) ++ (filter_map (λ a. which (parts.Root a)) (picked s.roots) ++ []))))) ≡ l
         → filter_map which (picked (in_sections s)) ≡ l
@@ -54,9 +55,9 @@ module _ (origin : ComponentOrigin) where
     ) e
 
     -- what is of one origin, sort by sort
-    abbrev pub parts_in : DefinitionParts
+    abbrev pub parts_in : Parts
     parts_in = record {
-      directives = record { 0 = picked s.directives };
+      directives = picked s.directives;
       names = picked s.names;
       fields = picked s.fields;
       values = picked s.values;
@@ -66,12 +67,12 @@ module _ (origin : ComponentOrigin) where
 
     pub of_origin-sections : of_origin origin (in_sections s) ≡ parts_in
     of_origin-sections = (λ i. record {
-      directives = record { 0 = found as_directive (picked s.directives) (simp (filter_map-some, filter_map-none, append-nil)) i };
-      names = found as_name (picked s.names) (simp (filter_map-some, filter_map-none, append-nil)) i;
-      fields = found as_field (picked s.fields) (simp (filter_map-some, filter_map-none, append-nil)) i;
-      values = found as_value (picked s.values) (simp (filter_map-some, filter_map-none, append-nil)) i;
-      input_fields = found as_input_field (picked s.input_fields) (simp (filter_map-some, filter_map-none, append-nil)) i;
-      roots = found as_root (picked s.roots) (simp (filter_map-some, filter_map-none, append-nil)) i;
+      directives = found (of_sort Directives) (picked s.directives) (simp (filter_map-some, filter_map-none, append-nil)) i;
+      names = found (of_sort Names) (picked s.names) (simp (filter_map-some, filter_map-none, append-nil)) i;
+      fields = found (of_sort Fields) (picked s.fields) (simp (filter_map-some, filter_map-none, append-nil)) i;
+      values = found (of_sort Values) (picked s.values) (simp (filter_map-some, filter_map-none, append-nil)) i;
+      input_fields = found (of_sort InputFields) (picked s.input_fields) (simp (filter_map-some, filter_map-none, append-nil)) i;
+      roots = found (of_sort Roots) (picked s.roots) (simp (filter_map-some, filter_map-none, append-nil)) i;
     })
 
   -- of joined parts
@@ -79,17 +80,17 @@ module _ (origin : ComponentOrigin) where
   picked-of o [] = grind arith
   picked-of o (x ∷ xs) = grind (arith, picked-of o xs)
 
-  pub picked-joined : {A : Type 0} (sort : DefinitionParts → List A) (gs : List (ComponentOrigin × DefinitionParts)) → picked (joined sort gs) ≡ flat_map (λ g. sort g.1) (filter (λ g. same_origin origin g.0) gs)
+  pub picked-joined : {A : Type 0} (sort : Parts → List A) (gs : List (ComponentOrigin × Parts)) → picked (joined sort gs) ≡ flat_map (λ g. sort g.1) (filter (λ g. same_origin origin g.0) gs)
   picked-joined sort [] = refl
   picked-joined sort (g ∷ gs) = grind (arith, picked-append (map (λ x. (g.0, x)) (sort g.1)) (joined sort gs), picked-of g.0 (sort g.1), picked-joined sort gs)
 
   -- where one group alone is of the origin
-  pub of-alone : {A : Type 0} (sort : DefinitionParts → List A) (gs : List (ComponentOrigin × DefinitionParts)) (g : ComponentOrigin × DefinitionParts) → filter (λ g. same_origin origin g.0) gs ≡ g ∷ [] → picked (joined sort gs) ≡ sort g.1
+  pub of-alone : {A : Type 0} (sort : Parts → List A) (gs : List (ComponentOrigin × Parts)) (g : ComponentOrigin × Parts) → filter (λ g. same_origin origin g.0) gs ≡ g ∷ [] → picked (joined sort gs) ≡ sort g.1
   of-alone sort gs g alone = picked-joined sort gs ∙ ap (flat_map (λ g. sort g.1)) alone ∙ append-nil (sort g.1)
 
-  of_origin-again : (p : PartsByOrigin) (g : ComponentOrigin × DefinitionParts) → filter (λ g. same_origin origin g.0) (with_origins p) ≡ g ∷ [] → of_origin origin (in_sections (sections_of p)) ≡ g.1
+  of_origin-again : (p : PartsByOrigin) (g : ComponentOrigin × Parts) → filter (λ g. same_origin origin g.0) (with_origins p) ≡ g ∷ [] → of_origin origin (in_sections (sections_of p)) ≡ g.1
   of_origin-again p g alone = of_origin-sections (sections_of p) ∙ (λ i. record {
-    directives = record { 0 = of-alone (λ d. d.directives.0) (with_origins p) g alone i };
+    directives = of-alone (λ d. d.directives) (with_origins p) g alone i;
     names = of-alone (λ d. d.names) (with_origins p) g alone i;
     fields = of-alone (λ d. d.fields) (with_origins p) g alone i;
     values = of-alone (λ d. d.values) (with_origins p) g alone i;
@@ -110,21 +111,21 @@ has_some-picked id [] = refl
 has_some-picked id (x ∷ xs) = grind (arith, has_some-picked id xs)
 
 -- the parts of extensions are written in the order in which these tests take them, where what they see is which of the identities there are
-pub written-in_order : (cs : List SourcedPart) (tests : List (DefinitionParts → Bool)) (lists : List (List ExtensionId)) → ids_in cs ≡ flat_map (λ ids. ids) lists
+pub written-in_order : (cs : List SourcedPart) (tests : List (Parts → Bool)) (lists : List (List ExtensionId)) → ids_in cs ≡ flat_map (λ ids. ids) lists
     → map {B = ExtensionId → Bool} (λ t e. t (of_origin (Extension e) cs)) tests ≡ map (λ ids e. list_any (same_id e) ids) lists → in_order tests (map (λ e. e.1) (of_extensions cs)) ≡ true
 written-in_order cs tests lists listed seen =
-    ap (in_order tests) (map-map (λ (e : ExtensionId × DefinitionParts). e.1) (λ e. (e, of_origin (Extension e) cs)) (identities (origins_in cs)))
+    ap (in_order tests) (map-map (λ (e : ExtensionId × Parts). e.1) (λ e. (e, of_origin (Extension e) cs)) (identities (origins_in cs)))
     ∙ in_order-map (λ e. of_origin (Extension e) cs) tests (identities (origins_in cs))
     ∙ (λ i. in_order (seen i) (first_of_each same_id (listed i)))
     ∙ first-in_order same_id same_id-equiv lists
 
 -- whether parts have some of each sort
-abbrev sorts : List (DefinitionParts → Bool)
-sorts = (λ d. has_some d.directives.0) ∷ (λ d. has_some d.names) ∷ (λ d. has_some d.fields) ∷ (λ d. has_some d.values) ∷ (λ d. has_some d.input_fields) ∷ (λ d. has_some d.roots) ∷ []
+abbrev sorts : List (Parts → Bool)
+sorts = (λ d. has_some d.directives) ∷ (λ d. has_some d.names) ∷ (λ d. has_some d.fields) ∷ (λ d. has_some d.values) ∷ (λ d. has_some d.input_fields) ∷ (λ d. has_some d.roots) ∷ []
 
 sections-in_order : (s : Sections) → in_order sorts (map (λ e. e.1) (of_extensions (in_sections s))) ≡ true
 sections-in_order s =
-    written-in_order (in_sections s) sorts (section_ids s) (ids_in-sections s) (ap (λ (f : ExtensionId → DefinitionParts). map (λ t e. t (f e)) sorts) (λ i e. of_origin-sections (Extension e) s i) ∙ (λ i. seen s.directives i
+    written-in_order (in_sections s) sorts (section_ids s) (ids_in-sections s) (ap (λ (f : ExtensionId → Parts). map (λ t e. t (f e)) sorts) (λ i e. of_origin-sections (Extension e) s i) ∙ (λ i. seen s.directives i
     ∷ seen s.names i ∷ seen s.fields i ∷ seen s.values i ∷ seen s.input_fields i ∷ seen s.roots i ∷ []))
   where
     seen : {A : Type 0} (xs : List (ComponentOrigin × A)) → ◌≡◌ {A = ExtensionId → Bool} (λ e. has_some (picked (Extension e) xs)) (λ e. list_any (same_id e) (ids_in xs))
@@ -134,11 +135,11 @@ sections-in_order s =
 pub definition-alone : (p : PartsByOrigin) → filter (λ g. same_origin Definition g.0) (with_origins p) ≡ (Definition, p.definition) ∷ []
 definition-alone p = ap (λ l. (Definition, p.definition) ∷ l) (filter-fails (λ g. same_origin Definition g.0 ≡ false) (λ g. same_origin Definition g.0) (λ g e. e) (map (λ e. (Extension e.0, e.1)) p.extensions) (each-made (λ g. same_origin Definition g.0 ≡ false) (λ e. (Extension e.0, e.1)) (λ e. refl) p.extensions))
 
-pub extension-alone : (p : PartsByOrigin) (e : ExtensionId × DefinitionParts) → filter (λ h. same_id e.0 h.0) p.extensions ≡ e ∷ [] → filter (λ g. same_origin (Extension e.0) g.0) (with_origins p) ≡ (Extension e.0, e.1) ∷ []
+pub extension-alone : (p : PartsByOrigin) (e : ExtensionId × Parts) → filter (λ h. same_id e.0 h.0) p.extensions ≡ e ∷ [] → filter (λ g. same_origin (Extension e.0) g.0) (with_origins p) ≡ (Extension e.0, e.1) ∷ []
 extension-alone p e alone = filter-map (λ g. same_origin (Extension e.0) g.0) (λ h. (Extension h.0, h.1)) p.extensions ∙ ap (map (λ h. (Extension h.0, h.1))) alone
 
 -- the identities of what parts have of one sort
-pub shown-joined : (p : PartsByOrigin) {A : Type 0} (sort : DefinitionParts → List A) → ids_in (joined sort (with_origins p)) ≡ shown (λ e. e.0) (λ e. marks (sort e.1)) p.extensions
+pub shown-joined : (p : PartsByOrigin) {A : Type 0} (sort : Parts → List A) → ids_in (joined sort (with_origins p)) ≡ shown (λ e. e.0) (λ e. marks (sort e.1)) p.extensions
 shown-joined p {A} sort = ids_in-append (map (λ x. (Definition, x)) (sort p.definition)) (joined sort (map (λ e. (Extension e.0, e.1)) p.extensions)) ∙ (λ i. of_definition (sort p.definition) i ++ of_each p.extensions i)
   where
     of_definition : (xs : List A) → ids_in (map (λ x. (Definition, x)) xs) ≡ []
@@ -149,7 +150,7 @@ shown-joined p {A} sort = ids_in-append (map (λ x. (Definition, x)) (sort p.def
     of_one id [] = refl
     of_one id (x ∷ xs) = ap (λ l. id ∷ l) (of_one id xs)
 
-    of_each : (es : List (ExtensionId × DefinitionParts)) → ids_in (joined sort (map (λ e. (Extension e.0, e.1)) es)) ≡ shown (λ e. e.0) (λ e. marks (sort e.1)) es
+    of_each : (es : List (ExtensionId × Parts)) → ids_in (joined sort (map (λ e. (Extension e.0, e.1)) es)) ≡ shown (λ e. e.0) (λ e. marks (sort e.1)) es
     of_each [] = refl
     of_each (e ∷ es) = ids_in-append (map (λ x. (Extension e.0, x)) (sort e.1)) (joined sort (map (λ e. (Extension e.0, e.1)) es)) ∙ (λ i. of_one e.0 (sort e.1) i ++ of_each es i)
 
@@ -159,14 +160,14 @@ module _ (p : PartsByOrigin) (distinct : IsDistinct same_id (map (λ e. e.0) p.e
   each-alone = own-group same_id same_id-equiv (λ e. e.0) p.extensions distinct
 
   -- parts that stand in the order in which they are written are written again as themselves
-  pub parts-again : (cs : List SourcedPart) (sorts : List (ExtensionId × DefinitionParts → List (Unit {0}))) → ids_in cs ≡ flat_map (λ m. shown (λ e. e.0) m p.extensions) sorts → in_order (map marked sorts) p.extensions ≡ true
+  pub parts-again : (cs : List SourcedPart) (sorts : List (ExtensionId × Parts → List (Unit {0}))) → ids_in cs ≡ flat_map (λ m. shown (λ e. e.0) m p.extensions) sorts → in_order (map marked sorts) p.extensions ≡ true
       → of_origin Definition cs ≡ p.definition → AllByRecursion (λ e. of_origin (Extension e.0) cs ≡ e.1) p.extensions → by_origin cs ≡ p
   parts-again cs sorts listed ordered first each = (λ i. record { definition = first i; extensions = extensions-again i })
     where
       extensions-again : of_extensions cs ≡ p.extensions
       extensions-again =
           ap (map (λ e. (e, of_origin (Extension e) cs))) (ap (first_of_each same_id) listed ∙ first-shown_again same_id same_id-equiv (λ e. e.0) sorts p.extensions distinct ordered)
-          ∙ map-map (λ e. (e, of_origin (Extension e) cs)) (λ (e : ExtensionId × DefinitionParts). e.0) p.extensions
+          ∙ map-map (λ e. (e, of_origin (Extension e) cs)) (λ (e : ExtensionId × Parts). e.0) p.extensions
           ∙ map-each (λ e. (e.0, of_origin (Extension e.0) cs)) (λ e. e) p.extensions (each-weaken (λ e. of_origin (Extension e.0) cs ≡ e.1) (λ e. (e.0, of_origin (Extension e.0) cs) ≡ e) (λ e same. ap (λ d. (e.0, d)) same) p.extensions each)
           ∙ map-id p.extensions
 
@@ -175,11 +176,11 @@ module _ (p : PartsByOrigin) (distinct : IsDistinct same_id (map (λ e. e.0) p.e
       parts-again (in_sections (sections_of p)) all_marks (ids_in-sections (sections_of p) ∙ shown_all) (sym (in_order-map (λ e. e.1) sorts p.extensions) ∙ ordered) (of_origin-again Definition p (Definition, p.definition) (definition-alone p))
       (each-weaken (λ e. filter (λ h. same_id e.0 h.0) p.extensions ≡ e ∷ []) (λ e. of_origin (Extension e.0) (in_sections (sections_of p)) ≡ e.1) (λ e alone. of_origin-again (Extension e.0) p (Extension e.0, e.1) (extension-alone p e alone)) p.extensions each-alone)
     where
-      all_marks : List (ExtensionId × DefinitionParts → List (Unit {0}))
-      all_marks = (λ e. marks e.1.directives.0) ∷ (λ e. marks e.1.names) ∷ (λ e. marks e.1.fields) ∷ (λ e. marks e.1.values) ∷ (λ e. marks e.1.input_fields) ∷ (λ e. marks e.1.roots) ∷ []
+      all_marks : List (ExtensionId × Parts → List (Unit {0}))
+      all_marks = (λ e. marks e.1.directives) ∷ (λ e. marks e.1.names) ∷ (λ e. marks e.1.fields) ∷ (λ e. marks e.1.values) ∷ (λ e. marks e.1.input_fields) ∷ (λ e. marks e.1.roots) ∷ []
 
       shown_all : flat_map (λ ids. ids) (section_ids (sections_of p)) ≡ flat_map (λ m. shown (λ e. e.0) m p.extensions) all_marks
-      shown_all = (λ i. shown-joined p (λ d. d.directives.0) i ++ (shown-joined p (λ d. d.names) i ++ (shown-joined p (λ d. d.fields) i ++ (shown-joined p (λ d. d.values) i ++ (shown-joined p (λ d. d.input_fields) i ++ (shown-joined p (λ d. d.roots) i ++ []))))))
+      shown_all = (λ i. shown-joined p (λ d. d.directives) i ++ (shown-joined p (λ d. d.names) i ++ (shown-joined p (λ d. d.fields) i ++ (shown-joined p (λ d. d.values) i ++ (shown-joined p (λ d. d.input_fields) i ++ (shown-joined p (λ d. d.roots) i ++ []))))))
 
 pub written-parts-again : (s : Sections) (p : PartsByOrigin) → map (λ e. e.1) p.extensions ≡ map (λ e. e.1) (of_extensions (in_sections s)) → IsDistinct same_id (map (λ e. e.0) p.extensions) → by_origin (in_sections (sections_of p)) ≡ p
 written-parts-again s p same_parts distinct = written-again p distinct (ap (in_order sorts) same_parts ∙ sections-in_order s)

@@ -1,6 +1,6 @@
 -- Types by their sections: their write-out, and the names that stand once in them and in what is written of them.
 use Rattle.apollo_schema_laws.proofs.Words.Lists.{◌≡◌, List, [], ◌++◌, Option, map, sym, ap, ◌∙◌, append_assoc, subst, append-nil, map-map, ℕ, ◌∷◌, None, Some, is_some, refl, true≢false, map-id, flat_map, IsPermutation-map, IsDistinct-IsPermutation, AllByRecursion, IsDistinct, IsPermutation, option_map, unwrap_or, each-weaken, flat_map-map, map-append, map-flat_map}
-use Rattle.apollo_schema_laws.proofs.Words.Syntax.{NameView, values_of, SourceSpan, type_extension, DefinitionParts, NodeView, same_text}
+use Rattle.apollo_schema_laws.proofs.Words.Syntax.{NameView, values_of, SourceSpan, type_extension, Parts, NodeView, same_text}
 use Rattle.apollo_schema_laws.proofs.Words.Types.{extension_location, by_origin, written_type, Component, ComponentName, ExtensionId, type_kind, type_name, type_location, type_description, type_components, write_type, ExtendedType, Object, Interface, Union, Enum, InputObject, first_of_each, same_key, ComponentOrigin, each-first, first_of_each-map, name_laws, first_of_each-distinct}
 use Rattle.apollo_schema_laws.proofs.Words.Meaning.{ListItem, Folding, first, TypePart, TypeBody, ScalarBody, ObjectBody, InterfaceBody, UnionBody, EnumBody, InputObjectBody, Sourced, body_fields, body_values, body_input_fields, interfaces_of, members_of, fields_of, field_entry, input_fields_of, input_field_entry, value_entry, distinct_names, distinct_entries, parts, type_of_kind, type_from, type_of}
 use Rattle.apollo_schema_laws.proofs.Words.Written.{HasSameComponents, in_sections, node_with_origin, name_with_origin, type_sections, placed, HasWhatIsWritten, Sections, with_origins, joined, sections_of, HasEachNameOnce}
@@ -17,7 +17,7 @@ components-sections (Interface n) = simp (map-map, append_assoc, append-nil)
 components-sections t = simp (map-map, append-nil)
 
 -- what is made of extensions by their locations and their parts is the same where these are
-pub same-located : {X : Type 0} (make : Option SourceSpan × DefinitionParts → X) (es fs : List (ExtensionId × DefinitionParts)) → placed es ≡ placed fs
+pub same-located : {X : Type 0} (make : Option SourceSpan × Parts → X) (es fs : List (ExtensionId × Parts)) → placed es ≡ placed fs
     → map (λ e. make (extension_location e.0, e.1)) es ≡ map (λ e. make (extension_location e.0, e.1)) fs
 same-located make es fs e = sym (map-map make (λ e. (extension_location e.0, e.1)) es) ∙ ap (map make) e ∙ map-map make (λ e. (extension_location e.0, e.1)) fs
 
@@ -108,14 +108,14 @@ module _ (t : ExtendedType) where
   written_parts = definition_part t ∷ map (extension_of t) (written t).extensions
 
   -- a sort of which no part has anything
-  nothing-in : (of : TypePart → List NameView) → of (definition_part t) ≡ [] → ((e : ExtensionId × DefinitionParts) → of (extension_of t e) ≡ []) → IsDistinct same_text (flat_map of written_parts)
+  nothing-in : (of : TypePart → List NameView) → of (definition_part t) ≡ [] → ((e : ExtensionId × Parts) → of (extension_of t e) ≡ []) → IsDistinct same_text (flat_map of written_parts)
   unfolding IsDistinct
   nothing-in of first each =
       subst (IsDistinct same_text) (sym (λ i. first i ++ (flat_map-map of (extension_of t) (written t).extensions ∙ flat_map-none (λ e. of (extension_of t e)) each (written t).extensions) i)) tt
 
   -- and one of which the parts have what the sections have
-  once-in : {A : Type 0} (name : A → NameView) (sort : DefinitionParts → List A) (of : TypePart → List NameView) → of (definition_part t) ≡ map name (sort (written t).definition)
-      → ((e : ExtensionId × DefinitionParts) → of (extension_of t e) ≡ map name (sort e.1)) → IsDistinct same_text (map (λ x. name x.1) (joined sort (with_origins (written t)))) → IsDistinct same_text (flat_map of written_parts)
+  once-in : {A : Type 0} (name : A → NameView) (sort : Parts → List A) (of : TypePart → List NameView) → of (definition_part t) ≡ map name (sort (written t).definition)
+      → ((e : ExtensionId × Parts) → of (extension_of t e) ≡ map name (sort e.1)) → IsDistinct same_text (map (λ x. name x.1) (joined sort (with_origins (written t)))) → IsDistinct same_text (flat_map of written_parts)
   once-in {A} name sort of first each d = subst (IsDistinct same_text) (sym (whole ∙ sym all)) d
     where
       whole : flat_map of written_parts ≡ map name (sort (written t).definition) ++ flat_map (λ e. map name (sort e.1)) (written t).extensions
@@ -130,7 +130,7 @@ module _ (t : ExtendedType) where
       (written-keeps (type_sections t) (written t) (ap (λ cs. (by_origin cs).definition) (components-sections t)) (ap (λ cs. map (λ e. e.1) (by_origin cs).extensions) (components-sections t))) once
 
   -- by sorts, of which a kind has some
-  names-in : (of : TypePart → List NameView) → of (definition_part t) ≡ (written t).definition.names → ((e : ExtensionId × DefinitionParts) → of (extension_of t e) ≡ e.1.names) → HasEachNameOnce (sections_of (written t)) → IsDistinct same_text (flat_map of written_parts)
+  names-in : (of : TypePart → List NameView) → of (definition_part t) ≡ (written t).definition.names → ((e : ExtensionId × Parts) → of (extension_of t e) ≡ e.1.names) → HasEachNameOnce (sections_of (written t)) → IsDistinct same_text (flat_map of written_parts)
   names-in of first each once = once-in (λ n. n) (λ d. d.names) of (first ∙ sym (map-id (written t).definition.names)) (λ e. each e ∙ sym (map-id e.1.names)) once.names
 
 -- sort by sort

@@ -1,6 +1,6 @@
 -- The type that written parts mean again, under any distinct numbers of the extensions, has what is written of the first.
 use Rattle.apollo_schema_laws.proofs.Words.Lists.{◌≡◌, ℕ, ◌+◌, ◌≤◌, Bool, true, false, cond, ◌==◌, List, [], ◌∷◌, Option, map, filter, length, refl, ap, arith, nat_tests, AllByRecursion, IsDistinct, filter_map, enumerate_from, ◌++◌, flat_map, sym, subst, ◌∙◌, map-map, each-weaken, flat_map-map, map-flat_map}
-use Rattle.apollo_schema_laws.proofs.Words.Syntax.{same, SourceSpan, NodeView, Directive, DefinitionParts, NameView, same_text, values_of}
+use Rattle.apollo_schema_laws.proofs.Words.Syntax.{same, SourceSpan, NodeView, Directive, Parts, NameView, no_parts, same_text, values_of}
 use Rattle.apollo_schema_laws.proofs.Words.Types.{ComponentOrigin, Extension, extension_id, extension_location, same_id, ExtensionId, by_origin, of_origin, identities, origins_in, Component, ComponentName, Definition, PartsByOrigin, type_kind, type_components, ExtendedType, Scalar, Object, Interface, Union, Enum, InputObject}
 use Rattle.apollo_schema_laws.proofs.Words.Meaning.{Folding, OfType, OfSchema, TypePart, SchemaPart, key_of, of_schema, of_type, Sourced, component, component_name, field_entry, value_entry, input_field_entry, body_interfaces, body_members, body_fields, body_values, body_input_fields, sourced_directives, distinct_names, distinct_entries, type_from}
 use Rattle.apollo_schema_laws.proofs.Words.Written.{placed, in_sections, with_origins, joined, sections_of, node_with_origin, name_with_origin, type_sections, HasWhatIsWritten, HasEachNameOnce}
@@ -68,34 +68,34 @@ pairs-are (i ∷ is) [] h = absurd (omega (arith, h))
 pairs-are (i ∷ is) (x ∷ xs) h = let rest = pairs-are is xs (omega (arith, h)) in (ap (λ l. i ∷ l) rest.0, ap (λ l. x ∷ l) rest.1)
 
 -- the directives of a part alone
-abbrev pub directives_alone : List (NodeView Directive) → DefinitionParts
-directives_alone ds = record { directives = record { 0 = ds }; names = []; fields = []; values = []; input_fields = []; roots = [] }
+abbrev pub directives_alone : List (NodeView Directive) → Parts
+directives_alone ds = record no_parts { directives = ds }
 
 -- a part of any kind under its number, where it stands
-abbrev pub numbered_parts : {P : Type 0} → (P → Option SourceSpan) → (P → DefinitionParts) → ℕ × P → ExtensionId × DefinitionParts
+abbrev pub numbered_parts : {P : Type 0} → (P → Option SourceSpan) → (P → Parts) → ℕ × P → ExtensionId × Parts
 numbered_parts location parts e = (extension_id e.0 (location e.1), parts e.1)
 
-pub numbered-distinct : {P : Type 0} (location : P → Option SourceSpan) (parts : P → DefinitionParts) (fs : List (ℕ × P)) → IsDistinct ◌==◌ (map (λ e. e.0) fs)
+pub numbered-distinct : {P : Type 0} (location : P → Option SourceSpan) (parts : P → Parts) (fs : List (ℕ × P)) → IsDistinct ◌==◌ (map (λ e. e.0) fs)
     → IsDistinct same_id (map (λ e. e.0) (map (numbered_parts location parts) fs))
 numbered-distinct {P} location parts fs d =
     let own : ℕ × P → ExtensionId = λ f. (numbered_parts location parts f).0 in
-    subst (IsDistinct same_id) (sym (map-map (λ (e : ExtensionId × DefinitionParts). e.0) (numbered_parts location parts) fs)) (keys-distinct same_id own fs (distinct-by_keys ◌==◌ (λ f. f.0) fs d))
+    subst (IsDistinct same_id) (sym (map-map (λ (e : ExtensionId × Parts). e.0) (numbered_parts location parts) fs)) (keys-distinct same_id own fs (distinct-by_keys ◌==◌ (λ f. f.0) fs d))
 
 -- the parts of extensions, each where it stands, under these numbers
-abbrev pub renumbered : List ℕ → List (ExtensionId × DefinitionParts) → List (ExtensionId × DefinitionParts)
+abbrev pub renumbered : List ℕ → List (ExtensionId × Parts) → List (ExtensionId × Parts)
 renumbered is es = map (numbered_parts (λ e. extension_location e.0) (λ e. e.1)) (paired is es)
 
-module _ (is : List ℕ) (es : List (ExtensionId × DefinitionParts)) (many : length is ≡ length es) where
+module _ (is : List ℕ) (es : List (ExtensionId × Parts)) (many : length is ≡ length es) where
   pub renumbered-placed : placed (renumbered is es) ≡ placed es
   renumbered-placed =
-      map-map (λ (e : ExtensionId × DefinitionParts). (extension_location e.0, e.1)) (numbered_parts (λ e. extension_location e.0) (λ e. e.1)) (paired is es)
-      ∙ sym (map-map (λ (e : ExtensionId × DefinitionParts). (extension_location e.0, e.1)) (λ e. e.1) (paired is es)) ∙ ap placed (pairs-are is es many).1
+      map-map (λ (e : ExtensionId × Parts). (extension_location e.0, e.1)) (numbered_parts (λ e. extension_location e.0) (λ e. e.1)) (paired is es)
+      ∙ sym (map-map (λ (e : ExtensionId × Parts). (extension_location e.0, e.1)) (λ e. e.1) (paired is es)) ∙ ap placed (pairs-are is es many).1
 
   pub renumbered-distinct : IsDistinct ◌==◌ is → IsDistinct same_id (map (λ e. e.0) (renumbered is es))
   renumbered-distinct d = numbered-distinct (λ e. extension_location e.0) (λ e. e.1) (paired is es) (subst (IsDistinct ◌==◌) (sym (pairs-are is es many).0) d)
 
 -- written parts under their numbers are parts of a list under theirs
-pub numbered-written : {P : Type 0} (location : P → Option SourceSpan) (part : Option SourceSpan → DefinitionParts → P) → ((s : Option SourceSpan) (d : DefinitionParts) → location (part s d) ≡ s) → (is : List ℕ) (es : List (ExtensionId × DefinitionParts))
+pub numbered-written : {P : Type 0} (location : P → Option SourceSpan) (part : Option SourceSpan → Parts → P) → ((s : Option SourceSpan) (d : Parts) → location (part s d) ≡ s) → (is : List ℕ) (es : List (ExtensionId × Parts))
     → map {B = ComponentOrigin × P} (λ e. (Extension (extension_id e.0 (location e.1)), e.1)) (paired is (map (λ e. part (extension_location e.0) e.1) es)) ≡ map (λ g. (Extension g.0, part (extension_location g.0) g.1)) (renumbered is es)
 numbered-written location part at [] es = refl
 numbered-written location part at (i ∷ is) [] = refl
@@ -111,16 +111,16 @@ pub shown-made : {P A C : Type 0} (view : C → ComponentOrigin × A) (make : Co
     → map view (flat_map (λ s. map (make s.0) (sort s.1)) ss) ≡ shown_in sort ss
 shown-made view make is sort ss = simp (map-flat_map, map-map) (λ i. flat_map (λ s. map (λ a. is s.0 a i) (sort s.1)) ss)
 
-pub shown-joined : {P G A : Type 0} (of : P → List A) (sort : DefinitionParts → List A) (origin : G → ComponentOrigin) (part : G → P) (parts : G → DefinitionParts) → ((g : G) → of (part g) ≡ sort (parts g)) → (gs : List G)
+pub shown-joined : {P G A : Type 0} (of : P → List A) (sort : Parts → List A) (origin : G → ComponentOrigin) (part : G → P) (parts : G → Parts) → ((g : G) → of (part g) ≡ sort (parts g)) → (gs : List G)
     → shown_in of (map (λ g. (origin g, part g)) gs) ≡ joined sort (map (λ g. (origin g, parts g)) gs)
 shown-joined of sort origin part parts is gs = simp flat_map-map (λ i. flat_map (λ g. map (λ x. (origin g, x)) (is g i)) gs)
 
 -- the directives of a part and of parts with numbers
 pub directives-numbered : {P : Type 0} (location : P → Option SourceSpan) (of : P → List (NodeView Directive)) (head : P) (es : List (ℕ × P))
-    → shown_in of ((Definition, head) ∷ map (λ e. (Extension (extension_id e.0 (location e.1)), e.1)) es) ≡ joined (λ d. d.directives.0) (with_origins (record { definition = directives_alone (of head); extensions = map (numbered_parts location (λ p. directives_alone (of p))) es }))
+    → shown_in of ((Definition, head) ∷ map (λ e. (Extension (extension_id e.0 (location e.1)), e.1)) es) ≡ joined (λ d. d.directives) (with_origins (record { definition = directives_alone (of head); extensions = map (numbered_parts location (λ p. directives_alone (of p))) es }))
 directives-numbered location of head es =
-    ap (λ l. map (λ x. (Definition, x)) (of head) ++ l) (shown-joined of (λ d. d.directives.0) (λ e. Extension (extension_id e.0 (location e.1))) (λ e. e.1) (λ e. directives_alone (of e.1)) (λ e. refl) es
-    ∙ ap (joined (λ d. d.directives.0)) (sym (map-map (λ (e : ExtensionId × DefinitionParts). (Extension e.0, e.1)) (numbered_parts location (λ p. directives_alone (of p))) es)))
+    ap (λ l. map (λ x. (Definition, x)) (of head) ++ l) (shown-joined of (λ d. d.directives) (λ e. Extension (extension_id e.0 (location e.1))) (λ e. e.1) (λ e. directives_alone (of e.1)) (λ e. refl) es
+    ∙ ap (joined (λ d. d.directives)) (sym (map-map (λ (e : ExtensionId × Parts). (Extension e.0, e.1)) (numbered_parts location (λ p. directives_alone (of p))) es)))
 
 -- names that differ are all kept
 names-kept : (cs : List ComponentName) (js : List (ComponentOrigin × NameView)) → map name_with_origin cs ≡ js → IsDistinct same_text (map (λ n. n.1) js) → map name_with_origin (distinct_names cs) ≡ js
@@ -149,7 +149,7 @@ module _ (t : ExtendedType) (is : List ℕ) where
   type_again = type_from (definition_part t) sourced_again
 
   -- a sort of which the type has nothing
-  none-of : {A : Type 0} (sort : DefinitionParts → List A) → ((o : ComponentOrigin) → sort (of_origin o (type_components t)) ≡ []) → [] ≡ joined sort (with_origins parts_again)
+  none-of : {A : Type 0} (sort : Parts → List A) → ((o : ComponentOrigin) → sort (of_origin o (type_components t)) ≡ []) → [] ≡ joined sort (with_origins parts_again)
   none-of {A} sort none = sym (λ i. map (λ x. (Definition, x)) (none Definition i) ++ later is (identities (origins_in (type_components t))) i)
     where
       later : (js : List ℕ) (ids : List ExtensionId) → joined sort (map (λ e. (Extension e.0, e.1)) (renumbered js (map (λ e. (e, of_origin (Extension e) (type_components t))) ids))) ≡ []
@@ -161,14 +161,14 @@ module _ (t : ExtendedType) (is : List ℕ) where
   of_sections : (o : ComponentOrigin) → of_origin o (type_components t) ≡ parts_in o (type_sections t)
   of_sections o = ap (of_origin o) (components-sections t) ∙ of_origin-sections o (type_sections t)
 
-  shown-again : {A : Type 0} (of : TypePart → List A) (sort : DefinitionParts → List A) → of (definition_part t) ≡ sort (written t).definition → ((g : ExtensionId × DefinitionParts) → of (extension_of t g) ≡ sort g.1)
+  shown-again : {A : Type 0} (of : TypePart → List A) (sort : Parts → List A) → of (definition_part t) ≡ sort (written t).definition → ((g : ExtensionId × Parts) → of (extension_of t g) ≡ sort g.1)
       → shown_in of sourced_again ≡ joined sort (with_origins parts_again)
   shown-again of sort first each = (λ i. map (λ x. (Definition, x)) (first i) ++ shown-joined of sort (λ g. Extension g.0) (extension_of t) (λ g. g.1) each parts_again.extensions i)
 
-  directives-again : map node_with_origin (flat_map sourced_directives sourced_again) ≡ joined (λ d. d.directives.0) (with_origins parts_again)
-  directives-again = shown-made node_with_origin component (λ o a. refl) (λ p. p.directives) sourced_again ∙ shown-again (λ p. p.directives) (λ d. d.directives.0) refl (λ g. refl)
+  directives-again : map node_with_origin (flat_map sourced_directives sourced_again) ≡ joined (λ d. d.directives) (with_origins parts_again)
+  directives-again = shown-made node_with_origin component (λ o a. refl) (λ p. p.directives) sourced_again ∙ shown-again (λ p. p.directives) (λ d. d.directives) refl (λ g. refl)
 
-  names-again : (of : TypePart → List NameView) → of (definition_part t) ≡ (written t).definition.names → ((g : ExtensionId × DefinitionParts) → of (extension_of t g) ≡ g.1.names)
+  names-again : (of : TypePart → List NameView) → of (definition_part t) ≡ (written t).definition.names → ((g : ExtensionId × Parts) → of (extension_of t g) ≡ g.1.names)
       → IsDistinct same_text (map (λ n. n.1) (sections_of parts_again).names)
       → map name_with_origin (distinct_names (flat_map (λ s. map (component_name s.0) (of s.1)) sourced_again)) ≡ joined (λ d. d.names) (with_origins parts_again)
   names-again of first each d =
@@ -177,7 +177,7 @@ module _ (t : ExtendedType) (is : List ℕ) where
 
   entries-again : {T : Type 0} (name : NodeView T → NameView) (entry : ComponentOrigin → NodeView T → NameView × Component T) → ((o : ComponentOrigin) (n : NodeView T) → IsNamed name (entry o n))
       → ((o : ComponentOrigin) (n : NodeView T) → node_with_origin (entry o n).1 ≡ (o, n))
-      → (of : TypePart → List (NodeView T)) (sort : DefinitionParts → List (NodeView T)) → of (definition_part t) ≡ sort (written t).definition → ((g : ExtensionId × DefinitionParts) → of (extension_of t g) ≡ sort g.1)
+      → (of : TypePart → List (NodeView T)) (sort : Parts → List (NodeView T)) → of (definition_part t) ≡ sort (written t).definition → ((g : ExtensionId × Parts) → of (extension_of t g) ≡ sort g.1)
       → IsDistinct same_text (map (λ x. name x.1) (joined sort (with_origins parts_again)))
       → map node_with_origin (values_of (distinct_entries (flat_map (λ s. map (entry s.0) (of s.1)) sourced_again))) ≡ joined sort (with_origins parts_again)
   entries-again name entry named is_node of sort first each d =

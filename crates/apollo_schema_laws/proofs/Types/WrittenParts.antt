@@ -1,6 +1,6 @@
 -- What a type is written out as, and types of a table, read as items of a list, and what that says of one name.
 use Rattle.apollo_schema_laws.proofs.Words.Lists.{◌≡◌, Bool, List, [], ◌∷◌, None, Option, map, refl, ℕ, true, false, cond, ◌++◌, filter, flat_map, ap, ◌∙◌, append-nil, map-append, filter-append, AllByRecursion, IsDistinct, list_any, option_map_or, map-map, arith, filter_map-unmade}
-use Rattle.apollo_schema_laws.proofs.Words.Syntax.{NameView, SourceSpan, TypeKind, type_definition, type_extension, DefinitionParts, is_built_in, same, same_text, by_text, HasUniqueKeys, keys_of, values_of, lookup, Definition}
+use Rattle.apollo_schema_laws.proofs.Words.Syntax.{NameView, SourceSpan, TypeKind, type_definition, type_extension, directive_list, Parts, is_built_in, same, same_text, by_text, HasUniqueKeys, keys_of, values_of, lookup, Definition}
 use Rattle.apollo_schema_laws.proofs.Words.Types.{extension_location, by_origin, ExtensionId, PartsByOrigin, type_kind, type_name, type_location, type_description, type_components, write_type, ExtendedType}
 use Rattle.apollo_schema_laws.proofs.Words.Meaning.{Defined, Extended, item_of, added, added_items, ignorable_if, ListItem, added_item, TypePart, TypeBody, ScalarBody, ObjectBody, InterfaceBody, UnionBody, EnumBody, InputObjectBody, body_kind, part_at, write_held_type, TypeNamed, defined_part}
 use Rattle.graphql_nodes.specs.declared.type_kind.TypeKind.TheVariants as kinds
@@ -8,7 +8,7 @@ use Rattle.apollo_schema_laws.proofs.Lists.{new_to_these, each-made, filter-alik
 use Rattle.apollo_schema_laws.proofs.Items.{about, is_about, lookup-past, defined_names, defined_names-append}
 
 -- a body of a kind, of these parts
-abbrev pub body_of : TypeKind → DefinitionParts → TypeBody
+abbrev pub body_of : TypeKind → Parts → TypeBody
 body_of kinds.Scalar d = ScalarBody
 body_of kinds.Object d = ObjectBody d.names d.fields
 body_of kinds.Interface d = InterfaceBody d.names d.fields
@@ -16,17 +16,17 @@ body_of kinds.Union d = UnionBody d.names
 body_of kinds.Enum d = EnumBody d.values
 body_of kinds.InputObject d = InputObjectBody d.input_fields
 
-pub kind-body : (k : TypeKind) (d : DefinitionParts) → body_kind (body_of k d) ≡ k
+pub kind-body : (k : TypeKind) (d : Parts) → body_kind (body_of k d) ≡ k
 kind-body k d = grind arith
 
-abbrev pub part_from : TypeKind → Option SourceSpan → NameView → Option NameView → DefinitionParts → TypePart
-part_from k location name description d = part_at location name description d.directives (body_of k d)
+abbrev pub part_from : TypeKind → Option SourceSpan → NameView → Option NameView → Parts → TypePart
+part_from k location name description d = part_at location name description (directive_list d) (body_of k d)
 
-item-defined : (k : TypeKind) (description : Option NameView) (name : NameView) (d : DefinitionParts) (location : Option SourceSpan)
+item-defined : (k : TypeKind) (description : Option NameView) (name : NameView) (d : Parts) (location : Option SourceSpan)
     → item_of (type_definition k description name d location) ≡ Defined (part_from k location name description d)
 item-defined k description name d location = grind arith
 
-item-extended : (k : TypeKind) (name : NameView) (d : DefinitionParts) (location : Option SourceSpan) → item_of (type_extension k name d location) ≡ Extended (part_from k location name None d)
+item-extended : (k : TypeKind) (name : NameView) (d : Parts) (location : Option SourceSpan) → item_of (type_extension k name d location) ≡ Extended (part_from k location name None d)
 item-extended k name d location = grind arith
 
 module _ (t : ExtendedType) where
@@ -38,10 +38,10 @@ module _ (t : ExtendedType) where
   abbrev pub definition_part : TypePart
   definition_part = part_from (type_kind t) (type_location t) (type_name t) (type_description t) written.definition
 
-  abbrev pub extension_of : ExtensionId × DefinitionParts → TypePart
+  abbrev pub extension_of : ExtensionId × Parts → TypePart
   extension_of e = part_from (type_kind t) (extension_location e.0) (type_name t) None e.1
 
-  pub items-extensions : (b : Bool) (es : List (ExtensionId × DefinitionParts))
+  pub items-extensions : (b : Bool) (es : List (ExtensionId × Parts))
       → added_items (added b (map (λ e. type_extension (type_kind t) (type_name t) e.1 (extension_location e.0)) es)) ≡ map (λ e. Extended (extension_of e)) es
   items-extensions b es = simp map-map (λ i. map (λ e. ignorable_if b (item-extended (type_kind t) (type_name t) e.1 (extension_location e.0) i)) es)
 

@@ -13,10 +13,11 @@ pub use Rattle.graphql_nodes.specs.declared.type_kind.TypeKind.{TypeKind}
 pub use Rattle.graphql_nodes.proofs.Texts.{same-is, same-true, same-refl}
 pub use Rattle.graphql_ast.specs.Bare.{bare_directive}
 pub use Rattle.graphql_ast.specs.BareTypeSystem.{bare_directive_definition, bare_enum_value_definition, bare_field_definition, bare_input_value_definition}
-pub use Rattle.graphql_ast.specs.DefinitionParts.{as_directive, as_field, as_input_field, as_name, as_root, schema_definition, schema_extension, type_definition, type_extension, as_value}
+pub use Rattle.graphql_ast.specs.Declarations.{schema_definition, schema_extension, type_definition, type_extension}
+pub use Rattle.graphql_ast.specs.Parts.{directive_list, no_parts, with_lists}
 pub use Rattle.graphql_ast.specs.declared.definition.Definition.{Definition}
-pub use Rattle.graphql_ast.specs.declared.definition_parts.DefinitionPart.{DefinitionPart}
-pub use Rattle.graphql_ast.specs.declared.definition_parts.DefinitionParts.{DefinitionParts}
+pub use Rattle.graphql_ast.specs.declared.parts.Part.{Part}
+pub use Rattle.graphql_ast.specs.declared.parts.Parts.{Parts}
 pub use Rattle.graphql_ast.specs.declared.directive.Directive.{Directive}
 pub use Rattle.graphql_ast.specs.declared.type_system.DirectiveDefinition.{DirectiveDefinition}
 unfoldable pub use Rattle.apollo_built_in.specs.BuiltInTable.{built_in_definitions}

@@ -1,5 +1,5 @@
 use Rattle.std.proofs.Common.{◌≡◌, ◌++◌, map}
-use Rattle.graphql_ast.specs.DefinitionParts.{type_extension}
+use Rattle.graphql_ast.specs.Declarations.{type_extension}
 use Rattle.apollo_component.specs.Beginnings.{Begins}
 use Rattle.apollo_component.specs.Extensions.{extension_location}
 use Rattle.apollo_component.proofs.extension_parts.write_types_of.Given as goal

@@ -1,5 +1,6 @@
 use Rattle.apollo_meaning.proofs.Prelude.{◌≡◌, None, refl, ap, ◌∙◌, rules, adopted_part, Defined, item_of, kind_of}
-use Rattle.graphql_ast.specs.DefinitionParts.{no_parts, type_definition}
+use Rattle.graphql_ast.specs.Declarations.{type_definition}
+use Rattle.graphql_ast.specs.Parts.{no_parts}
 use Rattle.apollo_folding.specs.Views.{part_seen}
 use Rattle.apollo_folding.specs.declared.views.BodyView.{BodyView}
 use Rattle.apollo_folding.specs.declared.views.BodyView.TheVariants as bodies

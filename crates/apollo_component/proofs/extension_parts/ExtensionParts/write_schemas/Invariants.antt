@@ -1,5 +1,5 @@
 use Rattle.std.proofs.Common.{◌≡◌, ◌++◌, map}
-use Rattle.graphql_ast.specs.DefinitionParts.{schema_extension}
+use Rattle.graphql_ast.specs.Declarations.{schema_extension}
 use Rattle.apollo_component.specs.Extensions.{extension_location}
 use Rattle.apollo_component.proofs.extension_parts.ExtensionParts.write_schemas.Given as goal
 
