@@ -65,12 +65,12 @@ with_document errors document b = record b { standing = standing_with errors doc
 abbrev pub refused : Building → Building
 refused b = record b { standing = Failed }
 
--- a call was refused
+-- a builder stands so after a refusal
 abbrev pub IsFailed : Standing → Type 0
 IsFailed (Open xs files) = ⊥
 IsFailed Failed = Unit {0}
 
--- a call was refused
+-- a call on the builder was refused
 abbrev pub HasFailed : Building → Type 0
 HasFailed b = IsFailed b.standing
 

@@ -114,7 +114,8 @@ impl<'schema> ExecutableDocumentBuilder<'schema> {
         ensures refused { OnErr result (self.new ≡ refused self.old) }
         ensures failed { HasFailed self.old ↔ (result ≡ Err BuilderError.Failed) }
         ensures memory { OnErr result (¬ HasFailed self.old → result ≡ Err BuilderError.Memory) }
-        ensures wants { OnErr result (document.now.definitions ≡ [] → document.now.sources ≡ [] → HasFailed self.old) }
+        ensures wants { OnErr result
+            (document.now.definitions ≡ [] → document.now.sources ≡ [] → HasFailed self.old) }
     {
         let schema = self.schema;
         let State::Open(tables) = &mut self.state else {

@@ -116,12 +116,12 @@ source_completed start adopts (Failed source) = source
 abbrev pub source_after : Building → ExtensionSource
 source_after b = source_completed b.start b.adopts b.standing
 
--- a call was refused
+-- a builder stands so after a refusal
 abbrev pub IsFailed : Standing → Type 0
 IsFailed (Open xs files) = ⊥
 IsFailed (Failed source) = Unit {0}
 
--- a call was refused
+-- a call on the builder was refused
 abbrev pub HasFailed : Building → Type 0
 HasFailed b = IsFailed b.standing
 

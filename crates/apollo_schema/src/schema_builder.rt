@@ -161,7 +161,8 @@ impl SchemaBuilder {
         ensures spent { result ≡ Err BuilderError.ExtensionIds
             → SpendsSoFar (with_document document.now self.old) }
         ensures unspent { OnOk result (¬ SpendsSoFar (with_document document.now self.old)) }
-        ensures wants { OnErr result (document.now.definitions ≡ [] → document.now.sources ≡ [] → HasFailed self.old) }
+        ensures wants { OnErr result
+            (document.now.definitions ≡ [] → document.now.sources ≡ [] → HasFailed self.old) }
     {
         let ignores = self.ignore_builtin_redefinitions;
         let State::Open(tables) = &mut self.state else {
@@ -230,7 +231,8 @@ impl SchemaBuilder {
     }
 
     /// The names that are extended and not defined so far, in order of first extension, each as its first extension has
-    /// it: none is the name of a type that is defined so far, and extensions of types alone wait under each. After a
+    /// it: none is the name of a type that is defined so far, and extensions of types alone wait under each (the law
+    /// [`orphan_names_are_extended_and_not_defined`](crate::laws::orphan_names_are_extended_and_not_defined)). After a
     /// refusal there is none.
     pub fn iter_orphan_extension_types(&self) -> OrphanNames<'_>
         ensures { names_left result ≡ orphan_names (added_items (list_of self.now)) }

@@ -1,5 +1,14 @@
 -- The names under which something waits are those that are extended and not defined.
-use Rattle.apollo_meaning.proofs.Prelude.{◌≡◌, ℕ, ◌==◌, false, cond, List, [], ◌∷◌, ◌++◌, All, length, map, Option, Some, None, filter, refl, sym, ap, subst, ◌∙◌, arith, filter_map, flat_map, AllByRecursion, option_or, option_map_or, lookup, keys_of, nat_tests, filter-append, filter_map-append, NameView, Definition, snoc_ind, TypePart, key_of, ListItem, Defined, Extended, SchemaDefined, SchemaExtended, Other, item_of, extended_part, items_held, same, by_text, first, extensions_of, extended_names, orphans_of, waited_at, waited, same-true, same-is, each-weaken, flat_map-each}
+use Rattle.apollo_meaning.proofs.Prelude.{◌≡◌, ℕ, ◌==◌, false, cond, List, [], ◌∷◌, ◌++◌, All, length}
+use Rattle.apollo_meaning.proofs.Prelude.{map, Option, Some, None, filter, refl, sym, ap, subst, ◌∙◌}
+use Rattle.apollo_meaning.proofs.Prelude.{arith, filter_map, flat_map, AllByRecursion, option_or}
+use Rattle.apollo_meaning.proofs.Prelude.{option_map_or, lookup, keys_of, nat_tests, filter-append}
+use Rattle.apollo_meaning.proofs.Prelude.{filter_map-append, NameView, Definition, snoc_ind, TypePart}
+use Rattle.apollo_meaning.proofs.Prelude.{key_of, ListItem, Defined, Extended, SchemaDefined}
+use Rattle.apollo_meaning.proofs.Prelude.{SchemaExtended, Other, item_of, extended_part, items_held}
+use Rattle.apollo_meaning.proofs.Prelude.{same, by_text, first, extensions_of, extended_names}
+use Rattle.apollo_meaning.proofs.Prelude.{orphans_of, waited_at, waited, same-true, same-is, each-weaken}
+use Rattle.apollo_meaning.proofs.Prelude.{flat_map-each}
 use Rattle.std.proofs.lemmas.List.Elements.{All-from_recursion}
 use Rattle.apollo_schema.specs.declared.tables.Tables.{Tables}
 use Rattle.apollo_schema.specs.Stands.{Stands}
