@@ -6,7 +6,7 @@
 -- definition names a root (`IsUnmarkedAndRooted`). **Sections** are the components of a type sort by
 -- sort; **written** ones are those of the definition and of each extension under which the write-out
 -- puts them.
-use Rattle.std.specs.Prelude.{◌≡◌, ◌≢◌, ℕ, Bool, List, [], filter_map, All}
+use Rattle.std.specs.Prelude.{◌≡◌, ◌≢◌, ℕ, Bool, false, List, [], filter_map, All}
 use Rattle.graphql_nodes.specs.BuiltIn.{is_built_in}
 use Rattle.graphql_ast.specs.Definitions.{definition_location}
 use Rattle.graphql_ast.specs.declared.definition.Definition.{Definition}
