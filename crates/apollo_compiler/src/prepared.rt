@@ -1,8 +1,6 @@
 //! The built-in definitions, made once for several builds.
-ghost use Rattle.std.specs.Prelude.{◌≡◌, ℕ, List, [], true, IfOk, if◌then◌else◌};
-ghost use Rattle.apollo_meaning.specs.Items.ListItems.{Added};
-ghost use Rattle.apollo_schema.specs.BuilderStands.{StandsFor, adopts, ignores, sources_of};
-ghost use Rattle.apollo_compiler.specs.Lists.{schema_list};
+ghost use Rattle.std.specs.Prelude.{◌≡◌, [], true, IfOk, if◌then◌else◌};
+ghost use Rattle.apollo_compiler.specs.Lists.{building_of};
 
 use crate::compile_options::CompileOptions;
 use apollo_schema::schema_builder::SchemaBuilder;
@@ -22,16 +20,14 @@ impl Drop for Prepared {
 }
 
 impl Model for Prepared {
-    ghost use Rattle.std.specs.Prelude.{◌≡◌, [], false};
-    ghost use Rattle.apollo_built_in.specs.BuiltInTable.{built_in_definitions};
-    ghost use Rattle.apollo_meaning.specs.Items.ListItems.{added};
-    ghost use Rattle.apollo_schema.specs.BuilderStands.{StandsFor, adopts, ignores, sources_of};
+    ghost use Rattle.std.specs.Prelude.{◌≡◌};
+    ghost use Rattle.apollo_schema.specs.BuilderStands.{building_from};
 
     ghost Value = { Unit {0} };
 
     ghost view = { λ _. tt };
 
-    ghost invariant = { λ p. StandsFor 0 (added false built_in_definitions) p.bare × (adopts p.bare ≡ false) × (ignores p.bare ≡ false) × (sources_of p.bare ≡ []) };
+    ghost invariant = { λ p. p.bare ≡ building_from 0 };
 }
 
 impl Prepared {
@@ -44,10 +40,7 @@ impl Prepared {
 
     /// A builder with these options, to which nothing was added, and which draws numbers from 0. The error is out of memory.
     pub fn begin(&self, options: CompileOptions) -> Result<SchemaBuilder, AllocError>
-        ensures stands { IfOk result (StandsFor 0 (schema_list options [])) }
-        ensures adopts { IfOk result (λ builder. adopts builder ≡ options.adopt_orphan_extensions) }
-        ensures ignores { IfOk result (λ builder. ignores builder ≡ options.ignore_builtin_redefinitions) }
-        ensures sources { IfOk result (λ builder. sources_of builder ≡ []) }
+        ensures { IfOk result (λ builder. builder ≡ building_of options []) }
     {
         let bare = self.bare.clone()?;
         let builder = with_adoption(bare, options.adopt_orphan_extensions);
@@ -57,10 +50,7 @@ impl Prepared {
 
 /// The builder, with adoption if it had it or `adopt` is set.
 fn with_adoption(builder: SchemaBuilder, adopt: bool) -> SchemaBuilder
-    ensures stands { (start : ℕ) (xs : List Added) → StandsFor start xs builder → StandsFor start xs result }
-    ensures adopts { adopts result ≡ (if adopt then true else adopts builder) }
-    ensures ignores { ignores result ≡ ignores builder }
-    ensures sources { sources_of result ≡ sources_of builder }
+    ensures { result ≡ record builder { adopts = if adopt then true else builder.adopts } }
 {
     if adopt {
         return builder.adopt_orphan_extensions();
@@ -70,10 +60,7 @@ fn with_adoption(builder: SchemaBuilder, adopt: bool) -> SchemaBuilder
 
 /// The builder, which ignores redefinitions of built-in types from now on if it did or `ignore` is set.
 fn with_ignoring(builder: SchemaBuilder, ignore: bool) -> SchemaBuilder
-    ensures stands { (start : ℕ) (xs : List Added) → StandsFor start xs builder → StandsFor start xs result }
-    ensures adopts { adopts result ≡ adopts builder }
-    ensures ignores { ignores result ≡ (if ignore then true else ignores builder) }
-    ensures sources { sources_of result ≡ sources_of builder }
+    ensures { result ≡ record builder { ignores = if ignore then true else builder.ignores } }
 {
     if ignore {
         return builder.ignore_builtin_redefinitions();

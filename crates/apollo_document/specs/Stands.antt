@@ -17,7 +17,8 @@ use Rattle.apollo_document.specs.KeptDefinitions.{root_type_of, kept_anonymous, 
 use Rattle.apollo_document.specs.DocumentFaults.{document_faults}
 use Rattle.apollo_document.specs.declared.tables.Tables.{Tables}
 use Rattle.apollo_document.specs.declared.state.State.{State}
-use Rattle.apollo_document.specs.declared.state.State.TheVariants.{Open, Failed}
+use Rattle.apollo_document.specs.declared.state.State.TheVariants as state
+use Rattle.apollo_document.specs.BuilderStands.{Standing, Open, Failed}
 
 -- an operation with this set
 abbrev pub operation_over : OperationDefinition → SelectionSet → Operation
@@ -78,17 +79,12 @@ pub record Stands (s : Option Schema) (xs : List DocumentItem) (t : Tables) : Ty
 abbrev pub StandsWith : Option Schema → List DocumentItem → Tables → Tables → Type 0
 StandsWith s new before after = (xs : List DocumentItem) → Stands s xs before → Stands s (xs ++ new) after
 
--- no call was refused, and the tables are those of this list
-abbrev pub StateStands : Option Schema → List DocumentItem → State → Type 0
-StateStands s xs (Open tables) = Stands s xs tables
-StateStands s xs Failed = ⊥
+-- what is seen of what a builder holds, and of the list that was added to it
+abbrev pub standing_of : List DocumentItem → State → Standing
+standing_of xs (state.Open tables) = Open xs tables.sources
+standing_of xs state.Failed = Failed
 
--- a call was refused
-abbrev pub StateFailed : State → Type 0
-StateFailed (Open tables) = ⊥
-StateFailed Failed = Unit {0}
-
--- what holds of each builder over this schema: its tables are those of some list; or a call was refused
-abbrev pub HasStood : Option Schema → State → Type 0
-HasStood s (Open tables) = (xs : List DocumentItem) × Stands s xs tables
-HasStood s Failed = Unit {0}
+-- what holds of what a builder holds: its tables are those of what was added; or a call was refused
+abbrev pub HoldsFor : Option Schema → List DocumentItem → State → Type 0
+HoldsFor schema xs (state.Open tables) = Stands schema xs tables
+HoldsFor schema xs state.Failed = Unit {0}

@@ -1,12 +1,9 @@
 //! The builder of executable documents: documents of syntax go in, in any number, and a typed document comes out. GraphQL
 //! specification of October 2021, section 2.
-ghost use Rattle.std.specs.Prelude.{◌≡◌, ◌↔◌, List, [], ◌++◌, Option, Err, OnOk, OnErr, IfOk};
+ghost use Rattle.std.specs.Prelude.{◌≡◌, ◌↔◌, [], Err, OnOk, OnErr, IfOk};
 ghost use Rattle.std.specs.Option.{option_copied};
-ghost use Rattle.graphql_nodes.specs.Sources.{merged};
-ghost use Rattle.apollo_document.specs.AddedDefinitions.{DocumentItem, document_list};
-ghost use Rattle.apollo_document.specs.DocumentFaults.{document_faults};
-ghost use Rattle.apollo_document.specs.Documents.{IsDocumentOf};
-ghost use Rattle.apollo_document.specs.Stands.{HasStood};
+ghost use Rattle.apollo_document.specs.BuilderStands.{HasFailed, IsBuiltOf};
+ghost use Rattle.apollo_document.specs.BuilderStands.{building_over, refused, with_document};
 
 use crate::build_error::Faults;
 use crate::selection_laws::elaborated_sets;
@@ -15,9 +12,11 @@ use crate::tables::Tables;
 use apollo_executable::document::ExecutableDocument;
 use apollo_folding::builder_error::BuilderError;
 use apollo_schema::schema::Schema;
+use graphql_ast::added_list::AddedList;
 use graphql_ast::document::Document;
 use graphql_nodes::collections::hash_keys::HashKeys;
 use std::alloc::{AllocError, Global};
+use std::marker::Model;
 
 /// A builder of an executable document, over a schema or without one: GraphQL specification of October 2021, sections 2.2 to
 /// 2.8. Documents of syntax go in, in any number.
@@ -33,7 +32,7 @@ use std::alloc::{AllocError, Global};
 pub struct ExecutableDocumentBuilder<'schema> {
     schema: Option<&'schema Schema>,
     state: State,
-    ghost standing: { ∥ HasStood (option_copied schema) state ∥₁ },
+    added: AddedList,
 }
 
 impl<'schema> Drop for ExecutableDocumentBuilder<'schema> {
@@ -41,22 +40,42 @@ impl<'schema> Drop for ExecutableDocumentBuilder<'schema> {
         let Self {
             schema: _,
             state: _,
+            added: _,
         } = self;
     }
 }
 
-impl<'schema> ExecutableDocumentBuilder<'schema> {
-    ghost use Rattle.apollo_schema.specs.declared.schema.Schema as schemas;
-    ghost use Rattle.apollo_document.specs.BuilderStands.{StandsFor, HasFailed, sources_of};
+impl<'schema> Model for ExecutableDocumentBuilder<'schema> {
+    ghost use Rattle.std.specs.Option.{option_copied};
+    ghost use Rattle.graphql_nodes.specs.contracts.source.FileId as number;
+    ghost use Rattle.graphql_nodes.specs.contracts.source.SourceFile as file;
+    ghost use Rattle.graphql_ast.specs.contracts.definition.Definition as definition;
+    ghost use Rattle.apollo_schema.specs.contracts.schema.Schema as schemas;
+    ghost use Rattle.apollo_document.specs.BuilderStands.{Building, building_code};
 
+    ghost Value = { Building };
+
+    ghost coded = { building_code schemas.the_row.coded definition.the_row.coded
+        number.the_row.coded file.the_row.coded };
+
+    ghost use Rattle.apollo_document.specs.Stands.{HoldsFor, standing_of};
+
+    ghost view = { λ b. record {
+      schema = option_copied b.schema;
+      standing = standing_of b.added.items b.state;
+    } };
+
+    ghost invariant = { λ b. HoldsFor (option_copied b.schema) b.added.items b.state };
+}
+
+impl<'schema> ExecutableDocumentBuilder<'schema> {
     /// A builder of no definition, over this schema or without one. Without a schema each operation has the default name of its
     /// root type, each name is that of a type, and every selection is typable. It takes no memory.
     ///
     /// The document's tables hash by the keys of the schema, and without one by fixed keys: for documents from strangers without
     /// a schema, take [`with_keys`](ExecutableDocumentBuilder::with_keys).
     pub fn new(alloc: Global, schema: Option<&'schema Schema>) -> ExecutableDocumentBuilder<'schema>
-        ensures stands { StandsFor (option_copied schema.entry) [] result }
-        ensures sources { sources_of result ≡ [] }
+        ensures { result ≡ building_over (option_copied schema.entry) }
     {
         let keys = match schema {
             Some(schema) => schema.types.hash_keys(),
@@ -72,12 +91,12 @@ impl<'schema> ExecutableDocumentBuilder<'schema> {
         schema: Option<&'schema Schema>,
         keys: HashKeys,
     ) -> ExecutableDocumentBuilder<'schema>
-        ensures stands { StandsFor (option_copied schema.entry) [] result }
-        ensures sources { sources_of result ≡ [] }
+        ensures { result ≡ building_over (option_copied schema.entry) }
     {
         ExecutableDocumentBuilder {
             schema,
             state: State::Open(Tables::new(alloc, keys)),
+            added: AddedList::none(),
         }
     }
 
@@ -91,39 +110,44 @@ impl<'schema> ExecutableDocumentBuilder<'schema> {
         document: &Document,
         type_system_definitions_are_errors: bool,
     ) -> Result<(), BuilderError>
-        ensures stands { OnOk result ((s : Option schemas.Schema) (xs : List DocumentItem) → StandsFor s xs self.old → StandsFor s (xs ++ document_list type_system_definitions_are_errors document.now.definitions) self.new) }
-        ensures sources { OnOk result (sources_of self.new ≡ merged (sources_of self.old) document.now.sources) }
-        ensures refused { OnErr result (HasFailed self.new) }
+        ensures added { OnOk result
+            (self.new ≡ with_document type_system_definitions_are_errors document.now self.old) }
+        ensures refused { OnErr result (self.new ≡ refused self.old) }
         ensures failed { HasFailed self.old ↔ (result ≡ Err BuilderError.Failed) }
-        ensures memory { OnErr result ((HasFailed self.old → ⊥) → result ≡ Err BuilderError.Memory) }
-        ensures unchanged { HasFailed self.old → self.new ≡ self.old }
-        ensures wants { OnErr result (document.now.definitions ≡ [] → document.now.sources ≡ [] → HasFailed self.old) }
+        ensures memory { OnErr result (¬ HasFailed self.old → result ≡ Err BuilderError.Memory) }
+        ensures wants { OnErr result
+            (document.now.definitions ≡ [] → document.now.sources ≡ [] → HasFailed self.old) }
     {
         let schema = self.schema;
         let State::Open(tables) = &mut self.state else {
             return Err(BuilderError::Failed);
         };
-        match tables.take_document(schema, document, type_system_definitions_are_errors) {
-            Ok(()) => Ok(()),
-            Err(AllocError) => {
-                self.state = State::Failed;
-                Err(BuilderError::Memory)
-            }
+        if let Err(AllocError) = tables.take_document(
+            schema,
+            document,
+            type_system_definitions_are_errors,
+        ) {
+            self.state = State::Failed;
+            return Err(BuilderError::Memory);
         }
+        self.added = AddedList::with(&self.added, type_system_definitions_are_errors, document);
+        Ok(())
     }
 
     /// The document of what was added, with the merged sources, and what is wrong with it, in the order of the definitions. The
     /// document comes whether anything is wrong or not. It takes no memory: `Failed` comes exactly after a refusal, and no other
     /// error does.
     pub fn build(self) -> Result<(ExecutableDocument, Faults), BuilderError>
-        ensures built { IfOk result (λ built. (schema : Option schemas.Schema) (xs : List DocumentItem) → StandsFor schema xs self.entry → IsDocumentOf schema xs built.0) }
-        ensures faults { IfOk result (λ built. (schema : Option schemas.Schema) (xs : List DocumentItem) → StandsFor schema xs self.entry → built.1.items ≡ document_faults schema xs) }
-        ensures sources { IfOk result (λ built. built.0.sources ≡ sources_of self.entry) }
+        ensures built { IfOk result (λ built. IsBuiltOf self.entry built.0 built.1.items) }
         ensures failed { HasFailed self.entry ↔ (result ≡ Err BuilderError.Failed) }
         ensures refused { OnErr result (HasFailed self.entry) }
     {
         elaborated_sets();
-        let ExecutableDocumentBuilder { schema: _, state } = self;
+        let ExecutableDocumentBuilder {
+            schema: _,
+            state,
+            added: _,
+        } = self;
         match state {
             State::Open(tables) => Ok(tables.into_document()),
             State::Failed => Err(BuilderError::Failed),

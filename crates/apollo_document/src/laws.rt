@@ -3,16 +3,13 @@
 //! Each law is a function that does nothing. A proof cites it by a call, and finds its clauses there.
 ghost use Rattle.std.specs.Prelude.{◌≡◌, ◌⊎◌, Bool, true, List, Option};
 ghost use Rattle.std.specs.List.{AllByRecursion};
-ghost use Rattle.std.specs.Option.{option_copied};
 ghost use Rattle.apollo_executable.specs.Listed.{listed};
 ghost use Rattle.apollo_document.specs.AddedDefinitions.{DocumentItem};
-ghost use Rattle.apollo_document.specs.BuilderStands.{StandsFor, HasFailed};
-ghost use Rattle.apollo_document.specs.declared.document_builder.ExecutableDocumentBuilder as builders;
+ghost use Rattle.apollo_document.specs.BuilderStands.{Building, HasFailed, StandsFor};
 ghost use Rattle.apollo_document.specs.Documents.{IsDocumentOf};
 ghost use Rattle.apollo_document.specs.KeptDefinitions.{is_rooted, kept_anonymous, kept_named};
 ghost use Rattle.apollo_document.specs.WrittenAgain.{AreOneButSources, IsBuiltAgain, ambiguous_again, faults_again};
 
-use crate::document_builder::ExecutableDocumentBuilder;
 use crate::selection_laws::{elaborated_sets, typed_sets};
 use apollo_executable::document::ExecutableDocument;
 use apollo_schema::schema::Schema;
@@ -49,10 +46,12 @@ pub fn kept_operations_are_rooted()
 
 /// A builder that stands for a list has not failed: no call on it was refused.
 pub fn a_builder_that_stands_for_a_list_has_not_failed()
-    ensures { (schema : Option Schema) (xs : List DocumentItem) (builder : builders.ExecutableDocumentBuilder) → StandsFor schema xs builder → ¬ HasFailed builder }
+    ensures { (schema : Option Schema) (xs : List DocumentItem) (builder : Building)
+        → StandsFor schema xs builder → ¬ HasFailed builder }
 {}
 
 /// Every builder stands for some list over its schema, or a call was refused.
-pub fn every_builder_stands_for_a_list_or_has_failed(builder: &ExecutableDocumentBuilder<'_>)
-    ensures { ∥ ((xs : List DocumentItem) × StandsFor (option_copied builder.now.schema) xs builder.now) ⊎ HasFailed builder.now ∥₁ }
+pub fn every_builder_stands_for_a_list_or_has_failed()
+    ensures { (builder : Building)
+        → ((xs : List DocumentItem) × StandsFor builder.schema xs builder) ⊎ HasFailed builder }
 {}

@@ -1,3 +1,4 @@
+pub mod BuilderLemmas
 pub mod BuiltInLemmas
 pub mod CloneLemmas
 pub mod Ends

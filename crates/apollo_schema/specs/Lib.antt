@@ -1,5 +1,4 @@
 pub mod BuildAnswers
-pub mod BuilderHolds
 pub mod BuilderStands
 pub mod Built
 pub mod EqualLookups

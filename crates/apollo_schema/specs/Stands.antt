@@ -5,7 +5,8 @@ use Rattle.graphql_nodes.specs.Tables.{keys_of, lookup}
 use Rattle.apollo_component.specs.Extensions.{next_number, source_at}
 use Rattle.apollo_schema.specs.declared.tables.Tables.{Tables}
 use Rattle.apollo_schema.specs.declared.state.State.{State}
-use Rattle.apollo_schema.specs.declared.state.State.TheVariants.{Open, Failed}
+use Rattle.apollo_schema.specs.declared.state.State.TheVariants as state
+use Rattle.apollo_schema.specs.BuilderStands.{Standing, Open, Failed, with_built_ins}
 use Rattle.apollo_meaning.specs.Items.ListItems.{ListItem, Extended, Added, added_items, items_held}
 use Rattle.apollo_meaning.specs.Items.Parts.{schema_extension_part}
 use Rattle.graphql_nodes.specs.SameText.{by_text}
@@ -58,18 +59,13 @@ pub record Completes (start : ℕ) (adopts : Bool) (xs : List ListItem) (t : Tab
   -- the number after that of the last extension that is folded
   pub next : t.ids ≡ source_at (start + length (folded (completed adopts xs)))
 
--- no call was refused, and the tables are those of this list
-abbrev pub StateStands : ℕ → List ListItem → State → Type 0
-StateStands start xs (Open tables) = Stands start xs tables
-StateStands start xs (Failed source) = ⊥
+-- what is seen of what a builder holds, and of the definitions that were handed in
+abbrev pub standing_of : List Added → State → Standing
+standing_of more (state.Open tables) = Open (with_built_ins more) tables.sources
+standing_of more (state.Failed source) = Failed source
 
--- a call was refused
-abbrev pub StateFailed : State → Type 0
-StateFailed (Open tables) = ⊥
-StateFailed (Failed source) = Unit {0}
-
--- what holds of each builder with this first number: its tables are those of some list; or a call was refused, and the
--- source is not below the first number
-abbrev pub HasStood : ℕ → State → Type 0
-HasStood first (Open tables) = (xs : List Added) × Stands first (added_items xs) tables
-HasStood first (Failed source) = first ≤ next_number source
+-- what holds of what a builder with this first number holds: its tables are those of what was added, the
+-- built-in definitions first; or a call was refused, and the source is not below the first number
+abbrev pub HoldsFor : ℕ → List Added → State → Type 0
+HoldsFor start more (state.Open tables) = Stands start (added_items (with_built_ins more)) tables
+HoldsFor start more (state.Failed source) = start ≤ next_number source

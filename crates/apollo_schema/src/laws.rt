@@ -1,14 +1,15 @@
 //! Laws of the definitions, for those who build on them; and what `==` answers at schemas, at what lookups answer and at
 //! the errors of builders.
-ghost use Rattle.std.specs.Prelude.{◌≡◌, ◌⊎◌, ◌↔◌, ℕ, Bool, List, IsTrue, IsSome};
-ghost use Rattle.apollo_meaning.specs.Items.ListItems.{Added};
-ghost use Rattle.apollo_schema.specs.BuilderStands.{StandsFor, HasFailed, first_number};
+ghost use Rattle.std.specs.Prelude.{◌≡◌, ◌⊎◌, ◌↔◌, ℕ, Bool, List, All, IsTrue, IsSome};
+ghost use Rattle.apollo_meaning.specs.Completion.OrphanNames.{orphan_names};
+ghost use Rattle.apollo_meaning.specs.Items.ListItems.{Added, added_items};
+ghost use Rattle.apollo_schema.specs.BuilderStands.{Building, HasFailed, StandsFor};
 ghost use Rattle.apollo_schema.specs.EqualLookups.{bare_implementers, bare_field_lookup_error};
 ghost use Rattle.apollo_schema.specs.EqualSchemas.{AreEqualSchemas};
 ghost use Rattle.apollo_schema.specs.Implementers.{is_implementer};
 ghost use Rattle.apollo_schema.specs.Lookups.{Types, type_at, interface_node, is_subtype};
 ghost use Rattle.apollo_schema.specs.MeantSchema.{MeansSchema};
-ghost use Rattle.apollo_schema.specs.declared.schema_builder.SchemaBuilder as builders;
+ghost use Rattle.apollo_schema.specs.NamesLeft.{IsOrphanName};
 ghost use Rattle.graphql_nodes.specs.Clones.{IsExact};
 ghost use Rattle.graphql_nodes.specs.Comparing.{ComparesBy, entries_by_text};
 ghost use Rattle.graphql_nodes.specs.NameView.{NameView};
@@ -19,7 +20,6 @@ use crate::build_failure::WithErrors;
 use crate::field_lookup_error::FieldLookupError;
 use crate::implementers::Implementers;
 use crate::schema::Schema;
-use crate::schema_builder::SchemaBuilder;
 use apollo_folding::builder_error::BuilderError;
 use graphql_nodes::collections::table::Table;
 use graphql_nodes::name::Name;
@@ -99,11 +99,19 @@ pub fn every_list_means_a_schema()
 
 /// A builder that stands for a list has not failed: no call on it was refused.
 pub fn a_builder_that_stands_for_a_list_has_not_failed()
-    ensures { (start : ℕ) (xs : List Added) (builder : builders.SchemaBuilder) → StandsFor start xs builder → ¬ HasFailed builder }
+    ensures { (start : ℕ) (xs : List Added) (builder : Building)
+        → StandsFor start xs builder → ¬ HasFailed builder }
 {}
 
 /// Every builder stands for some list, with its extensions numbered from the builder's first number, or a call was
 /// refused.
-pub fn every_builder_stands_for_a_list_or_has_failed(builder: &SchemaBuilder)
-    ensures { ∥ ((xs : List Added) × StandsFor (first_number builder.now) xs builder.now) ⊎ HasFailed builder.now ∥₁ }
+pub fn every_builder_stands_for_a_list_or_has_failed()
+    ensures { (builder : Building)
+        → ((xs : List Added) × StandsFor builder.start xs builder) ⊎ HasFailed builder }
+{}
+
+/// Each name that is extended and not defined is the name of the first extension of it, as that writes it,
+/// and only extensions have it. GraphQL specification of October 2021, section 3.4.3.
+pub fn orphan_names_are_extended_and_not_defined()
+    ensures { (xs : List Added) → All (IsOrphanName (added_items xs)) (orphan_names (added_items xs)) }
 {}

@@ -44,13 +44,11 @@ pub struct Schema {
 impl Schema {
     ghost use Rattle.apollo_types.specs.SchemaRoots.{root_of};
     ghost use Rattle.apollo_schema.specs.SchemaWriteOut.{write_schema};
-    ghost use Rattle.apollo_schema.specs.BuilderStands.{StandsFor, adopts, ignores, sources_of};
+    ghost use Rattle.apollo_schema.specs.BuilderStands.{building_from};
 
     /// A builder of the built-in definitions alone, as [`SchemaBuilder::new`] makes it. The error is out of memory.
     pub fn builder(alloc: Global) -> Result<SchemaBuilder, AllocError>
-        ensures stands { IfOk result (StandsFor 0 (added false built_in_definitions)) }
-        ensures settings { IfOk result (λ builder. (adopts builder ≡ false) × (ignores builder ≡ false)) }
-        ensures sources { IfOk result (λ builder. sources_of builder ≡ []) }
+        ensures { IfOk result (λ builder. builder ≡ building_from 0) }
     {
         SchemaBuilder::new(alloc)
     }

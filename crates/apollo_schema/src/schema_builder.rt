@@ -1,13 +1,15 @@
 //! The schema builder: documents go in, in any number and order of definitions, and a schema comes out. GraphQL specification of
 //! October 2021, section 3.
-ghost use Rattle.std.specs.Prelude.{◌≡◌, false, true, ℕ, ◌+◌, ◌≤◌, List, [], ◌++◌, All, is_some, Err, OnOk, OnErr, IfOk, IfErr, ◌↔◌};
-ghost use Rattle.apollo_component.specs.Extensions.{next_number, source_at};
-ghost use Rattle.apollo_meaning.specs.Items.ListItems.{Added, added};
-ghost use Rattle.apollo_meaning.specs.Schema.Whole.{folds};
-ghost use Rattle.apollo_schema.specs.BuildAnswers.{IfFaults};
-ghost use Rattle.apollo_built_in.specs.BuiltInTable.{built_in_definitions};
-ghost use Rattle.graphql_nodes.specs.Sources.{merged};
-ghost use Rattle.apollo_schema.specs.Stands.{HasStood};
+ghost use Rattle.std.specs.Prelude.{◌≡◌, ◌↔◌, ◌≤◌, [], true, Err, OnOk, OnErr, IfOk, IfErr};
+ghost use Rattle.apollo_component.specs.Extensions.{next_number};
+ghost use Rattle.apollo_meaning.specs.Completion.OrphanNames.{orphan_names};
+ghost use Rattle.apollo_meaning.specs.Items.ListItems.{added_items};
+ghost use Rattle.apollo_schema.specs.BuildAnswers.{HasBuilt, IfFaults, WasRefused};
+ghost use Rattle.apollo_schema.specs.BuilderStands.{HasFailed, SpendsAtBuild, SpendsSoFar};
+ghost use Rattle.apollo_schema.specs.BuilderStands.{building_from, list_of, refused};
+ghost use Rattle.apollo_schema.specs.BuilderStands.{source_after, source_left, with_document};
+ghost use Rattle.apollo_schema.specs.Built.{IsBuiltOf, IsFoundIn};
+ghost use Rattle.apollo_schema.specs.NamesLeft.{names_left};
 
 use crate::build_failure::BuildFailure;
 use crate::orphan_names::OrphanNames;
@@ -16,9 +18,11 @@ use crate::state::State;
 use crate::tables::Tables;
 use apollo_component::extension::ExtensionSource;
 use apollo_folding::builder_error::BuilderError;
+use graphql_ast::added_list::AddedList;
 use graphql_ast::document::Document;
 use graphql_nodes::collections::hash_keys::HashKeys;
 use std::alloc::{AllocError, Global};
+use std::marker::Model;
 
 /// A builder of a schema: GraphQL specification of October 2021, section 3. Documents go in, in any number, and their
 /// definitions and extensions in any order.
@@ -35,7 +39,8 @@ pub struct SchemaBuilder {
     state: State,
     adopt_orphan_extensions: bool,
     ignore_builtin_redefinitions: bool,
-    ghost standing: { ∥ HasStood first_number state ∥₁ },
+    /// What was handed in, behind the built-in definitions.
+    added: AddedList,
 }
 
 impl Drop for SchemaBuilder {
@@ -45,28 +50,40 @@ impl Drop for SchemaBuilder {
             state: _,
             adopt_orphan_extensions: _,
             ignore_builtin_redefinitions: _,
+            added: _,
         } = self;
     }
 }
 
-impl SchemaBuilder {
-    ghost use Rattle.graphql_nodes.specs.Tables.{lookup};
-    ghost use Rattle.apollo_meaning.specs.Items.ListItems.{added_items};
-    ghost use Rattle.graphql_nodes.specs.SameText.{by_text};
-    ghost use Rattle.apollo_meaning.specs.Completion.OrphanNames.{orphan_names};
-    ghost use Rattle.apollo_schema.specs.NamesLeft.{names_left, IsExtendedUnder};
-    ghost use Rattle.apollo_schema.specs.BuilderHolds.{types_held, waiting_held};
-    ghost use Rattle.apollo_schema.specs.BuilderStands.{StandsFor, HasFailed, IsLeftWith, first_number, sources_of, adopts, ignores};
-    ghost use Rattle.apollo_schema.specs.BuildAnswers.{HasBuilt, WasRefused};
-    ghost use Rattle.apollo_schema.specs.Built.{IsMeant, IsFaultless, IsFoundIn};
-    ghost use Rattle.apollo_meaning.specs.Order.SpentIds.{SpendsIds, SpendsIdsSoFar, folds_so_far};
+impl Model for SchemaBuilder {
+    ghost use Rattle.graphql_nodes.specs.contracts.source.FileId as number;
+    ghost use Rattle.graphql_nodes.specs.contracts.source.SourceFile as file;
+    ghost use Rattle.graphql_ast.specs.contracts.definition.Definition as definition;
+    ghost use Rattle.apollo_component.specs.contracts.extension.ExtensionSource as source;
+    ghost use Rattle.apollo_schema.specs.BuilderStands.{Building, building_code};
 
+    ghost Value = { Building };
+
+    ghost coded = { building_code definition.the_row.coded number.the_row.coded
+        file.the_row.coded source.the_row.coded };
+
+    ghost use Rattle.apollo_schema.specs.Stands.{HoldsFor, standing_of};
+
+    ghost view = { λ b. record {
+      start = b.first_number;
+      adopts = b.adopt_orphan_extensions;
+      ignores = b.ignore_builtin_redefinitions;
+      standing = standing_of b.added.items b.state;
+    } };
+
+    ghost invariant = { λ b. HoldsFor b.first_number b.added.items b.state };
+}
+
+impl SchemaBuilder {
     /// A builder of the built-in definitions alone, without sources and without either option, whose first extension has the
     /// number 0. The error is out of memory.
     pub fn new(alloc: Global) -> Result<SchemaBuilder, AllocError>
-        ensures stands { IfOk result (StandsFor 0 (added false built_in_definitions)) }
-        ensures settings { IfOk result (λ builder. (adopts builder ≡ false) × (ignores builder ≡ false)) }
-        ensures sources { IfOk result (λ builder. sources_of builder ≡ []) }
+        ensures { IfOk result (λ builder. builder ≡ building_from 0) }
     {
         SchemaBuilder::with_source(alloc, ExtensionSource::new())
     }
@@ -74,9 +91,7 @@ impl SchemaBuilder {
     /// The same, drawing the numbers of extensions from this source: the first one is the source's next number. The error is out
     /// of memory, and drops the source.
     pub fn with_source(alloc: Global, source: ExtensionSource) -> Result<SchemaBuilder, AllocError>
-        ensures stands { IfOk result (StandsFor (next_number source) (added false built_in_definitions)) }
-        ensures settings { IfOk result (λ builder. (adopts builder ≡ false) × (ignores builder ≡ false)) }
-        ensures sources { IfOk result (λ builder. sources_of builder ≡ []) }
+        ensures { IfOk result (λ builder. builder ≡ building_from (next_number source)) }
     {
         SchemaBuilder::with_source_and_keys(alloc, source, HashKeys::FIXED)
     }
@@ -85,9 +100,7 @@ impl SchemaBuilder {
     /// builder makes hashes by these keys. So do those of the schema, and of what is made of it. What is
     /// built, and in what order, is the same under any keys. The error is out of memory.
     pub fn with_keys(alloc: Global, keys: HashKeys) -> Result<SchemaBuilder, AllocError>
-        ensures stands { IfOk result (StandsFor 0 (added false built_in_definitions)) }
-        ensures settings { IfOk result (λ builder. (adopts builder ≡ false) × (ignores builder ≡ false)) }
-        ensures sources { IfOk result (λ builder. sources_of builder ≡ []) }
+        ensures { IfOk result (λ builder. builder ≡ building_from 0) }
     {
         SchemaBuilder::with_source_and_keys(alloc, ExtensionSource::new(), keys)
     }
@@ -99,9 +112,7 @@ impl SchemaBuilder {
         source: ExtensionSource,
         keys: HashKeys,
     ) -> Result<SchemaBuilder, AllocError>
-        ensures stands { IfOk result (StandsFor (next_number source) (added false built_in_definitions)) }
-        ensures settings { IfOk result (λ builder. (adopts builder ≡ false) × (ignores builder ≡ false)) }
-        ensures sources { IfOk result (λ builder. sources_of builder ≡ []) }
+        ensures { IfOk result (λ builder. builder ≡ building_from (next_number source)) }
     {
         let first_number = source.next_number();
         let tables = Tables::with_built_ins(alloc, keys, source)?;
@@ -110,6 +121,7 @@ impl SchemaBuilder {
             state: State::Open(tables),
             adopt_orphan_extensions: false,
             ignore_builtin_redefinitions: false,
+            added: AddedList::none(),
         })
     }
 
@@ -118,13 +130,7 @@ impl SchemaBuilder {
     /// roots unless an extension names a root (sections 3.3.2 and 3.4.3). All else stays: what was added, the other option, and
     /// whether a call was refused.
     pub fn adopt_orphan_extensions(self) -> SchemaBuilder
-        ensures stands { (start : ℕ) (xs : List Added) → StandsFor start xs self → StandsFor start xs result }
-        ensures adopts { adopts result ≡ true }
-        ensures ignores { ignores result ≡ ignores self }
-        ensures first_number { first_number result ≡ first_number self }
-        ensures sources { sources_of result ≡ sources_of self }
-        ensures failed { HasFailed result ↔ HasFailed self }
-        ensures left { (source : ExtensionSource) → IsLeftWith source self → IsLeftWith source result }
+        ensures { result ≡ record self { adopts = true } }
     {
         let mut builder = self;
         builder.adopt_orphan_extensions = true;
@@ -134,13 +140,7 @@ impl SchemaBuilder {
     /// The builder, which ignores from now on each further definition of a name whose type is built-in: it is dropped without a
     /// fault. All else stays: what was added, the other option, and whether a call was refused.
     pub fn ignore_builtin_redefinitions(self) -> SchemaBuilder
-        ensures stands { (start : ℕ) (xs : List Added) → StandsFor start xs self → StandsFor start xs result }
-        ensures ignores { ignores result ≡ true }
-        ensures adopts { adopts result ≡ adopts self }
-        ensures first_number { first_number result ≡ first_number self }
-        ensures sources { sources_of result ≡ sources_of self }
-        ensures failed { HasFailed result ↔ HasFailed self }
-        ensures left { (source : ExtensionSource) → IsLeftWith source self → IsLeftWith source result }
+        ensures { result ≡ record self { ignores = true } }
     {
         let mut builder = self;
         builder.ignore_builtin_redefinitions = true;
@@ -155,17 +155,14 @@ impl SchemaBuilder {
     /// nothing. A document without definitions and sources meets `Failed` alone. With another error all that was added is
     /// dropped, sources too, and the source of numbers stands where it stood before the call.
     pub fn add_ast(&mut self, document: &Document) -> Result<(), BuilderError>
-        ensures stands { OnOk result ((start : ℕ) (xs : List Added) → StandsFor start xs self.old → StandsFor start (xs ++ added (ignores self.old) document.now.definitions) self.new) }
-        ensures settings { (adopts self.new ≡ adopts self.old) × (ignores self.new ≡ ignores self.old) }
-        ensures first_number { first_number self.new ≡ first_number self.old }
-        ensures sources { OnOk result (sources_of self.new ≡ merged (sources_of self.old) document.now.sources) }
-        ensures refused { OnErr result (HasFailed self.new) }
-        ensures rolled_back { OnErr result ((start : ℕ) (xs : List Added) → StandsFor start xs self.old → IsLeftWith (source_at (start + folds_so_far xs)) self.new) }
+        ensures added { OnOk result (self.new ≡ with_document document.now self.old) }
+        ensures refused { OnErr result (self.new ≡ refused self.old) }
         ensures failed { HasFailed self.old ↔ (result ≡ Err BuilderError.Failed) }
-        ensures unchanged { HasFailed self.old → self.new ≡ self.old }
-        ensures spent { result ≡ Err BuilderError.ExtensionIds → (start : ℕ) (xs : List Added) → StandsFor start xs self.old → SpendsIdsSoFar start (xs ++ added (ignores self.old) document.now.definitions) }
-        ensures unspent { OnOk result ((start : ℕ) (xs : List Added) → StandsFor start xs self.old → ¬ SpendsIdsSoFar start (xs ++ added (ignores self.old) document.now.definitions)) }
-        ensures wants { OnErr result (document.now.definitions ≡ [] → document.now.sources ≡ [] → HasFailed self.old) }
+        ensures spent { result ≡ Err BuilderError.ExtensionIds
+            → SpendsSoFar (with_document document.now self.old) }
+        ensures unspent { OnOk result (¬ SpendsSoFar (with_document document.now self.old)) }
+        ensures wants { OnErr result
+            (document.now.definitions ≡ [] → document.now.sources ≡ [] → HasFailed self.old) }
     {
         let ignores = self.ignore_builtin_redefinitions;
         let State::Open(tables) = &mut self.state else {
@@ -178,6 +175,7 @@ impl SchemaBuilder {
         }
         // The next number is one, so the numbers so far sufficed.
         let _is_a_number = tables.next_number();
+        self.added = AddedList::with(&self.added, ignores, document);
         Ok(())
     }
 
@@ -197,13 +195,11 @@ impl SchemaBuilder {
     /// where the extensions folded pass the largest number, and a schema, with faults or without, only where they don't; `Failed`
     /// comes exactly after a refusal. With these three errors all that was added is dropped.
     pub fn build(self) -> Result<Schema, BuildFailure>
-        ensures built { IfOk result (IsMeant self) }
-        ensures faultless { OnOk result (IsFaultless self) }
+        ensures built { IfOk result (IsBuiltOf self) }
         ensures faults { IfErr result (λ failure. IfFaults failure (IsFoundIn self)) }
-        ensures sources { IfOk result (λ schema. schema.sources ≡ sources_of self) }
         ensures failed { HasFailed self ↔ (result ≡ Err BuildFailure.Failed) }
-        ensures spent { result ≡ Err BuildFailure.ExtensionIds → (start : ℕ) (xs : List Added) → StandsFor start xs self → SpendsIds start (adopts self) xs }
-        ensures unspent { HasBuilt result → (start : ℕ) (xs : List Added) → StandsFor start xs self → ¬ SpendsIds start (adopts self) xs }
+        ensures spent { result ≡ Err BuildFailure.ExtensionIds → SpendsAtBuild self }
+        ensures unspent { HasBuilt result → ¬ SpendsAtBuild self }
     {
         let (built, _source) = self.build_with_source();
         built
@@ -213,23 +209,21 @@ impl SchemaBuilder {
     /// after a schema, or faults, it is at that number plus the extensions that were folded; after `Memory` or
     /// `ExtensionIds` it stands where it stood before the call; with `Failed` it is the one that was left.
     pub fn build_with_source(self) -> (Result<Schema, BuildFailure>, ExtensionSource)
-        ensures built { IfOk result.0 (IsMeant self) }
-        ensures faultless { OnOk result.0 (IsFaultless self) }
+        ensures built { IfOk result.0 (IsBuiltOf self) }
         ensures faults { IfErr result.0 (λ failure. IfFaults failure (IsFoundIn self)) }
-        ensures sources { IfOk result.0 (λ schema. schema.sources ≡ sources_of self) }
         ensures failed { HasFailed self ↔ (result.0 ≡ Err BuildFailure.Failed) }
-        ensures spent { result.0 ≡ Err BuildFailure.ExtensionIds → (start : ℕ) (xs : List Added) → StandsFor start xs self → SpendsIds start (adopts self) xs }
-        ensures unspent { HasBuilt result.0 → (start : ℕ) (xs : List Added) → StandsFor start xs self → ¬ SpendsIds start (adopts self) xs }
-        ensures source { HasBuilt result.0 → (start : ℕ) (xs : List Added) → StandsFor start xs self → result.1 ≡ source_at (start + folds (adopts self) xs) }
-        ensures rolled_back { WasRefused result.0 → (start : ℕ) (xs : List Added) → StandsFor start xs self → result.1 ≡ source_at (start + folds_so_far xs) }
-        ensures left { HasFailed self → IsLeftWith result.1 self }
-        ensures not_below { first_number self ≤ next_number result.1 }
+        ensures spent { result.0 ≡ Err BuildFailure.ExtensionIds → SpendsAtBuild self }
+        ensures unspent { HasBuilt result.0 → ¬ SpendsAtBuild self }
+        ensures source { HasBuilt result.0 → result.1 ≡ source_after self }
+        ensures rolled_back { WasRefused result.0 → result.1 ≡ source_left self.start self.standing }
+        ensures not_below { self.start ≤ next_number result.1 }
     {
         let SchemaBuilder {
             first_number: _,
             state,
             adopt_orphan_extensions,
             ignore_builtin_redefinitions: _,
+            added: _,
         } = self;
         match state {
             State::Open(tables) => tables.finish(adopt_orphan_extensions),
@@ -238,13 +232,11 @@ impl SchemaBuilder {
     }
 
     /// The names that are extended and not defined so far, in order of first extension, each as its first extension has
-    /// it: none is the name of a type that is defined so far, and extensions of types alone wait under each. After a
+    /// it: none is the name of a type that is defined so far, and extensions of types alone wait under each (the law
+    /// [`orphan_names_are_extended_and_not_defined`](crate::laws::orphan_names_are_extended_and_not_defined)). After a
     /// refusal there is none.
     pub fn iter_orphan_extension_types(&self) -> OrphanNames<'_>
-        ensures names { (start : ℕ) (xs : List Added) → StandsFor start xs self.now → names_left result ≡ orphan_names (added_items xs) }
-        ensures undefined { All (λ name. is_some (lookup (by_text name.text) (types_held self.now)) ≡ false) (names_left result) }
-        ensures waits { ∥ All (IsExtendedUnder (waiting_held self.now)) (names_left result) ∥₁ }
-        ensures failed { HasFailed self.now → names_left result ≡ [] }
+        ensures { names_left result ≡ orphan_names (added_items (list_of self.now)) }
     {
         match &self.state {
             State::Open(tables) => tables.orphan_names(),
@@ -259,11 +251,13 @@ impl Clone for SchemaBuilder {
     ghost is_clone = { λ a b. b ≡ a };
 
     fn clone(&self) -> Result<SchemaBuilder, AllocError> {
+        let state = self.state.clone()?;
         Ok(SchemaBuilder {
             first_number: self.first_number,
-            state: self.state.clone()?,
+            state,
             adopt_orphan_extensions: self.adopt_orphan_extensions,
             ignore_builtin_redefinitions: self.ignore_builtin_redefinitions,
+            added: AddedList::same(&self.added),
         })
     }
 }

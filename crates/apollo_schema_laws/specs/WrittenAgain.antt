@@ -6,19 +6,15 @@
 -- definition names a root (`IsUnmarkedAndRooted`). **Sections** are the components of a type sort by
 -- sort; **written** ones are those of the definition and of each extension under which the write-out
 -- puts them.
-use Rattle.std.specs.Prelude.{◌≡◌, ◌≢◌, ℕ, Bool, List, [], ◌++◌, false, filter_map, All}
+use Rattle.std.specs.Prelude.{◌≡◌, ◌≢◌, ℕ, Bool, false, List, [], filter_map, All}
 use Rattle.graphql_nodes.specs.BuiltIn.{is_built_in}
 use Rattle.graphql_ast.specs.Definitions.{definition_location}
 use Rattle.graphql_ast.specs.declared.definition.Definition.{Definition}
-use Rattle.apollo_built_in.specs.BuiltInTable.{built_in_definitions}
 use Rattle.apollo_meaning.specs.Items.ListItems.{Added, added, added_items, defined_schema}
+pub use Rattle.apollo_schema.specs.BuilderStands.{with_built_ins}
 use Rattle.apollo_schema.specs.MeantSchema.{MeansSchema}
 use Rattle.apollo_schema.specs.SchemaWriteOut.{write_schema}
 use Rattle.apollo_schema.specs.declared.schema.Schema.{Schema}
-
--- the built-in definitions, and these after them
-abbrev pub with_built_ins : List Added → List Added
-with_built_ins more = added false built_in_definitions ++ more
 
 -- none of these is marked built-in, and each schema definition among them names a root
 pub record IsUnmarkedAndRooted (more : List Added) : Type 0 where

@@ -7,10 +7,9 @@ ghost use Rattle.apollo_schema_laws.specs.Documents.{Documents, added_each, adde
 ghost use Rattle.apollo_schema_laws.specs.Equal.{AreEqualLists};
 ghost use Rattle.apollo_schema_laws.specs.Rearranged.{AreRearranged};
 ghost use Rattle.apollo_schema_laws.specs.BuiltAlike.{BuildEqualSchemas, BuildFaultlessTogether, BuildSameFaults, MeanEqualSchemas, StandFor};
-ghost use Rattle.apollo_schema.specs.BuilderStands.{StandsFor};
+ghost use Rattle.apollo_schema.specs.BuilderStands.{Building, StandsFor};
 ghost use Rattle.apollo_schema.specs.MeantSchema.{MeansSchema};
 ghost use Rattle.apollo_schema.specs.declared.schema.Schema.{Schema};
-ghost use Rattle.apollo_schema.specs.declared.schema_builder.SchemaBuilder.{SchemaBuilder};
 
 use crate::rearrangement::{
     completed_lists_are_rearranged, equal_lists_mean_equal_definitions,
@@ -29,9 +28,12 @@ use apollo_schema::laws::a_list_means_one_schema;
 pub fn rearranged()
     ensures schemas { (adopts : Bool) (xs ys : List Added) → AreRearranged (added_items xs) (added_items ys) → MeanEqualSchemas adopts xs ys }
     ensures faults { (adopts : Bool) (xs ys : List Added) → AreRearranged (added_items xs) (added_items ys) → IsPermutation (faults_of adopts xs) (faults_of adopts ys) }
-    ensures built { (xs ys : List Added) → AreRearranged (added_items xs) (added_items ys) → (b c : SchemaBuilder) → StandFor xs ys b c → BuildEqualSchemas b c }
-    ensures found { (xs ys : List Added) → AreRearranged (added_items xs) (added_items ys) → (b c : SchemaBuilder) → StandFor xs ys b c → BuildSameFaults b c }
-    ensures faultless { (xs ys : List Added) → AreRearranged (added_items xs) (added_items ys) → (b c : SchemaBuilder) → StandFor xs ys b c → BuildFaultlessTogether b c }
+    ensures built { (xs ys : List Added) → AreRearranged (added_items xs) (added_items ys)
+        → (b c : Building) → StandFor xs ys b c → BuildEqualSchemas b c }
+    ensures found { (xs ys : List Added) → AreRearranged (added_items xs) (added_items ys)
+        → (b c : Building) → StandFor xs ys b c → BuildSameFaults b c }
+    ensures faultless { (xs ys : List Added) → AreRearranged (added_items xs) (added_items ys)
+        → (b c : Building) → StandFor xs ys b c → BuildFaultlessTogether b c }
 {
     completed_lists_are_rearranged();
     rearranged_schema_definitions_are_equal();
@@ -52,7 +54,7 @@ pub fn documents_one_by_one()
         → s ≡ record t { sources = s.sources } }
     ensures faults { (adopts ignores : Bool) (xs : List Added) (documents : Documents)
         → faults_of adopts (xs ++ added_each ignores documents) ≡ faults_of adopts (xs ++ added_joined ignores documents) }
-    ensures stands { (b : SchemaBuilder) (n : ℕ) (ignores : Bool) (xs : List Added) (documents : Documents)
+    ensures stands { (b : Building) (n : ℕ) (ignores : Bool) (xs : List Added) (documents : Documents)
         → StandsFor n (xs ++ added_each ignores documents) b → StandsFor n (xs ++ added_joined ignores documents) b }
 {
     rearranged();
@@ -67,7 +69,8 @@ pub fn documents_one_by_one()
 /// specification of October 2021, section 3.
 pub fn equal_lists()
     ensures schemas { (adopts : Bool) (xs ys : List Added) → AreEqualLists xs ys → MeanEqualSchemas adopts xs ys }
-    ensures built { (xs ys : List Added) → AreEqualLists xs ys → (b c : SchemaBuilder) → StandFor xs ys b c → BuildEqualSchemas b c }
+    ensures built { (xs ys : List Added) → AreEqualLists xs ys
+        → (b c : Building) → StandFor xs ys b c → BuildEqualSchemas b c }
 {
     equal_lists_mean_equal_definitions();
 }

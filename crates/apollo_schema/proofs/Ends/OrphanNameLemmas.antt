@@ -1,10 +1,19 @@
 -- The names under which something waits are those that are extended and not defined.
-use Rattle.apollo_meaning.proofs.Prelude.{◌≡◌, ℕ, ◌==◌, false, cond, List, [], ◌∷◌, ◌++◌, All, length, map, Option, Some, None, filter, refl, sym, ap, subst, ◌∙◌, arith, filter_map, flat_map, AllByRecursion, option_or, option_map, option_map_or, lookup, keys_of, nat_tests, filter-append, filter_map-append, NameView, Definition, snoc_ind, TypePart, key_of, ListItem, Defined, Extended, SchemaDefined, SchemaExtended, Other, item_of, extended_part, items_held, same, by_text, first, extensions_of, type_from, parts, extended_names, orphans_of, folded, waited_at, waited, same-true, same-is, each-weaken, flat_map-each}
+use Rattle.apollo_meaning.proofs.Prelude.{◌≡◌, ℕ, ◌==◌, false, cond, List, [], ◌∷◌, ◌++◌, All, length}
+use Rattle.apollo_meaning.proofs.Prelude.{map, Option, Some, None, filter, refl, sym, ap, subst, ◌∙◌}
+use Rattle.apollo_meaning.proofs.Prelude.{arith, filter_map, flat_map, AllByRecursion, option_or}
+use Rattle.apollo_meaning.proofs.Prelude.{option_map_or, lookup, keys_of, nat_tests, filter-append}
+use Rattle.apollo_meaning.proofs.Prelude.{filter_map-append, NameView, Definition, snoc_ind, TypePart}
+use Rattle.apollo_meaning.proofs.Prelude.{key_of, ListItem, Defined, Extended, SchemaDefined}
+use Rattle.apollo_meaning.proofs.Prelude.{SchemaExtended, Other, item_of, extended_part, items_held}
+use Rattle.apollo_meaning.proofs.Prelude.{same, by_text, first, extensions_of, extended_names}
+use Rattle.apollo_meaning.proofs.Prelude.{orphans_of, waited_at, waited, same-true, same-is, each-weaken}
+use Rattle.apollo_meaning.proofs.Prelude.{flat_map-each}
 use Rattle.std.proofs.lemmas.List.Elements.{All-from_recursion}
 use Rattle.apollo_schema.specs.declared.tables.Tables.{Tables}
 use Rattle.apollo_schema.specs.Stands.{Stands}
 use Rattle.apollo_meaning.specs.Completion.OrphanNames.{first_name, orphan_names}
-use Rattle.apollo_schema.specs.NamesLeft.{name_if_any, names_held, IsExtendedUnder}
+use Rattle.apollo_schema.specs.NamesLeft.{IsOrphanName, name_if_any, names_held}
 use Rattle.apollo_component.proofs.Lists.Each.{each-append}
 use Rattle.apollo_meaning.proofs.Items.ItemLemmas.{first-push_definition, first-push_undefined, extensions_of-push_extension, waited-push}
 use Rattle.apollo_meaning.proofs.Completion.OrphanLemmas.{orphans-waited, held-waited}
@@ -92,34 +101,33 @@ held-names xs W names each =
     ∙ flat_map-each (IsFirst xs) (λ k. name_if_any k (map Extended (orphans_of xs k.text))) (λ k. first_name (orphans_of xs k.text)) (waiting-name xs) (waited xs) (waited-first xs)
     ∙ orphans-waited first_name refl xs
 
--- what holds of the name of each first extension without a definition holds of each of those names
-module _ (xs : List ListItem) (P : NameView → Type 0) (holds : (e : TypePart) (es : List TypePart) → first xs (key_of e) ≡ None → orphans_of xs (key_of e) ≡ e ∷ es → P e.name) where
-  of_text : (n : List ℕ) → AllByRecursion P (first_name (orphans_of xs n))
+-- each of those names has no definition, and is that of its first extension
+module _ (xs : List ListItem) where
+  of_text : (n : List ℕ) → AllByRecursion (IsOrphanName xs) (first_name (orphans_of xs n))
   of_text n = by (orphans_of xs n) refl (first xs n) refl
     where
-      by : (ps : List TypePart) → orphans_of xs n ≡ ps → (o : Option TypePart) → first xs n ≡ o → AllByRecursion P (first_name ps)
+      by : (ps : List TypePart) → orphans_of xs n ≡ ps → (o : Option TypePart) → first xs n ≡ o
+          → AllByRecursion (IsOrphanName xs) (first_name ps)
       by [] e o f = tt
       by (p ∷ ps) e (Some d) f = let g : [] ≡ p ∷ ps = sym (orphans_of-defined xs n d f) ∙ e in absurd (cc)
       by (p ∷ ps) e None f =
-          let own : Own n (p ∷ ps) = subst (Own n) (sym (orphans_of-undefined xs n f) ∙ e) (Own-named n (filter_map extended_part xs)) in
+          let own : Own n (p ∷ ps) =
+          subst (Own n) (sym (orphans_of-undefined xs n f) ∙ e) (Own-named n (filter_map extended_part xs)) in
           let is : n ≡ key_of p = same-true n (key_of p) own.0 in
-          (holds p ps (ap (first xs) (sym is) ∙ f) (ap (orphans_of xs) (sym is) ∙ e), tt)
+          ((ap (first xs) (sym is) ∙ f, (p, ps, ap (orphans_of xs) (sym is) ∙ e, refl)), tt)
 
-  of_texts : (ns : List (List ℕ)) → AllByRecursion P (flat_map (λ n. first_name (orphans_of xs n)) ns)
+  of_texts : (ns : List (List ℕ))
+      → AllByRecursion (IsOrphanName xs) (flat_map (λ n. first_name (orphans_of xs n)) ns)
   of_texts [] = tt
-  of_texts (n ∷ ns) = each-append P (first_name (orphans_of xs n)) (flat_map (λ n. first_name (orphans_of xs n)) ns) (of_text n) (of_texts ns)
+  of_texts (n ∷ ns) =
+      each-append (IsOrphanName xs) (first_name (orphans_of xs n))
+      (flat_map (λ n. first_name (orphans_of xs n)) ns)
+      (of_text n) (of_texts ns)
 
-  orphan_names-each : All P (orphan_names xs)
-  orphan_names-each = All-from_recursion P (orphan_names xs) (of_texts (extended_names xs))
+  pub orphan_names-each : All (IsOrphanName xs) (orphan_names xs)
+  orphan_names-each = All-from_recursion (IsOrphanName xs) (orphan_names xs) (of_texts (extended_names xs))
 
-module _ {start : ℕ} {xs : List ListItem} {t : Tables} (was : Stands start xs t) where
-  pub names_held-Stands : names_held t.waiting ≡ orphan_names xs
-  names_held-Stands = held-names xs t.waiting was.names was.waiting
-
-  -- no such name has a type
-  pub orphan_names-untyped : All (λ name. lookup (by_text name.text) t.types ≡ None) (orphan_names xs)
-  orphan_names-untyped = orphan_names-each xs (λ name. lookup (by_text name.text) t.types ≡ None) (λ e es none waits. was.types.each (key_of e) ∙ ap (option_map (λ d. type_from d (parts start (folded xs) (key_of e) d))) none)
-
-  -- and under each an extension of it waits, and further extensions alone
-  pub orphan_names-extended : All (IsExtendedUnder t.waiting) (orphan_names xs)
-  orphan_names-extended = orphan_names-each xs (IsExtendedUnder t.waiting) (λ e es none waits. (e, es, was.waiting (key_of e) ∙ ap (map Extended) waits, refl))
+-- the names under which tables of a list hold something are those that are extended and not defined
+pub names_held-Stands : {start : ℕ} {xs : List ListItem} {t : Tables} → Stands start xs t
+    → names_held t.waiting ≡ orphan_names xs
+names_held-Stands {xs = xs} {t = t} was = held-names xs t.waiting was.names was.waiting

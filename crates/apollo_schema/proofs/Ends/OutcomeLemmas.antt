@@ -15,6 +15,12 @@ pub on_ok : {A B : Type 0} {P Q : Type 0} (r : Result A B) → (P → Q) → OnO
 on_ok (Ok x) give h = give h
 on_ok (Err e) give h = tt
 
+-- so do three that hold of one schema, together
+pub if_built : {P S R : Schema → Type 0} {Q : Type 0} (r : Result Schema BuildFailure)
+    → ((s : Schema) → P s → Q → S s → R s) → IfOk r P → OnOk r Q → IfOk r S → IfOk r R
+if_built (Ok s) give means none from = give s means none from
+if_built (Err f) give means none from = tt
+
 if_faults : {P Q : Schema → List Fault → Type 0} (f : BuildFailure) → ((s : Schema) (es : List Fault) → P s es → Q s es) → IfFaults f P → IfFaults f Q
 if_faults (failures.Faults w) give h = give w.partial w.errors.items h
 if_faults failures.Memory give h = tt

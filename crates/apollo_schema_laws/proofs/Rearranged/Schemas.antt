@@ -10,6 +10,7 @@ use Rattle.graphql_nodes.specs.NodeView.{NodeView}
 use Rattle.apollo_types.specs.BareTypes.{bare_extended_type, bare_schema_definition}
 use Rattle.apollo_types.specs.declared.schema_definition.SchemaDefinition.{SchemaDefinition}
 use Rattle.apollo_meaning.specs.Directives.{directive_definitions, directive_of}
+use Rattle.apollo_meaning.specs.Faults.Collisions.{Fault}
 use Rattle.apollo_meaning.specs.Faults.ListFaults.{faults_of}
 use Rattle.apollo_meaning.specs.Items.ListItems.{Added, ListItem, added_items}
 use Rattle.apollo_meaning.specs.Order.Places.{folding_order}
@@ -17,10 +18,13 @@ use Rattle.apollo_meaning.specs.Schema.Definition.{no_schema, schema_of}
 use Rattle.apollo_meaning.specs.Schema.Whole.{whole}
 use Rattle.apollo_meaning.specs.Completion.ImpliedSchema.{completed}
 use Rattle.apollo_schema_laws.specs.Rearranged.{AreRearranged, directive_meant, schema_meant, type_meant}
-use Rattle.apollo_schema_laws.specs.BuiltAlike.{BuildEqualSchemas, BuildFaultlessTogether, BuildSameFaults, MeanEqualSchemas, StandFor}
-use Rattle.apollo_schema.specs.BuilderStands.{adopts}
-use Rattle.apollo_schema.specs.MeantSchema.{MeansSchema}
-use Rattle.apollo_schema.specs.declared.schema_builder.SchemaBuilder.{SchemaBuilder}
+use Rattle.apollo_schema_laws.specs.BuiltAlike.{BuildEqualSchemas, BuildFaultlessTogether, BuildSameFaults}
+use Rattle.apollo_schema_laws.specs.BuiltAlike.{MeanEqualSchemas, StandFor}
+use Rattle.apollo_schema.specs.BuilderStands.{Building, Failed, IsOpenBy, IsOpenWith, OfAdded, Open, Standing}
+use Rattle.apollo_schema.specs.BuilderStands.{StandsFor, sources_of}
+use Rattle.apollo_schema.specs.Built.{IsFoundIn}
+use Rattle.apollo_schema.specs.declared.schema.Schema.{Schema}
+use Rattle.apollo_schema.specs.MeantSchema.{IsPartOf, MeansSchema}
 
 -- what the laws say of rearranged lists: what they are completed with, their schema definitions, types, directives and faults
 abbrev pub CompletedToo : Type 0
@@ -83,26 +87,56 @@ schemas-rearranged completes definitions types directives adopts xs ys r =
     (λ start other n. types start other (whole adopts xs) (whole adopts ys) n all)
     (λ n. ap (option_map (λ d. bare_directive_definition d.value)) (directives (whole adopts xs) (whole adopts ys) n all))
 
+-- what holds of what was added to a builder holds of the list that it stands for
+of_list : (P : ℕ → List Added → Type 0) (start : ℕ) (xs : List Added) (b : Building) → StandsFor start xs b
+    → OfAdded P b → P start xs
+of_list P start xs b stands = by b.start b.standing stands.0 stands.1
+  where
+    by : (n : ℕ) (standing : Standing) → n ≡ start → IsOpenWith xs standing → IsOpenBy P n standing
+        → P start xs
+    by n (Open list files) first is holds = subst (P start) is (subst (λ m. P m list) first holds)
+    by n (Failed source) first is holds = elim is [ ]
+
 -- builders that stand for lists that mean equal schemas are built to equal ones
-pub built-alike : (xs ys : List Added) → ((adopts : Bool) → MeanEqualSchemas adopts xs ys) → (b c : SchemaBuilder) → StandFor xs ys b c → BuildEqualSchemas b c
+pub built-alike : (xs ys : List Added) → ((adopts : Bool) → MeanEqualSchemas adopts xs ys) → (b c : Building)
+    → StandFor xs ys b c → BuildEqualSchemas b c
 built-alike xs ys schemas b c stand = λ s t m n.
-    schemas (adopts b) stand.start stand.other s t (m stand.start xs stand.first)
-    (subst (λ (a : Bool). MeansSchema stand.other a ys t) (sym stand.one_setting) (n stand.other ys stand.second))
+    schemas b.adopts stand.start stand.other s t
+    (of_list (λ start zs. MeansSchema start b.adopts zs s) stand.start xs b stand.first m)
+    (subst (λ (a : Bool). MeansSchema stand.other a ys t) (sym stand.one_setting)
+    (of_list (λ start zs. MeansSchema start c.adopts zs t) stand.other ys c stand.second n))
+
+-- what is found of a builder's list is found of the list that it stands for
+found : (start : ℕ) (xs : List Added) (b : Building) (s : Schema) (faults : List Fault) → StandsFor start xs b
+    → IsFoundIn b s faults → IsPartOf start b.adopts xs (sources_of b) s faults
+found start xs b s faults =
+    of_list (λ first zs. IsPartOf first b.adopts zs (sources_of b) s faults) start xs b
 
 module _ (same_faults : SameFaults) where
-  pub found-rearranged : EqualSchemas → (xs ys : List Added) → AreRearranged (added_items xs) (added_items ys) → (b c : SchemaBuilder) → StandFor xs ys b c → BuildSameFaults b c
+  pub found-rearranged : EqualSchemas → (xs ys : List Added) → AreRearranged (added_items xs) (added_items ys)
+      → (b c : Building) → StandFor xs ys b c → BuildSameFaults b c
   found-rearranged schemas xs ys r b c stand = λ s t faults others f g.
-      let first : faults ≡ faults_of (adopts b) xs = (f stand.start xs stand.first).1.0.0 in
-      let second : others ≡ faults_of (adopts b) ys = (g stand.other ys stand.second).1.0.0 ∙ ap (λ a. faults_of a ys) (sym stand.one_setting) in
+      let of_first = found stand.start xs b s faults stand.first f in
+      let of_second = found stand.other ys c t others stand.second g in
+      let first : faults ≡ faults_of b.adopts xs = of_first.1.0.0 in
+      let second : others ≡ faults_of b.adopts ys =
+      of_second.1.0.0 ∙ ap (λ a. faults_of a ys) (sym stand.one_setting) in
       let same : IsPermutation faults others =
       subst (λ l. IsPermutation l others) (sym first)
-      (subst (IsPermutation (faults_of (adopts b) xs)) (sym second) (same_faults (adopts b) xs ys r)) in
-      (same, built-alike xs ys (λ a. schemas a xs ys r) b c stand s t (λ start zs stands. (f start zs stands).0) (λ start zs stands. (g start zs stands).0))
+      (subst (IsPermutation (faults_of b.adopts xs)) (sym second) (same_faults b.adopts xs ys r)) in
+      let other : MeansSchema stand.other b.adopts ys t =
+      subst (λ (a : Bool). MeansSchema stand.other a ys t) (sym stand.one_setting) of_second.0 in
+      (same, schemas b.adopts xs ys r stand.start stand.other s t of_first.0 other)
 
-  pub faultless-rearranged : (xs ys : List Added) → AreRearranged (added_items xs) (added_items ys) → (b c : SchemaBuilder) → StandFor xs ys b c → BuildFaultlessTogether b c
+  pub faultless-rearranged : (xs ys : List Added) → AreRearranged (added_items xs) (added_items ys)
+      → (b c : Building) → StandFor xs ys b c → BuildFaultlessTogether b c
   faultless-rearranged xs ys r b c stand = λ faultless t others g.
-      let none : faults_of (adopts b) xs ≡ [] = faultless stand.start xs stand.first in
-      let same : IsPermutation (faults_of (adopts b) xs) (faults_of (adopts b) ys) = same_faults (adopts b) xs ys r in
-      let also : faults_of (adopts b) ys ≡ [] = nil_from_length (faults_of (adopts b) ys) (length_permutation (faults_of (adopts b) xs) (faults_of (adopts b) ys) same ∙ ap length none) in
-      let found = (g stand.other ys stand.second).1.0 in
-      found.1 (found.0 ∙ ap (λ a. faults_of a ys) (sym stand.one_setting) ∙ also)
+      let none : faults_of b.adopts xs ≡ [] =
+      of_list (λ start zs. faults_of b.adopts zs ≡ []) stand.start xs b stand.first faultless in
+      let same : IsPermutation (faults_of b.adopts xs) (faults_of b.adopts ys) =
+      same_faults b.adopts xs ys r in
+      let also : faults_of b.adopts ys ≡ [] =
+      nil_from_length (faults_of b.adopts ys)
+      (length_permutation (faults_of b.adopts xs) (faults_of b.adopts ys) same ∙ ap length none) in
+      let its = (found stand.other ys c t others stand.second g).1.0 in
+      its.1 (its.0 ∙ ap (λ a. faults_of a ys) (sym stand.one_setting) ∙ also)

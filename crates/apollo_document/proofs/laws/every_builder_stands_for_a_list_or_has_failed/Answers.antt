@@ -1,16 +1,17 @@
-use Rattle.std.proofs.Common.{◌≡◌, ◌⊎◌, inl, inr, List, Option, refl}
-use Rattle.std.proofs.Math.Logic.{∥∥₁_map}
-use Rattle.std.specs.Option.{option_copied}
-use Rattle.apollo_schema.specs.declared.schema.Schema.{Schema}
+use Rattle.std.proofs.Common.{◌⊎◌, inl, inr, List, refl}
 use Rattle.apollo_document.specs.AddedDefinitions.{DocumentItem}
-use Rattle.apollo_document.specs.declared.state.State.{State}
-use Rattle.apollo_document.specs.declared.state.State.TheVariants.{Open, Failed}
-use Rattle.apollo_document.specs.Stands.{HasStood, StateStands, StateFailed}
+use Rattle.apollo_document.specs.BuilderStands.{Building, HasFailed, IsFailed, IsOpenWith, StandsFor}
+use Rattle.apollo_document.specs.BuilderStands.{Standing, Open, Failed}
 use Rattle.apollo_document.proofs.laws.every_builder_stands_for_a_list_or_has_failed.Goals as goal
 
-either : (s : Option Schema) (state : State) → HasStood s state → ((xs : List DocumentItem) × ((s ≡ s) × StateStands s xs state)) ⊎ StateFailed state
-either s (Open tables) stood = inl (stood.0, (refl, stood.1))
-either s Failed stood = inr tt
+either : (standing : Standing) → ((xs : List DocumentItem) × IsOpenWith xs standing) ⊎ IsFailed standing
+either (Open list files) = inl (list, refl)
+either Failed = inr tt
+
+over : (b : Building) → ((xs : List DocumentItem) × IsOpenWith xs b.standing) ⊎ IsFailed b.standing
+    → ((xs : List DocumentItem) × StandsFor b.schema xs b) ⊎ HasFailed b
+over b (inl stands) = inl (stands.0, (refl, stands.1))
+over b (inr failed) = inr failed
 
 pub returns : goal.returns
-returns c = ∥∥₁_map c.args.builder.now.standing (either (option_copied c.args.builder.now.schema) c.args.builder.now.state)
+returns c = λ b. over b (either b.standing)

@@ -1,12 +1,16 @@
-use Rattle.apollo_meaning.proofs.Prelude.{◌≡◌, ℕ, List, refl, ∥∥₁_map, Added, added_items, ◌⊎◌, inl, inr}
-use Rattle.apollo_schema.specs.declared.state.State.{State}
-use Rattle.apollo_schema.specs.declared.state.State.TheVariants.{Open, Failed}
-use Rattle.apollo_schema.specs.Stands.{HasStood, StateStands, StateFailed}
+use Rattle.apollo_meaning.proofs.Prelude.{List, refl, Added, ◌⊎◌, inl, inr}
+use Rattle.apollo_schema.specs.BuilderStands.{Building, HasFailed, IsFailed, IsOpenWith, StandsFor}
+use Rattle.apollo_schema.specs.BuilderStands.{Standing, Open, Failed}
 use Rattle.apollo_schema.proofs.laws.every_builder_stands_for_a_list_or_has_failed.Goals as goal
 
-either : (first : ℕ) (s : State) → HasStood first s → ((xs : List Added) × ((first ≡ first) × StateStands first (added_items xs) s)) ⊎ StateFailed s
-either first (Open tables) stood = inl (stood.0, (refl, stood.1))
-either first (Failed source) stood = inr tt
+either : (standing : Standing) → ((xs : List Added) × IsOpenWith xs standing) ⊎ IsFailed standing
+either (Open list files) = inl (list, refl)
+either (Failed source) = inr tt
+
+from_first : (b : Building) → ((xs : List Added) × IsOpenWith xs b.standing) ⊎ IsFailed b.standing
+    → ((xs : List Added) × StandsFor b.start xs b) ⊎ HasFailed b
+from_first b (inl stands) = inl (stands.0, (refl, stands.1))
+from_first b (inr failed) = inr failed
 
 pub returns : goal.returns
-returns c = ∥∥₁_map c.args.builder.now.standing (either c.args.builder.now.first_number c.args.builder.now.state)
+returns c = λ b. from_first b (either b.standing)

@@ -1,7 +1,7 @@
-use Rattle.std.proofs.Common.{◌≡◌, Bool, true, false, cond, List, refl, sym, ap, subst, ◌∙◌}
-use Rattle.apollo_built_in.specs.BuiltInTable.{built_in_definitions}
-use Rattle.apollo_meaning.specs.Items.ListItems.{Added, added}
-use Rattle.apollo_schema.specs.BuilderStands.{StandsFor, adopts, ignores, sources_of}
+use Rattle.std.proofs.Common.{◌≡◌, Bool, true, false, cond, [], refl, sym, ap, ◌∙◌}
+use Rattle.apollo_schema.specs.BuilderStands.{Building, Open, building_from}
+use Rattle.apollo_compiler.specs.Lists.{building_of}
+use Rattle.apollo_compiler.specs.declared.compile_options.CompileOptions.{CompileOptions}
 use Rattle.apollo_compiler.proofs.ListLemmas.{schema_list-nil}
 use Rattle.apollo_compiler.proofs.prepared.Prepared.begin.Goals as goal
 
@@ -9,24 +9,27 @@ set : (b : Bool) → cond b true false ≡ b
 set true = refl
 set false = refl
 
-pub returns-clause-stands : goal.returns-clause-stands
-returns-clause-stands c =
-    let bare : StandsFor 0 (added false built_in_definitions) c.in_ok-bare.bare = subst (StandsFor 0 (added false built_in_definitions)) (sym c.in_ok-bare.ensures.cases) c.self.invariant.0 in
-    subst (λ (l : List Added). StandsFor 0 l c.with_ignoring.result) (sym (schema_list-nil c.args.options))
-    (c.with_ignoring.ensures.stands 0 (added false built_in_definitions) (c.with_adoption-builder.ensures.stands 0 (added false built_in_definitions) bare))
+-- a new builder with both options
+abbrev with_options : CompileOptions → Building → Building
+with_options o b = record b {
+  adopts = cond o.adopt_orphan_extensions true b.adopts;
+  ignores = cond o.ignore_builtin_redefinitions true b.ignores;
+}
 
-pub returns-clause-adopts : goal.returns-clause-adopts
-returns-clause-adopts c =
-    c.with_ignoring.ensures.adopts
-    ∙ c.with_adoption-builder.ensures.adopts
-    ∙ ap (cond c.args.options.adopt_orphan_extensions true) (ap adopts c.in_ok-bare.ensures.cases ∙ c.self.invariant.1)
-    ∙ set c.args.options.adopt_orphan_extensions
+optioned : (o : CompileOptions) → with_options o (building_from 0) ≡ building_of o []
+optioned o i = record {
+  start = 0;
+  adopts = set o.adopt_orphan_extensions i;
+  ignores = set o.ignore_builtin_redefinitions i;
+  standing = Open (sym (schema_list-nil o) i) [];
+}
 
-pub returns-clause-ignores : goal.returns-clause-ignores
-returns-clause-ignores c =
-    c.with_ignoring.ensures.ignores
-    ∙ ap (cond c.args.options.ignore_builtin_redefinitions true) (c.with_adoption-builder.ensures.ignores ∙ ap ignores c.in_ok-bare.ensures.cases ∙ c.self.invariant.2)
-    ∙ set c.args.options.ignore_builtin_redefinitions
-
-pub returns-clause-sources : goal.returns-clause-sources
-returns-clause-sources c = c.with_ignoring.ensures.sources ∙ c.with_adoption-builder.ensures.sources ∙ ap sources_of c.in_ok-bare.ensures.cases ∙ c.self.invariant.3
+pub returns : goal.returns
+returns c =
+    c.with_ignoring.ensures
+    ∙ ap (λ (b : Building). record b {
+      ignores = cond c.args.options.ignore_builtin_redefinitions true b.ignores;
+    })
+    c.with_adoption-builder.ensures
+    ∙ ap (with_options c.args.options) (c.in_ok-bare.ensures.cases ∙ c.self.invariant)
+    ∙ optioned c.args.options
