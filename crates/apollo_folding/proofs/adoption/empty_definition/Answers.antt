@@ -1,4 +1,4 @@
-use Rattle.apollo_meaning.proofs.Prelude.{◌≡◌, None, refl, ap, ◌∙◌, rules, TypeKind, Defined, item_of, adopted_part}
+use Rattle.apollo_meaning.proofs.Prelude.{◌≡◌, None, refl, rules, TypeKind, Defined, item_of, adopted_part}
 use Rattle.graphql_nodes.specs.declared.type_kind.TypeKind.TheVariants as k
 use Rattle.graphql_ast.specs.Declarations.{type_definition}
 use Rattle.graphql_ast.specs.Parts.{no_parts}
