@@ -1,4 +1,5 @@
 pub mod CompletionLemmas
+pub mod DeclarationLemmas
 pub mod DirectiveLemmas
 pub mod HeldLemmas
 pub mod JoiningLemmas
@@ -8,4 +9,3 @@ pub mod NameTables
 pub mod PartNames
 pub mod RefusalLemmas
 pub mod RootLemmas
-pub mod ViewLemmas

@@ -7,12 +7,13 @@ ghost use Rattle.apollo_meaning.specs.Items.ListItems.{schema_item, Defined, ite
 ghost use Rattle.apollo_meaning.specs.Items.Parts.{schema_extension_part, roots_in};
 ghost use Rattle.apollo_meaning.specs.Completion.Adoption.{adopted_part, adopted_by};
 ghost use Rattle.apollo_meaning.specs.Completion.ImpliedSchema.{schema_for};
-ghost use Rattle.apollo_folding.specs.Views.{part_seen};
+ghost use Rattle.apollo_folding.specs.DeclaredParts.{part_seen};
 ghost use Rattle.apollo_folding.specs.HeldRoots.{held_root, held_roots};
 
-use crate::views::{ItemView, PartView};
+use crate::extension::extension_of;
 use apollo_types::extended_type::ExtendedType;
 use graphql_ast::declaration::TypeDeclaration;
+use graphql_ast::declaration_ref::TypeDeclarationRef;
 use graphql_ast::definition::Definition;
 use graphql_ast::directive::DirectiveList;
 use graphql_ast::parts::Parts;
@@ -26,21 +27,21 @@ use graphql_nodes::operation_type::OperationType;
 use std::alloc::{AllocError, Global};
 
 /// The empty definition of the kind of an extension, with its name and at its location. The error is out of memory.
-fn empty_definition(alloc: Global, extension: &PartView<'_>) -> Result<Definition, AllocError>
+fn empty_definition(
+    alloc: Global,
+    extension: &TypeDeclarationRef<'_>,
+) -> Result<Definition, AllocError>
     ensures { IfOk result (λ made. item_of made ≡ Defined (adopted_part (part_seen extension.now))) }
 {
-    let name = extension.name.clone()?;
-    let parts = Parts::new(alloc);
-    let definition = TypeDeclaration {
-        kind: extension.kind(),
-        name,
+    let declaration = TypeDeclaration {
+        kind: extension.kind,
+        name: extension.name.clone()?,
         is_extension: false,
         description: None,
         location: extension.location,
-        parts,
+        parts: Parts::new(alloc),
     };
-    let made = definition.into_definition(alloc)?;
-    Ok(made)
+    declaration.into_definition(alloc)
 }
 
 /// Adds the empty definition of the first of these that extends a type.
@@ -51,9 +52,9 @@ fn adopt_first(
 ) -> Result<(), AllocError>
     ensures { OnOk result (items_of adopted.new ≡ items_of adopted.old ++ adopted_by (extended_parts extensions.now)) }
 {
-    for extension in extensions {
-        if let ItemView::Extended(part) = ItemView::of(extension) {
-            adopted.push(empty_definition(alloc, &part)?)?;
+    for definition in extensions {
+        if let Some(extension) = extension_of(definition) {
+            adopted.push(empty_definition(alloc, &extension)?)?;
             return Ok(());
         }
     }

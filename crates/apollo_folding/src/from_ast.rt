@@ -9,9 +9,9 @@ ghost use Rattle.apollo_meaning.specs.Types.Meaning.{type_from};
 ghost use Rattle.apollo_meaning.specs.Faults.TypeFaults.{part_faults, kind_mismatch};
 ghost use Rattle.apollo_meaning.specs.Steps.Joining.{type_begun, type_begun_faults};
 ghost use Rattle.apollo_types.specs.TypeWriteOut.{type_kind};
+ghost use Rattle.apollo_folding.specs.DeclaredParts.{part_seen};
 ghost use Rattle.apollo_folding.specs.Joins.{Extends, FindsJoining, how_many};
 ghost use Rattle.apollo_folding.specs.Refusals.{RefusedAs, SpentWith, after};
-ghost use Rattle.apollo_folding.specs.Views.{part_seen};
 
 mod enum_type;
 mod folding;
@@ -24,56 +24,56 @@ pub mod schema_definition;
 mod union_type;
 
 use crate::builder_error::BuilderError;
+use crate::extension::extension_of;
 use crate::from_ast::kind::{extend_node, type_of_definition};
-use crate::views::{BodyView, ItemView, PartView};
 use apollo_component::extension::ExtensionSource;
 use apollo_meaning::build_error::{BuildError, Fault};
 use apollo_types::extended_type::ExtendedType;
+use graphql_ast::declaration_ref::TypeDeclarationRef;
 use graphql_ast::definition::Definition;
 use graphql_nodes::collections::hash_keys::HashKeys;
 use graphql_nodes::collections::items::Items;
 use graphql_nodes::collections::static_text::StaticText;
+use graphql_nodes::type_kind::TypeKind;
 use std::alloc::{AllocError, Global};
 
 /// The type of a definition alone. Components that are there already are noted.
 fn type_from_ast(
     alloc: Global,
     keys: HashKeys,
-    head: &PartView<'_>,
+    head: &TypeDeclarationRef<'_>,
     faults: &mut Items<Fault>,
 ) -> Result<ExtendedType, AllocError>
     ensures made { IfOk result (λ ty. let d = part_seen head.now in ty ≡ type_from d ((origins.Definition, d) ∷ [])) }
     ensures faults { OnOk result (faults.new ≡ faults.old ++ part_faults [] (part_seen head.now)) }
 {
-    match head.body {
-        BodyView::Scalar => {
-            Ok(ExtendedType::Scalar(type_of_definition(alloc, keys, head, (), faults)?))
+    match head.kind {
+        TypeKind::Scalar => {
+            Ok(ExtendedType::Scalar(type_of_definition(alloc, keys, head, faults)?))
         }
-        BodyView::Object(body) => {
-            Ok(ExtendedType::Object(type_of_definition(alloc, keys, head, body, faults)?))
+        TypeKind::Object => {
+            Ok(ExtendedType::Object(type_of_definition(alloc, keys, head, faults)?))
         }
-        BodyView::Interface(body) => {
-            Ok(ExtendedType::Interface(type_of_definition(alloc, keys, head, body, faults)?))
+        TypeKind::Interface => {
+            Ok(ExtendedType::Interface(type_of_definition(alloc, keys, head, faults)?))
         }
-        BodyView::Union(members) => {
-            Ok(ExtendedType::Union(type_of_definition(alloc, keys, head, members, faults)?))
+        TypeKind::Union => {
+            Ok(ExtendedType::Union(type_of_definition(alloc, keys, head, faults)?))
         }
-        BodyView::Enum(values) => {
-            Ok(ExtendedType::Enum(type_of_definition(alloc, keys, head, values, faults)?))
-        }
-        BodyView::InputObject(fields) => {
-            Ok(ExtendedType::InputObject(type_of_definition(alloc, keys, head, fields, faults)?))
+        TypeKind::Enum => { Ok(ExtendedType::Enum(type_of_definition(alloc, keys, head, faults)?)) }
+        TypeKind::InputObject => {
+            Ok(ExtendedType::InputObject(type_of_definition(alloc, keys, head, faults)?))
         }
     }
 }
 
 /// The fault of an extension of another kind than the type.
-fn kind_mismatch(ty: &ExtendedType, part: &PartView<'_>) -> Result<Fault, AllocError>
+fn kind_mismatch(ty: &ExtendedType, part: &TypeDeclarationRef<'_>) -> Result<Fault, AllocError>
     ensures { IfOk result (λ fault. (head : TypePart) (done : List Sourced) → ty.now ≡ type_from head done → fault ≡ kind_mismatch head (part_seen part.now)) }
 {
     let error = BuildError::TypeExtensionKindMismatch {
         name: part.name.clone()?,
-        describe_ext: StaticText::new(part.kind().describe_extension()),
+        describe_ext: StaticText::new(part.kind.describe_extension()),
         def_location: ty.name().location(),
         describe_def: StaticText::new(ty.kind().describe()),
     };
@@ -86,7 +86,7 @@ fn kind_mismatch(ty: &ExtendedType, part: &PartView<'_>) -> Result<Fault, AllocE
 /// `Memory` is out of memory. `ExtensionIds` comes only where the extension has the type's kind, and the source no number left.
 pub fn extend_type(
     ty: &mut ExtendedType,
-    extension: &PartView<'_>,
+    extension: &TypeDeclarationRef<'_>,
     ids: &mut ExtensionSource,
     faults: &mut Items<Fault>,
 ) -> Result<(), BuilderError>
@@ -96,25 +96,17 @@ pub fn extend_type(
     ensures next { OnOk result (ids.new ≡ after ids.old (how_many (type_kind ty.old) (part_seen extension.now ∷ []))) }
     ensures refused { IfErr result (λ error. RefusedAs error (SpentWith ids.old (how_many (type_kind ty.old) (part_seen extension.now ∷ [])))) }
 {
-    match (&mut *ty, extension.body) {
-        (ExtendedType::Scalar(node), BodyView::Scalar) => {
-            extend_node(node, extension, (), ids, faults)
-        }
-        (ExtendedType::Object(node), BodyView::Object(body)) => {
-            extend_node(node, extension, body, ids, faults)
-        }
-        (ExtendedType::Interface(node), BodyView::Interface(body)) => {
-            extend_node(node, extension, body, ids, faults)
-        }
-        (ExtendedType::Union(node), BodyView::Union(members)) => {
-            extend_node(node, extension, members, ids, faults)
-        }
-        (ExtendedType::Enum(node), BodyView::Enum(values)) => {
-            extend_node(node, extension, values, ids, faults)
-        }
-        (ExtendedType::InputObject(node), BodyView::InputObject(fields)) => {
-            extend_node(node, extension, fields, ids, faults)
-        }
+    match (&mut *ty, extension.kind) {
+        (ExtendedType::Scalar(node), TypeKind::Scalar) => extend_node(node, extension, ids, faults),
+        (ExtendedType::Object(node), TypeKind::Object) => extend_node(node, extension, ids, faults),
+        (ExtendedType::Interface(node), TypeKind::Interface) => extend_node(
+            node, extension, ids, faults,
+        ),
+        (ExtendedType::Union(node), TypeKind::Union) => extend_node(node, extension, ids, faults),
+        (ExtendedType::Enum(node), TypeKind::Enum) => extend_node(node, extension, ids, faults),
+        (ExtendedType::InputObject(node), TypeKind::InputObject) => extend_node(
+            node, extension, ids, faults,
+        ),
         _ => {
             faults.push(kind_mismatch(ty, extension)?)?;
             Ok(())
@@ -135,9 +127,9 @@ fn extend_by(
     ensures next { OnOk result (ids.new ≡ after ids.old (how_many (type_kind ty.old) (extended_parts (definition.now ∷ [])))) }
     ensures refused { IfErr result (λ error. RefusedAs error (SpentWith ids.old (how_many (type_kind ty.old) (extended_parts (definition.now ∷ []))))) }
 {
-    match ItemView::of(definition) {
-        ItemView::Extended(extension) => extend_type(ty, &extension, ids, faults),
-        _ => Ok(()),
+    match extension_of(definition) {
+        Some(extension) => extend_type(ty, &extension, ids, faults),
+        None => Ok(()),
     }
 }
 
@@ -167,7 +159,7 @@ fn extend_by_all(
 pub fn begin_type(
     alloc: Global,
     keys: HashKeys,
-    head: &PartView<'_>,
+    head: &TypeDeclarationRef<'_>,
     extensions: &[Definition],
     ids: &mut ExtensionSource,
     faults: &mut Items<Fault>,

@@ -10,8 +10,8 @@
 pub mod adoption;
 pub mod builder_error;
 pub mod directive_definition;
+mod extension;
 pub mod from_ast;
 pub mod orphans;
 pub mod redefinition;
-pub mod views;
 pub mod waiting;

@@ -7,7 +7,7 @@ ghost use Rattle.apollo_meaning.specs.Items.Parts.{schema_extension_part};
 ghost use Rattle.apollo_meaning.specs.Faults.TypeFaults.{orphan};
 ghost use Rattle.apollo_meaning.specs.Faults.RootFaults.{schema_orphan};
 
-use crate::views::ItemView;
+use crate::extension::extension_of;
 use apollo_meaning::build_error::{BuildError, Fault};
 use graphql_ast::definition::Definition;
 use graphql_ast::type_system::SchemaExtension;
@@ -18,16 +18,16 @@ use graphql_nodes::node::Node;
 use std::alloc::AllocError;
 
 /// Notes an extension whose name has no definition.
-fn note_orphan(extension: &Definition, faults: &mut Items<Fault>) -> Result<(), AllocError>
-    ensures { OnOk result (faults.new ≡ faults.old ++ map orphan (extended_parts (extension.now ∷ []))) }
+fn note_orphan(definition: &Definition, faults: &mut Items<Fault>) -> Result<(), AllocError>
+    ensures { OnOk result (faults.new ≡ faults.old ++ map orphan (extended_parts (definition.now ∷ []))) }
 {
-    let ItemView::Extended(part) = ItemView::of(extension) else {
+    let Some(extension) = extension_of(definition) else {
         return Ok(());
     };
     let error = BuildError::OrphanTypeExtension {
-        name: part.name.clone()?,
+        name: extension.name.clone()?,
     };
-    faults.push((part.name.location(), error))
+    faults.push((extension.name.location(), error))
 }
 
 /// Notes extensions whose name has no definition, in order.

@@ -1,18 +1,21 @@
 //! The faults of further definitions of a name.
 ghost use Rattle.apollo_folding.specs.Joins.{ForFirst};
 ghost use Rattle.std.specs.Prelude.{◌≡◌, ◌++◌, OnOk, IfOk};
-ghost use Rattle.apollo_folding.specs.Views.{part_seen};
+ghost use Rattle.apollo_folding.specs.DeclaredParts.{part_seen};
 ghost use Rattle.apollo_meaning.specs.Faults.TypeFaults.{redefinition, built_in_redefinition, further_definition};
 
-use crate::views::PartView;
 use apollo_meaning::build_error::{BuildError, Fault};
 use apollo_types::extended_type::ExtendedType;
+use graphql_ast::declaration_ref::TypeDeclarationRef;
 use graphql_nodes::collections::items::Items;
 use graphql_nodes::type_kind::TypeKind;
 use std::alloc::AllocError;
 
 /// The fault of a further definition of a type's name.
-fn redefinition(previous: &ExtendedType, further: &PartView<'_>) -> Result<Fault, AllocError>
+fn redefinition(
+    previous: &ExtendedType,
+    further: &TypeDeclarationRef<'_>,
+) -> Result<Fault, AllocError>
     ensures { IfOk result (λ fault. ForFirst previous.now (λ d. fault ≡ redefinition d (part_seen further.now))) }
 {
     let error = BuildError::TypeDefinitionCollision {
@@ -25,11 +28,11 @@ fn redefinition(previous: &ExtendedType, further: &PartView<'_>) -> Result<Fault
 /// The fault of a further definition of a built-in type's name.
 fn built_in_redefinition(
     previous: &ExtendedType,
-    further: &PartView<'_>,
+    further: &TypeDeclarationRef<'_>,
 ) -> Result<Fault, AllocError>
     ensures { IfOk result (λ fault. ForFirst previous.now (λ d. fault ≡ built_in_redefinition d (part_seen further.now))) }
 {
-    if further.kind() == TypeKind::Scalar {
+    if further.kind == TypeKind::Scalar {
         return Ok((further.location, BuildError::BuiltInScalarTypeRedefinition));
     }
     let fault = redefinition(previous, further)?;
@@ -40,7 +43,7 @@ fn built_in_redefinition(
 /// ignored: then nothing is added. The error is out of memory.
 pub fn note_redefinition(
     previous: &ExtendedType,
-    further: &PartView<'_>,
+    further: &TypeDeclarationRef<'_>,
     ignores: bool,
     faults: &mut Items<Fault>,
 ) -> Result<(), AllocError>

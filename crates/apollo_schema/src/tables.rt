@@ -4,13 +4,14 @@ ghost use Rattle.graphql_nodes.specs.Tables.{insert_entry};
 ghost use Rattle.graphql_nodes.specs.SameText.{same_text};
 ghost use Rattle.graphql_ast.specs.Definitions.{definition_location};
 ghost use Rattle.graphql_ast.specs.DefinitionTexts.{definition_text};
+ghost use Rattle.graphql_ast.specs.declared.declaration_ref.DeclarationRef.TheVariants as seen;
 ghost use Rattle.apollo_component.specs.Extensions.{next_number};
 ghost use Rattle.apollo_meaning.specs.declared.build_error.BuildError.TheVariants as errors;
 ghost use Rattle.apollo_meaning.specs.Items.Parts.{schema_definition_part, schema_extension_part};
 ghost use Rattle.apollo_meaning.specs.Items.ListItems.{Extended, SchemaDefined, SchemaExtended, added, added_item, added_items, item_of};
 ghost use Rattle.apollo_built_in.specs.BuiltInTable.{built_in_definitions};
+ghost use Rattle.apollo_folding.specs.DeclaredParts.{item_seen, part_seen, definition_seen};
 ghost use Rattle.apollo_folding.specs.Refusals.{RefusedAs};
-ghost use Rattle.apollo_folding.specs.Views.{part_seen, definition_seen};
 ghost use Rattle.apollo_schema.specs.Stands.{Stands};
 ghost use Rattle.apollo_schema.specs.Takes.{Takes, SpentBy, with_schema};
 ghost use Rattle.graphql_nodes.specs.Sources.{merged};
@@ -26,11 +27,11 @@ use apollo_folding::directive_definition::define_directive;
 use apollo_folding::from_ast::schema_definition::{begin_schema, extend_schema};
 use apollo_folding::from_ast::{begin_type, extend_type};
 use apollo_folding::redefinition::note_redefinition;
-use apollo_folding::views::{ItemView, PartView};
 use apollo_folding::waiting::{take_waiting, wait};
 use apollo_meaning::build_error::{BuildError, Fault};
 use apollo_types::extended_type::ExtendedType;
 use apollo_types::schema_definition::SchemaDefinition;
+use graphql_ast::declaration_ref::{DeclarationRef, TypeDeclarationRef};
 use graphql_ast::definition::Definition;
 use graphql_ast::document::Document;
 use graphql_ast::type_system as ast;
@@ -132,7 +133,11 @@ impl Tables {
     }
 
     /// Takes the definition of a type, under this setting of whether redefinitions of built-in types are ignored.
-    fn define(&mut self, definition: &PartView<'_>, ignores: bool) -> Result<(), BuilderError>
+    fn define(
+        &mut self,
+        definition: &TypeDeclarationRef<'_>,
+        ignores: bool,
+    ) -> Result<(), BuilderError>
         ensures stands { OnOk result (Takes self.old (definition_seen ignores definition.now ∷ []) self.new) }
         ensures refused { IfErr result (λ error. RefusedAs error (SpentBy self.old (definition_seen ignores definition.now ∷ []))) }
         ensures sources { self.new.sources ≡ self.old.sources }
@@ -157,7 +162,7 @@ impl Tables {
     /// Takes an extension of a type, which this definition of the document is.
     fn extend(
         &mut self,
-        extension: &PartView<'_>,
+        extension: &TypeDeclarationRef<'_>,
         definition: &Definition,
     ) -> Result<(), BuilderError>
         ensures stands { OnOk result (item_of definition.now ≡ Extended (part_seen extension.now) → Takes self.old (Extended (part_seen extension.now) ∷ []) self.new) }
@@ -170,6 +175,25 @@ impl Tables {
         };
         extend_type(ty, extension, &mut self.ids, &mut self.faults)?;
         Ok(())
+    }
+
+    /// Takes a definition or extension of a type, which this definition of the document declares.
+    fn take_type(
+        &mut self,
+        declaration: &TypeDeclarationRef<'_>,
+        definition: &Definition,
+        ignores: bool,
+    ) -> Result<(), BuilderError>
+        ensures stands { OnOk result (item_of definition.now ≡ item_seen (seen.Type declaration.now)
+            → Takes self.old (added_item (ignores, definition.now) ∷ []) self.new) }
+        ensures refused { IfErr result (λ error. item_of definition.now ≡ item_seen (seen.Type declaration.now)
+            → RefusedAs error (SpentBy self.old (added_item (ignores, definition.now) ∷ []))) }
+        ensures sources { self.new.sources ≡ self.old.sources }
+    {
+        if declaration.is_extension {
+            return self.extend(declaration, definition);
+        }
+        self.define(declaration, ignores)
     }
 
     /// Puts a definition of the schema, with the extensions that wait for it folded in.
@@ -238,15 +262,16 @@ impl Tables {
         ensures refused { IfErr result (λ error. RefusedAs error (SpentBy self.old (added_item (ignores, definition.now) ∷ []))) }
         ensures sources { self.new.sources ≡ self.old.sources }
     {
-        match ItemView::of(definition) {
-            ItemView::Defined(part) => self.define(&part, ignores)?,
-            ItemView::Extended(part) => self.extend(&part, definition)?,
-            ItemView::SchemaDefined(node) => self.define_schema(node)?,
-            ItemView::SchemaExtended(node) => self.extend_schema(node)?,
-            ItemView::Directive(node) => {
+        if let DeclarationRef::Type(declaration) = DeclarationRef::of(definition) {
+            return self.take_type(&declaration, definition, ignores);
+        }
+        match definition {
+            Definition::SchemaDefinition(node) => self.define_schema(node)?,
+            Definition::SchemaExtension(node) => self.extend_schema(node)?,
+            Definition::DirectiveDefinition(node) => {
                 define_directive(&mut self.directive_definitions, node, &mut self.faults)?;
             }
-            ItemView::Operation(_) | ItemView::Fragment(_) => self.note_executable(definition)?,
+            _ => self.note_executable(definition)?,
         }
         Ok(())
     }

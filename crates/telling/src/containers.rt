@@ -98,6 +98,16 @@ pub fn tell_all<T: Tell>(values: &[T], text: &mut String) -> Result<(), AllocErr
     Ok(())
 }
 
+/// Tells a list in brackets, where it isn't empty. No clause: it serves tests.
+pub fn tell_enclosed<T: Tell>(values: &[T], text: &mut String) -> Result<(), AllocError> {
+    if values.is_empty() {
+        return Ok(());
+    }
+    text.push_str("( ")?;
+    tell_all(values, text)?;
+    text.push_str(") ")
+}
+
 impl<T: Tell> Tell for Vec<T> {
     fn tell(&self, text: &mut String) -> Result<(), AllocError> {
         self.as_slice().tell(text)
@@ -136,9 +146,6 @@ pub struct Enclosed<'a, T>(pub &'a Items<T>);
 
 impl<'a, T: Tell> Tell for Enclosed<'a, T> {
     fn tell(&self, text: &mut String) -> Result<(), AllocError> {
-        if self.0.is_empty() {
-            return Ok(());
-        }
-        tell!(text; "( ", self.0, ") ")
+        tell_enclosed(self.0.as_slice(), text)
     }
 }

@@ -1,22 +1,23 @@
 //! The syntax tree. Each definition has its line.
 
 use crate::Tell;
-use crate::containers::{At, Enclosed};
-use apollo_folding::views::{BodyView, ItemView, PartView};
+use crate::containers::{At, Enclosed, tell_all, tell_enclosed};
+use graphql_ast::declaration_ref::{DeclarationRef, SchemaDeclarationRef, TypeDeclarationRef};
 use graphql_ast::definition::Definition;
 use graphql_ast::directive::{Argument, Directive, DirectiveList};
 use graphql_ast::document::Document;
 use graphql_ast::operation::{FragmentDefinition, OperationDefinition, VariableDefinition};
+use graphql_ast::parts::PartsRef;
 use graphql_ast::selection::{Field, FragmentSpread, InlineFragment, Selection};
 use graphql_ast::type_reference::Type;
 use graphql_ast::type_system::{
     DirectiveDefinition, EnumValueDefinition, FieldDefinition, InputValueDefinition,
-    SchemaDefinition, SchemaExtension,
 };
 use graphql_ast::value::Value;
 use graphql_nodes::collections::items::Items;
 use graphql_nodes::name::{Name, NamedType};
 use graphql_nodes::node::Node;
+use graphql_nodes::node_str::NodeStr;
 use graphql_nodes::operation_type::OperationType;
 use std::alloc::AllocError;
 
@@ -107,53 +108,57 @@ impl Tell for (OperationType, NamedType) {
     }
 }
 
-impl Tell for SchemaDefinition {
+/// A sort that the kind does not have has no part to tell.
+impl<'a> Tell for PartsRef<'a> {
     fn tell(&self, text: &mut String) -> Result<(), AllocError> {
-        tell!(text; "schema ", self.description, self.directives, self.root_operations, "\n")
+        tell_all(self.directives, text)?;
+        tell_all(self.names, text)?;
+        tell_enclosed(self.fields, text)?;
+        tell_all(self.values, text)?;
+        tell_all(self.input_fields, text)?;
+        tell_all(self.roots, text)
     }
 }
 
-impl Tell for SchemaExtension {
-    fn tell(&self, text: &mut String) -> Result<(), AllocError> {
-        tell!(text; "ext-schema ", self.directives, self.root_operations, "\n")
+/// A description that is borrowed, where there is one.
+fn tell_description(text: &mut String, description: Option<&NodeStr>) -> Result<(), AllocError> {
+    match description {
+        Some(description) => description.tell(text),
+        None => Ok(()),
     }
 }
 
-impl<'a> Tell for BodyView<'a> {
+impl<'a> Tell for TypeDeclarationRef<'a> {
     fn tell(&self, text: &mut String) -> Result<(), AllocError> {
-        match self {
-            BodyView::Scalar => Ok(()),
-            BodyView::Object(body) | BodyView::Interface(body) => {
-                tell!(text; body.interfaces, Enclosed(body.fields))
-            }
-            BodyView::Union(members) => members.tell(text),
-            BodyView::Enum(values) => values.tell(text),
-            BodyView::InputObject(fields) => fields.tell(text),
-        }
+        let (word, kind) = (if self.is_extension { "ext" } else { "def" }, self.kind);
+        At(self.location).tell(text)?;
+        write!(text, "{word} {kind:?} ")?;
+        tell_description(text, self.description)?;
+        tell!(text; self.name, self.parts, "\n")
     }
 }
 
-/// A definition or extension of a type, behind its word.
-fn tell_part(text: &mut String, word: &str, part: PartView<'_>) -> Result<(), AllocError> {
-    let kind = part.kind();
-    At(part.location).tell(text)?;
-    write!(text, "{word} {kind:?} ")?;
-    if let Some(description) = part.description {
-        description.tell(text)?;
+impl<'a> Tell for SchemaDeclarationRef<'a> {
+    fn tell(&self, text: &mut String) -> Result<(), AllocError> {
+        let word = if self.is_extension {
+            "ext-schema "
+        } else {
+            "schema "
+        };
+        tell!(text; At(self.location), word)?;
+        tell_description(text, self.description)?;
+        tell!(text; self.parts, "\n")
     }
-    tell!(text; part.name, part.directives, part.body, "\n")
 }
 
 impl Tell for Definition {
     fn tell(&self, text: &mut String) -> Result<(), AllocError> {
-        match ItemView::of(self) {
-            ItemView::Defined(part) => tell_part(text, "def", part),
-            ItemView::Extended(part) => tell_part(text, "ext", part),
-            ItemView::SchemaDefined(node) => node.tell(text),
-            ItemView::SchemaExtended(node) => node.tell(text),
-            ItemView::Directive(node) => node.tell(text),
-            ItemView::Operation(node) => node.tell(text),
-            ItemView::Fragment(node) => node.tell(text),
+        match DeclarationRef::of(self) {
+            DeclarationRef::Type(declaration) => declaration.tell(text),
+            DeclarationRef::Schema(declaration) => declaration.tell(text),
+            DeclarationRef::Directive(node) => node.tell(text),
+            DeclarationRef::Operation(node) => node.tell(text),
+            DeclarationRef::Fragment(node) => node.tell(text),
         }
     }
 }

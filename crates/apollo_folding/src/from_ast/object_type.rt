@@ -1,37 +1,38 @@
 //! Object types from what definitions and extensions say.
-ghost use Rattle.std.specs.Prelude.{◌≡◌, [], refl, IfOk};
-ghost use Rattle.apollo_meaning.specs.Items.Parts.{TypeBody, ObjectBody};
+ghost use Rattle.std.specs.Prelude.{refl};
+ghost use Rattle.graphql_nodes.specs.declared.type_kind.TypeKind.TheVariants as kinds;
 ghost use Rattle.apollo_meaning.specs.Types.Meaning.{object_of};
 ghost use Rattle.apollo_types.specs.declared.extended_type.ExtendedType.TheVariants as types;
 ghost use Rattle.apollo_folding.specs.KindParts.{made_of};
-ghost use Rattle.apollo_folding.specs.Views.{part_with};
 
 use crate::from_ast::folding::{fold_directives, fold_named, fold_names};
-use crate::from_ast::kind::Kind;
-use crate::views::{FieldsView, PartView};
+use crate::from_ast::kind::{Kind, description_of};
 use apollo_component::directive_list::DirectiveList;
 use apollo_component::extension::ComponentOrigin;
 use apollo_meaning::build_error::Fault;
 use apollo_meaning::collision::Collection;
 use apollo_types::object_type::ObjectType;
+use graphql_ast::declaration_ref::TypeDeclarationRef;
 use graphql_nodes::collections::hash_keys::HashKeys;
 use graphql_nodes::collections::items::Items;
 use graphql_nodes::collections::key_set::KeySet;
 use graphql_nodes::collections::table::Table;
 use std::alloc::{AllocError, Global};
 
-impl<'a> Kind<FieldsView<'a>> for ObjectType {
-    ghost seen = { λ body. ObjectBody body.interfaces.now body.fields.now };
+impl Kind for ObjectType {
+    ghost kind = { kinds.Object };
 
     ghost made = { object_of };
 
     ghost wrapped = { types.Object };
 
-    fn bare(alloc: Global, keys: HashKeys, head: &PartView<'_>) -> Result<Self, AllocError>
-        ensures { IfOk result (λ ty. (body : TypeBody) → ty ≡ object_of (part_with body head.now) []) }
-    {
+    fn bare(
+        alloc: Global,
+        keys: HashKeys,
+        head: &TypeDeclarationRef<'_>,
+    ) -> Result<Self, AllocError> {
         Ok(ObjectType {
-            description: head.description()?,
+            description: description_of(head)?,
             name: head.name.clone()?,
             implements_interfaces: KeySet::with_keys(alloc, keys),
             directives: DirectiveList::new(alloc),
@@ -41,15 +42,14 @@ impl<'a> Kind<FieldsView<'a>> for ObjectType {
 
     fn fold(
         &mut self,
-        part: &PartView<'_>,
-        body: FieldsView<'a>,
+        part: &TypeDeclarationRef<'_>,
         origin: ComponentOrigin,
         faults: &mut Items<Fault>,
     ) -> Result<(), AllocError> {
-        fold_directives(&mut self.directives, part.directives.as_slice(), origin)?;
+        fold_directives(&mut self.directives, part.parts.directives, origin)?;
         fold_names(
             &mut self.implements_interfaces,
-            body.interfaces.as_slice(),
+            part.parts.names,
             origin,
             Collection::ObjectInterfaces,
             part.name,
@@ -57,7 +57,7 @@ impl<'a> Kind<FieldsView<'a>> for ObjectType {
         )?;
         fold_named(
             &mut self.fields,
-            body.fields.as_slice(),
+            part.parts.fields,
             origin,
             Collection::ObjectFields,
             part.name,
@@ -68,7 +68,7 @@ impl<'a> Kind<FieldsView<'a>> for ObjectType {
 
     ghost copies = { λ x y same. same };
 
-    ghost alike = { λ body node. refl };
+    ghost alike = { λ node. refl };
 
     ghost makes = { λ head done node. made_of head done (types.Object node) };
 }

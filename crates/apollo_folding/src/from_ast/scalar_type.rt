@@ -1,31 +1,35 @@
 //! Scalar types from what definitions and extensions say.
 ghost use Rattle.std.specs.Prelude.{refl};
-ghost use Rattle.apollo_meaning.specs.Items.Parts.{ScalarBody};
+ghost use Rattle.graphql_nodes.specs.declared.type_kind.TypeKind.TheVariants as kinds;
 ghost use Rattle.apollo_meaning.specs.Types.Meaning.{scalar_of};
 ghost use Rattle.apollo_types.specs.declared.extended_type.ExtendedType.TheVariants as types;
 ghost use Rattle.apollo_folding.specs.KindParts.{made_of};
 
 use crate::from_ast::folding::fold_directives;
-use crate::from_ast::kind::Kind;
-use crate::views::PartView;
+use crate::from_ast::kind::{Kind, description_of};
 use apollo_component::directive_list::DirectiveList;
 use apollo_component::extension::ComponentOrigin;
 use apollo_meaning::build_error::Fault;
 use apollo_types::scalar_type::ScalarType;
+use graphql_ast::declaration_ref::TypeDeclarationRef;
 use graphql_nodes::collections::hash_keys::HashKeys;
 use graphql_nodes::collections::items::Items;
 use std::alloc::{AllocError, Global};
 
-impl Kind<()> for ScalarType {
-    ghost seen = { λ body. ScalarBody };
+impl Kind for ScalarType {
+    ghost kind = { kinds.Scalar };
 
     ghost made = { scalar_of };
 
     ghost wrapped = { types.Scalar };
 
-    fn bare(alloc: Global, _keys: HashKeys, head: &PartView<'_>) -> Result<Self, AllocError> {
+    fn bare(
+        alloc: Global,
+        _keys: HashKeys,
+        head: &TypeDeclarationRef<'_>,
+    ) -> Result<Self, AllocError> {
         Ok(ScalarType {
-            description: head.description()?,
+            description: description_of(head)?,
             name: head.name.clone()?,
             directives: DirectiveList::new(alloc),
         })
@@ -33,18 +37,17 @@ impl Kind<()> for ScalarType {
 
     fn fold(
         &mut self,
-        part: &PartView<'_>,
-        _body: (),
+        part: &TypeDeclarationRef<'_>,
         origin: ComponentOrigin,
         _faults: &mut Items<Fault>,
     ) -> Result<(), AllocError> {
-        fold_directives(&mut self.directives, part.directives.as_slice(), origin)?;
+        fold_directives(&mut self.directives, part.parts.directives, origin)?;
         Ok(())
     }
 
     ghost copies = { λ x y same. same };
 
-    ghost alike = { λ body node. refl };
+    ghost alike = { λ node. refl };
 
     ghost makes = { λ head done node. made_of head done (types.Scalar node) };
 }

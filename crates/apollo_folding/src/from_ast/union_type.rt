@@ -1,37 +1,37 @@
 //! Union types from what definitions and extensions say.
-ghost use Rattle.std.specs.Prelude.{◌≡◌, [], refl, IfOk};
-ghost use Rattle.apollo_meaning.specs.Items.Parts.{TypeBody, UnionBody};
+ghost use Rattle.std.specs.Prelude.{refl};
+ghost use Rattle.graphql_nodes.specs.declared.type_kind.TypeKind.TheVariants as kinds;
 ghost use Rattle.apollo_meaning.specs.Types.Meaning.{union_of};
 ghost use Rattle.apollo_types.specs.declared.extended_type.ExtendedType.TheVariants as types;
 ghost use Rattle.apollo_folding.specs.KindParts.{made_of};
-ghost use Rattle.apollo_folding.specs.Views.{part_with};
 
 use crate::from_ast::folding::{fold_directives, fold_names};
-use crate::from_ast::kind::Kind;
-use crate::views::PartView;
+use crate::from_ast::kind::{Kind, description_of};
 use apollo_component::directive_list::DirectiveList;
 use apollo_component::extension::ComponentOrigin;
 use apollo_meaning::build_error::Fault;
 use apollo_meaning::collision::Collection;
 use apollo_types::union_type::UnionType;
+use graphql_ast::declaration_ref::TypeDeclarationRef;
 use graphql_nodes::collections::hash_keys::HashKeys;
 use graphql_nodes::collections::items::Items;
 use graphql_nodes::collections::key_set::KeySet;
-use graphql_nodes::name::Name;
 use std::alloc::{AllocError, Global};
 
-impl<'a> Kind<&'a Items<Name>> for UnionType {
-    ghost seen = { λ members. UnionBody members.now };
+impl Kind for UnionType {
+    ghost kind = { kinds.Union };
 
     ghost made = { union_of };
 
     ghost wrapped = { types.Union };
 
-    fn bare(alloc: Global, keys: HashKeys, head: &PartView<'_>) -> Result<Self, AllocError>
-        ensures { IfOk result (λ ty. (body : TypeBody) → ty ≡ union_of (part_with body head.now) []) }
-    {
+    fn bare(
+        alloc: Global,
+        keys: HashKeys,
+        head: &TypeDeclarationRef<'_>,
+    ) -> Result<Self, AllocError> {
         Ok(UnionType {
-            description: head.description()?,
+            description: description_of(head)?,
             name: head.name.clone()?,
             directives: DirectiveList::new(alloc),
             members: KeySet::with_keys(alloc, keys),
@@ -40,15 +40,14 @@ impl<'a> Kind<&'a Items<Name>> for UnionType {
 
     fn fold(
         &mut self,
-        part: &PartView<'_>,
-        members: &'a Items<Name>,
+        part: &TypeDeclarationRef<'_>,
         origin: ComponentOrigin,
         faults: &mut Items<Fault>,
     ) -> Result<(), AllocError> {
-        fold_directives(&mut self.directives, part.directives.as_slice(), origin)?;
+        fold_directives(&mut self.directives, part.parts.directives, origin)?;
         fold_names(
             &mut self.members,
-            members.as_slice(),
+            part.parts.names,
             origin,
             Collection::UnionMembers,
             part.name,
@@ -59,7 +58,7 @@ impl<'a> Kind<&'a Items<Name>> for UnionType {
 
     ghost copies = { λ x y same. same };
 
-    ghost alike = { λ body node. refl };
+    ghost alike = { λ node. refl };
 
     ghost makes = { λ head done node. made_of head done (types.Union node) };
 }

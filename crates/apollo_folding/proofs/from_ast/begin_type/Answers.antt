@@ -1,7 +1,7 @@
 use Rattle.apollo_meaning.proofs.Prelude.{[], ◌∷◌, ◌++◌, sym, ap, ◌∙◌, append_assoc, TypePart, extended_parts, part_faults, joining_faults}
 use Rattle.apollo_component.specs.declared.extension.ComponentOrigin.TheVariants as origins
 use Rattle.apollo_meaning.proofs.Order.FoldingLemmas.{type_from-ignorable}
-use Rattle.apollo_folding.specs.Views.{part_seen}
+use Rattle.apollo_folding.specs.DeclaredParts.{part_seen}
 use Rattle.apollo_folding.proofs.from_ast.begin_type.Goals as goal
 
 pub returns-clause-faults : goal.returns-clause-faults

@@ -2,7 +2,7 @@ use Rattle.apollo_meaning.proofs.Prelude.{◌≡◌, false, cond, [], ◌∷◌,
 use Rattle.apollo_types.specs.TypeWriteOut.{type_location}
 use Rattle.apollo_meaning.specs.Faults.TypeFaults.{redefinition, built_in_redefinition}
 use Rattle.apollo_meaning.proofs.Order.FoldingLemmas.{type_location-from}
-use Rattle.apollo_folding.specs.Views.{part_seen}
+use Rattle.apollo_folding.specs.DeclaredParts.{part_seen}
 use Rattle.apollo_folding.proofs.redefinition.note_redefinition.Goals as goal
 
 pub returns-then-not-is_built_in : goal.returns-then-not-is_built_in

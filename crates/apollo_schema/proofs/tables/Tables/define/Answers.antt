@@ -1,6 +1,6 @@
 use Rattle.apollo_meaning.proofs.Prelude.{is_some, refl, sym, ap, ◌∙◌, filter_map, err_from_is_err_and, TypePart, extended_part, extended_parts, items_of}
 use Rattle.std.specs.Option.{option_copied}
-use Rattle.apollo_folding.specs.Views.{part_seen}
+use Rattle.apollo_folding.specs.DeclaredParts.{part_seen}
 use Rattle.apollo_schema.proofs.Stands.StandsLemmas.{Stands-again, Stands-new, new-spent}
 use Rattle.apollo_folding.proofs.RefusalLemmas.{RefusedAs-weaker}
 use Rattle.apollo_schema.proofs.tables.Tables.define.Goals as goal

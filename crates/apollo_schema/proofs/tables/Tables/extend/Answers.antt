@@ -1,5 +1,5 @@
 use Rattle.apollo_meaning.proofs.Prelude.{◌≡◌, false, cond, [], ◌∷◌, ◌++◌, Some, is_some, refl, sym, ap, ◌∙◌, lookup, option_copied_mut, err_from_is_err_and, same, by_text, key_of, items_held}
-use Rattle.apollo_folding.specs.Views.{part_seen}
+use Rattle.apollo_folding.specs.DeclaredParts.{part_seen}
 use Rattle.apollo_schema.proofs.Stands.StandsLemmas.{Stands-early, Stands-late, late-spent}
 use Rattle.apollo_folding.proofs.RefusalLemmas.{RefusedAs-weaker}
 use Rattle.apollo_schema.proofs.tables.Tables.extend.Goals as goal
