@@ -15,6 +15,7 @@ pub mod laws;
 mod prepared;
 mod rebuilding;
 pub mod report;
+pub mod source_files;
 pub mod text;
 mod typing;
 
