@@ -1,3 +1,4 @@
 pub mod Compilation
 pub mod Headline
 pub mod Lists
+pub mod SourceFiles

@@ -18,6 +18,7 @@ pub mod laws;
 mod prepared;
 mod rebuilding;
 pub mod report;
+pub mod source_files;
 pub mod text;
 mod typing;
 

@@ -1,5 +1,6 @@
 //! GraphQL text as trees, and trees as GraphQL text: GraphQL specification of October 2021, section 2 and appendix B.
 
+pub use crate::source_files::parse_file;
 pub use graphql_printing::members::{
     enum_value, enum_value_text, field, field_text, input_value, input_value_text,
 };

@@ -2,3 +2,4 @@ mod Boundaries
 mod JsonLemmas
 mod SaidLemmas
 mod SourceLemmas
+mod VisibleLemmas

@@ -78,9 +78,9 @@ location_text None files = []
 abbrev pub gutter_of : Option SourceSpan → Files → ℕ
 gutter_of location files = gutter (starts location files)
 
--- the line of a path, as ` = path: query Q → user → id`, or nothing where there is none
+-- the line of a path as it is shown, as ` = path: query Q → user → id`, or nothing where there is none
 unfoldable pub path_line : ℕ → Option SelectionPath → List ℕ
-path_line width (Some path) = line_begin width ++ codes " = path: " ++ path_text path ++ codes "\n"
+path_line width (Some path) = line_begin width ++ codes " = path: " ++ visible (path_text path) ++ codes "\n"
 path_line width None = []
 
 -- an earlier place, and its line, or nothing where there is none

@@ -22,6 +22,7 @@ pub mod source_lines;
 pub mod sources;
 mod span_writing;
 pub mod text_errors;
+mod visible_value;
 mod window;
 mod writing;
 

@@ -1,6 +1,7 @@
 //! Reports of faults, in the form that compilers use.
 ghost use Rattle.std.specs.Prelude.{◌≡◌, IfOk, Some, option_map, string_bytes};
 ghost use Rattle.std.specs.Fmt.{WritesOnOk};
+ghost use Rattle.graphql_nodes.specs.VisibleTexts.{visible};
 ghost use Rattle.apollo_reporting.specs.Abouts.{about_view};
 ghost use Rattle.apollo_reporting.specs.Places.{starts};
 ghost use Rattle.apollo_reporting.specs.Reports.{lines_behind, location_text, note_text, path_line, report_text};
@@ -11,6 +12,7 @@ use crate::places::start;
 use crate::reported::Reported;
 use crate::sources::Sources;
 use crate::span_writing::{gutter, write_span};
+use crate::visible_value::visible_value;
 use crate::writing::write_line_begin;
 use apollo_document::selection_path::SelectionPath;
 use graphql_nodes::line_column::LineColumn;
@@ -40,8 +42,8 @@ use std::fmt::{Formatter, Write};
 /// form, behind `note:` and what stands there. Where the sources lack the file, or its text ends before, the
 /// line isn't shown.
 ///
-/// The file's name and its lines are written as [`visible`] shows them, with no control character but tab. The sentence and
-/// the path are written as the fault has them; [`report_text`] shows the sentence as [`visible`] does.
+/// The sentence, the file's name, its lines and the path are written as [`visible`] shows them, with no control character
+/// but tab.
 pub struct FaultReport<'s, 'f, S, E> {
     pub sources: &'s S,
     pub location: Option<SourceSpan>,
@@ -78,7 +80,9 @@ pub fn report<'s, 'f, S: Sources, E: Reported>(
 }
 
 impl<S: Sources, E: Reported> fmt::Display for FaultReport<'_, '_, S, E> {
-    ghost output = { λ it. option_map (report_text (S.files it.sources.now) it.location (E.said_about it.fault.now)) (E.output it.fault.now) };
+    ghost output = { λ it. option_map
+        (λ said. report_text (S.files it.sources.now) it.location (E.said_about it.fault.now) (visible said))
+        (E.output it.fault.now) };
 
     fn fmt<W: Write>(&self, f: &mut Formatter<W>) -> fmt::Result {
         let about = self.fault.about();
@@ -87,12 +91,11 @@ impl<S: Sources, E: Reported> fmt::Display for FaultReport<'_, '_, S, E> {
             location: self.location,
             about: &about,
         };
-        write!(f, "error: {}\n{behind}", self.fault)
+        write!(f, "error: {}\n{behind}", visible_value(self.fault))
     }
 }
 
-/// The report of a fault, as the `Display` of [`report`] writes it, with its sentence as [`visible`] shows it. The error is
-/// out of memory.
+/// The report of a fault, as the `Display` of [`report`] writes it. The error is out of memory.
 ///
 /// For many faults make [`SourceLines`](crate::source_lines::SourceLines) of the sources first.
 #[tactic(auto, using(crate::proofs::SaidLemmas::of_said))]
@@ -182,7 +185,7 @@ fn write_path<W: Write>(
     match path {
         Some(path) => {
             write_line_begin(f, width)?;
-            write!(f, " = path: {path}\n")
+            write!(f, " = path: {}\n", visible_value(path))
         }
         None => Ok(()),
     }

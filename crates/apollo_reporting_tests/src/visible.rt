@@ -1,8 +1,10 @@
-//! Reports of texts and paths with control characters.
+//! Reports of texts, paths and names with control characters.
 
 use crate::made::{Form, reported, sources_of};
-use apollo_compiler::{FileId, SourceSpan};
+use apollo_compiler::collections::Items;
+use apollo_compiler::{FileId, Name, SourceMap, SourceSpan};
 use apollo_meaning::build_error::BuildError;
+use leafcheck::{ExecutableDefinitionName, LeafFault, LeafKind, SelectionPath};
 use std::alloc::{AllocError, Global};
 
 /// The first character of the file.
@@ -32,6 +34,45 @@ fn control_characters_are_not_written(rt: HostRuntime) {
    |
  1 | \u{fffd}\t\u{fffd}\u{fffd}√
    | ^
+")
+    );
+}
+
+/// A name that is none of GraphQL.
+fn name(alloc: Global) -> Result<Name, AllocError> {
+    Name::new_unchecked(alloc, "\x1b[31m")
+}
+
+/// The report of a field of that name, in a fragment of that name. It stands nowhere.
+fn report_of_names(alloc: Global) -> Result<String, AllocError> {
+    let mut nested_fields = Items::new(alloc);
+    nested_fields.push(name(alloc)?)?;
+    let fault = LeafFault {
+        location: None,
+        parent_type: name(alloc)?,
+        response_key: name(alloc)?,
+        path: SelectionPath {
+            root: ExecutableDefinitionName::Fragment(name(alloc)?),
+            nested_fields,
+        },
+        kind: LeafKind::SubselectionOnLeaf,
+    };
+    reported(
+        alloc,
+        Form::Text,
+        &SourceMap::new(alloc),
+        fault.location,
+        &fault,
+    )
+}
+
+#[test]
+fn control_characters_of_names_are_not_written(rt: HostRuntime) {
+    let report = report_of_names(rt.alloc());
+    assert!(rt;
+        report.is_ok_and(|text| text.as_str()
+            == "error: `\u{fffd}[31m`: a field of scalar or enum type must not have subselections
+   = path: fragment \u{fffd}[31m → \u{fffd}[31m
 ")
     );
 }

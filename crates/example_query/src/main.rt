@@ -2,24 +2,21 @@
 #![tactic(auto)]
 
 use anyhow::{Context, Result};
-use apollo_compiler::collections::Shared;
 use apollo_compiler::report::report_text;
-use apollo_compiler::text::{ParseOptions, parse_document, ty};
+use apollo_compiler::text::{ParseOptions, parse_file, ty};
 use apollo_compiler::usage::field_usage;
 use apollo_compiler::{
-    CompileOptions, Document, ExecutableOptions, FileId, HashKeys, SourceFile, SourceMap,
-    build_executable_document, build_schema,
+    CompileOptions, Document, ExecutableOptions, HashKeys, SourceMap, build_executable_document,
+    build_schema,
 };
 use leafcheck::leaf_faults;
 use std::{env, fs};
 
 /// The document of a file of GraphQL text. The sources keep the text, for reports.
-fn read(rt: &HostRuntime, sources: &mut SourceMap, number: FileId, path: &str) -> Result<Document> {
+fn read(rt: &HostRuntime, sources: &mut SourceMap, path: &str) -> Result<Document> {
     let alloc = rt.alloc();
     let text = fs::read_to_string(rt, path).context("reading a file")?;
-    let file = Shared::new(alloc, SourceFile::new(alloc, path, text.as_str())?)?;
-    sources.insert(number, file.clone()?)?;
-    match parse_document(alloc, number, &file, ParseOptions::new()) {
+    match parse_file(alloc, sources, path, text.as_str(), ParseOptions::new()) {
         Ok(document) => Ok(document),
         Err(error) => {
             rt.print(report_text(alloc, sources, Some(error.location), &error)?)?;
@@ -33,14 +30,14 @@ fn main(rt: HostRuntime) -> Result<()> {
     let mut paths = env::args(&rt)?.skip(1);
     let mut sources = SourceMap::new(alloc);
     let path = paths.next().context("no schema")?;
-    let documents = [read(&rt, &mut sources, FileId(1), path.as_str())?];
+    let documents = [read(&rt, &mut sources, path.as_str())?];
     let keys = HashKeys::drawn(&rt)?;
     let (schema, faults) = build_schema(alloc, keys, CompileOptions::none(), &documents)?;
     for (location, fault) in faults.iter() {
         rt.print(report_text(alloc, &sources, *location, fault)?)?;
     }
     let path = paths.next().context("no query")?;
-    let documents = [read(&rt, &mut sources, FileId(2), path.as_str())?];
+    let documents = [read(&rt, &mut sources, path.as_str())?];
     let options = ExecutableOptions::none();
     let (query, faults) = build_executable_document(alloc, &schema, options, &documents)?;
     for (location, fault) in faults.iter() {

@@ -3,12 +3,9 @@
 #![tactic(auto)]
 
 use anyhow::{Context, Result, ensure};
-use apollo_compiler::collections::Shared;
 use apollo_compiler::report::report_text;
-use apollo_compiler::text::{ParseOptions, definitions_text, parse_document};
-use apollo_compiler::{
-    CompileOptions, Document, FileId, HashKeys, Schema, SourceFile, build_schema,
-};
+use apollo_compiler::text::{ParseOptions, definitions_text, parse_file};
+use apollo_compiler::{CompileOptions, Document, HashKeys, Schema, SourceMap, build_schema};
 use std::alloc::Global;
 use std::{env, fs};
 
@@ -17,18 +14,14 @@ const ADOPTING: CompileOptions = CompileOptions {
     ignore_builtin_redefinitions: false,
 };
 
-/// The document of a text, which is the file of this number.
-fn parse(alloc: Global, number: usize, path: &str, text: &str) -> Result<Document> {
-    let file = Shared::new(alloc, SourceFile::new(alloc, path, text)?)?;
-    Ok(parse_document(alloc, FileId(number as u64), &file, ParseOptions::new())?)
-}
-
-/// The documents of the files that the command line names, numbered from 1.
+/// The documents of the files that the command line names.
 fn documents(rt: &HostRuntime) -> Result<Vec<Document>> {
-    let mut documents = Vec::new(rt.alloc());
-    for (number, path) in env::args(rt)?.enumerate().skip(1) {
+    let (alloc, options) = (rt.alloc(), ParseOptions::new());
+    let mut sources = SourceMap::new(alloc);
+    let mut documents = Vec::new(alloc);
+    for path in env::args(rt)?.skip(1) {
         let text = fs::read_to_string(rt, path.as_str()).context("reading a file")?;
-        let document = parse(rt.alloc(), number, path.as_str(), text.as_str());
+        let document = parse_file(alloc, &mut sources, path.as_str(), text.as_str(), options);
         documents.push(document.context(path)?)?;
     }
     Ok(documents)
@@ -41,7 +34,8 @@ fn schema_text(alloc: Global, schema: &Schema) -> Result<String> {
 
 /// Whether the text of a schema, built again, has no fault, and makes an equal schema with the same text. It is proved that it does.
 fn is_canonical(alloc: Global, keys: HashKeys, schema: &Schema, text: &str) -> Result<bool> {
-    let documents = [parse(alloc, 1, "schema.graphql", text)?];
+    let (mut sources, options) = (SourceMap::new(alloc), ParseOptions::new());
+    let documents = [parse_file(alloc, &mut sources, "schema.graphql", text, options)?];
     let (again, faults) = build_schema(alloc, keys, ADOPTING, &documents)?;
     let text_again = schema_text(alloc, &again)?;
     Ok(faults.is_empty() && again == *schema && text_again.as_str() == text)
