@@ -1,9 +1,10 @@
 -- What components add to the item that is being read: docs/NOTATION.md.
 use Rattle.std.specs.Prelude.{ℕ, ◌-◌, List, [], ◌∷◌, ◌++◌, length, slice_get, Bool, true, false, Option, None, Some, option_map}
-use Rattle.graphql_ast.specs.DefinitionParts.{no_parts, with_part, type_definition, type_extension, schema_definition, schema_extension}
-use Rattle.graphql_ast.specs.declared.definition_parts.DefinitionPart.{DefinitionPart}
-use Rattle.graphql_ast.specs.declared.definition_parts.DefinitionPart.TheVariants as p
-use Rattle.graphql_ast.specs.declared.definition_parts.DefinitionParts.{DefinitionParts}
+use Rattle.graphql_ast.specs.Declarations.{made_type, made_schema}
+use Rattle.graphql_ast.specs.Parts.{directive_list, no_parts, with_part}
+use Rattle.graphql_ast.specs.declared.parts.Part.{Part}
+use Rattle.graphql_ast.specs.declared.parts.Part.TheVariants as p
+use Rattle.graphql_ast.specs.declared.parts.Parts.{Parts}
 use Rattle.graphql_nodes.specs.NameView.{NameView}
 use Rattle.graphql_nodes.specs.NodeView.{NodeView}
 use Rattle.graphql_nodes.specs.declared.operation_type.OperationType.{OperationType}
@@ -18,13 +19,13 @@ use Rattle.graphql_ast.specs.declared.type_system.InputValueDefinition.{InputVal
 use Rattle.graphql_ast.specs.declared.definition.Definition.{Definition}
 use Rattle.graphql_ast.specs.declared.definition.Definition.TheVariants as d
 use Rattle.graphql_ast.specs.declared.selection.Selection.{Selection}
+use Rattle.bench_notation.specs.HeaderWords.{is_extension}
 use Rattle.bench_notation.specs.Nesting.{levels_below, selections_at}
 use Rattle.bench_notation.specs.declared.selection_line.SelectionLine.{SelectionLine}
 use Rattle.bench_notation.specs.declared.executable_header.ExecutableHeader.{ExecutableHeader}
 use Rattle.bench_notation.specs.declared.executable_header.ExecutableHeader.TheVariants as x
 use Rattle.bench_notation.specs.declared.above.Above.{Above}
 use Rattle.bench_notation.specs.declared.above.Above.TheVariants as a
-use Rattle.bench_notation.specs.declared.kind_words.Role.TheVariants as r
 use Rattle.bench_notation.specs.declared.line.Header.{Header}
 use Rattle.bench_notation.specs.declared.line.Header.TheVariants as h
 use Rattle.bench_notation.specs.declared.line.Component.{Component}
@@ -108,12 +109,12 @@ is_input_object (h.Type role k.InputObject name) = true
 is_input_object _ = false
 
 -- a field as a part of an input object type, or of another
-abbrev pub field_part : Bool → OpenField → DefinitionPart
+abbrev pub field_part : Bool → OpenField → Part
 field_part true field = p.InputField (input_field_node field)
 field_part false field = p.Field (field_node field)
 
 -- a field more, if there is one
-abbrev pub with_last : Bool → Option OpenField → DefinitionParts → DefinitionParts
+abbrev pub with_last : Bool → Option OpenField → Parts → Parts
 with_last is_input None parts = parts
 with_last is_input (Some field) parts = with_part (field_part is_input field) parts
 
@@ -139,7 +140,7 @@ abbrev pub with_argument : NodeView InputValueDefinition → OpenItem → OpenIt
 with_argument argument item = with_argument_below argument item.last_field item
 
 -- an item and one part more
-abbrev pub with_own_part : DefinitionPart → OpenItem → OpenItem
+abbrev pub with_own_part : Part → OpenItem → OpenItem
 with_own_part part item = record item { parts = with_part part item.parts }
 
 -- an item and one component more
@@ -166,13 +167,24 @@ executable_definition (x.Operation operation name) directives selections locatio
 executable_definition (x.Fragment name condition) directives selections location = d.FragmentDefinition (node_at location record { name = name; type_condition = condition; directives = directives; selection_set = selections })
 
 -- the definition or extension of a header with these components
-abbrev pub definition_with : Header → DefinitionParts → DirectiveParts → List SelectionLine → SourceSpan → Definition
-definition_with (h.Type r.Definition kind name) parts directive lines location = type_definition kind None name parts (Some location)
-definition_with (h.Type r.Extension kind name) parts directive lines location = type_extension kind name parts (Some location)
+abbrev pub definition_with : Header → Parts → DirectiveParts → List SelectionLine → SourceSpan → Definition
+definition_with (h.Type role kind name) parts directive lines location = made_type (record {
+  kind = kind;
+  name = name;
+  is_extension = is_extension role;
+  description = None;
+  location = Some location;
+  parts = parts;
+})
 definition_with (h.Directive name) parts directive lines location = directive_definition name directive location
-definition_with (h.Schema r.Definition) parts directive lines location = schema_definition None parts (Some location)
-definition_with (h.Schema r.Extension) parts directive lines location = schema_extension parts (Some location)
-definition_with (h.Executable header) parts directive lines location = executable_definition header parts.directives (selections_at 0 lines) location
+definition_with (h.Schema role) parts directive lines location = made_schema (record {
+  is_extension = is_extension role;
+  description = None;
+  location = Some location;
+  parts = parts;
+})
+definition_with (h.Executable header) parts directive lines location =
+    executable_definition header (directive_list parts) (selections_at 0 lines) location
 
 -- the definition or extension that an item says
 abbrev pub whole_item : OpenItem → Definition

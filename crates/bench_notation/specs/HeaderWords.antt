@@ -1,10 +1,20 @@
 -- The words with which headers begin: docs/NOTATION.md.
-use Rattle.std.specs.Prelude.{ℕ, List, Option, None, Some, codes}
+use Rattle.std.specs.Prelude.{ℕ, List, Bool, true, false, Option, None, Some, codes}
 use Rattle.graphql_nodes.specs.NameView.{NameView}
 use Rattle.graphql_nodes.specs.declared.type_kind.TypeKind.{TypeKind}
 use Rattle.graphql_nodes.specs.declared.type_kind.TypeKind.TheVariants as k
 use Rattle.bench_notation.specs.declared.kind_words.Role.{Role}
 use Rattle.bench_notation.specs.declared.kind_words.Role.TheVariants as r
+
+-- whether a header begins an extension
+abbrev pub is_extension : Role → Bool
+is_extension r.Definition = false
+is_extension r.Extension = true
+
+-- that of an extension where the flag is set
+abbrev pub role_of : Bool → Role
+role_of true = r.Extension
+role_of false = r.Definition
 
 -- the header of a definition of a type, and that of an extension
 abbrev pub role_word : Role → List ℕ

@@ -9,6 +9,7 @@ use Rattle.graphql_nodes.specs.declared.directive_location.DirectiveLocation.{Di
 use Rattle.graphql_nodes.specs.declared.operation_type.OperationType.{OperationType}
 use Rattle.graphql_nodes.specs.declared.type_kind.TypeKind.{TypeKind}
 use Rattle.graphql_nodes.specs.declared.type_kind.TypeKind.TheVariants as k
+use Rattle.graphql_ast.specs.Declarations.{Declaration, OfType, OfSchema, OfDirective, OfOperation, OfFragment, declaration_of}
 use Rattle.graphql_ast.specs.declared.type_reference.Type.{«Type» as TypeReference, fold-Type}
 use Rattle.graphql_ast.specs.declared.type_reference.Type.TheOpen.{Type-F}
 use Rattle.graphql_ast.specs.declared.directive.Directive.{Directive}
@@ -19,11 +20,10 @@ use Rattle.graphql_ast.specs.declared.type_system.InputValueDefinition.{InputVal
 use Rattle.graphql_ast.specs.declared.operation.OperationDefinition.{OperationDefinition}
 use Rattle.graphql_ast.specs.declared.operation.FragmentDefinition.{FragmentDefinition}
 use Rattle.graphql_ast.specs.declared.definition.Definition.{Definition}
-use Rattle.graphql_ast.specs.declared.definition.Definition.TheVariants as d
+use Rattle.graphql_ast.specs.declared.parts.Parts.{Parts}
 use Rattle.bench_notation.specs.SelectionText.{selections_text}
 use Rattle.bench_notation.specs.declared.kind_words.Role.{Role}
-use Rattle.bench_notation.specs.declared.kind_words.Role.TheVariants as r
-use Rattle.bench_notation.specs.HeaderWords.{role_word, schema_word, kind_word, name_word}
+use Rattle.bench_notation.specs.HeaderWords.{role_of, role_word, schema_word, kind_word, name_word}
 
 -- the text at one level, where what is inside a list has given its own
 abbrev pub type_step : Type-F (List ℕ) → List ℕ
@@ -132,49 +132,35 @@ fragment_head_text item = codes "fragment " ++ item.name.text ++ named_line (cod
 abbrev pub directive_body_text : DirectiveDefinition → List ℕ
 directive_body_text item = arguments_text item.arguments ++ repeatable_text item.repeatable ++ locations_text item.locations
 
+-- what a type of this kind has besides directives
+abbrev pub parts_text : TypeKind → Parts → List ℕ
+parts_text k.Scalar parts = []
+parts_text k.Object parts = fields_text parts.names parts.fields
+parts_text k.Interface parts = fields_text parts.names parts.fields
+parts_text k.Union parts = names_text (codes "member ") parts.names
+parts_text k.Enum parts = values_text parts.values
+parts_text k.InputObject parts = input_fields_text parts.input_fields
+
 -- the header of a definition or extension, then its directives
-abbrev pub header_text : Definition → List ℕ
-header_text (d.OperationDefinition n) = operation_head_text n.value
-header_text (d.FragmentDefinition n) = fragment_head_text n.value
-header_text (d.DirectiveDefinition n) = named_line (codes "directive ") n.value.name
-header_text (d.SchemaDefinition n) = schema_head_text r.Definition n.value.directives.0
-header_text (d.ScalarTypeDefinition n) = type_head_text r.Definition k.Scalar n.value.name n.value.directives.0
-header_text (d.ObjectTypeDefinition n) = type_head_text r.Definition k.Object n.value.name n.value.directives.0
-header_text (d.InterfaceTypeDefinition n) = type_head_text r.Definition k.Interface n.value.name n.value.directives.0
-header_text (d.UnionTypeDefinition n) = type_head_text r.Definition k.Union n.value.name n.value.directives.0
-header_text (d.EnumTypeDefinition n) = type_head_text r.Definition k.Enum n.value.name n.value.directives.0
-header_text (d.InputObjectTypeDefinition n) = type_head_text r.Definition k.InputObject n.value.name n.value.directives.0
-header_text (d.SchemaExtension n) = schema_head_text r.Extension n.value.directives.0
-header_text (d.ScalarTypeExtension n) = type_head_text r.Extension k.Scalar n.value.name n.value.directives.0
-header_text (d.ObjectTypeExtension n) = type_head_text r.Extension k.Object n.value.name n.value.directives.0
-header_text (d.InterfaceTypeExtension n) = type_head_text r.Extension k.Interface n.value.name n.value.directives.0
-header_text (d.UnionTypeExtension n) = type_head_text r.Extension k.Union n.value.name n.value.directives.0
-header_text (d.EnumTypeExtension n) = type_head_text r.Extension k.Enum n.value.name n.value.directives.0
-header_text (d.InputObjectTypeExtension n) = type_head_text r.Extension k.InputObject n.value.name n.value.directives.0
+abbrev pub header_text : Declaration → List ℕ
+header_text (OfType t) = type_head_text (role_of t.is_extension) t.kind t.name t.parts.directives
+header_text (OfSchema s) = schema_head_text (role_of s.is_extension) s.parts.directives
+header_text (OfDirective n) = named_line (codes "directive ") n.value.name
+header_text (OfOperation n) = operation_head_text n.value
+header_text (OfFragment n) = fragment_head_text n.value
 
 -- the lines below the header of a definition or extension
-abbrev pub body_text : Definition → List ℕ
-body_text (d.OperationDefinition n) = selections_text 0 n.value.selection_set
-body_text (d.FragmentDefinition n) = selections_text 0 n.value.selection_set
-body_text (d.DirectiveDefinition n) = directive_body_text n.value
-body_text (d.SchemaDefinition n) = roots_text n.value.root_operations
-body_text (d.ScalarTypeDefinition n) = []
-body_text (d.ObjectTypeDefinition n) = fields_text n.value.implements_interfaces n.value.fields
-body_text (d.InterfaceTypeDefinition n) = fields_text n.value.implements_interfaces n.value.fields
-body_text (d.UnionTypeDefinition n) = names_text (codes "member ") n.value.members
-body_text (d.EnumTypeDefinition n) = values_text n.value.values
-body_text (d.InputObjectTypeDefinition n) = input_fields_text n.value.fields
-body_text (d.SchemaExtension n) = roots_text n.value.root_operations
-body_text (d.ScalarTypeExtension n) = []
-body_text (d.ObjectTypeExtension n) = fields_text n.value.implements_interfaces n.value.fields
-body_text (d.InterfaceTypeExtension n) = fields_text n.value.implements_interfaces n.value.fields
-body_text (d.UnionTypeExtension n) = names_text (codes "member ") n.value.members
-body_text (d.EnumTypeExtension n) = values_text n.value.values
-body_text (d.InputObjectTypeExtension n) = input_fields_text n.value.fields
+abbrev pub body_text : Declaration → List ℕ
+body_text (OfType t) = parts_text t.kind t.parts
+body_text (OfSchema s) = roots_text s.parts.roots
+body_text (OfDirective n) = directive_body_text n.value
+body_text (OfOperation n) = selections_text 0 n.value.selection_set
+body_text (OfFragment n) = selections_text 0 n.value.selection_set
 
 -- a definition or extension: its header, then the lines below it
 abbrev pub printed_definition : Definition → List ℕ
-printed_definition definition = header_text definition ++ body_text definition
+printed_definition definition =
+    header_text (declaration_of definition) ++ body_text (declaration_of definition)
 
 -- definitions, in order
 abbrev pub printed_definitions : List Definition → List ℕ

@@ -4,15 +4,15 @@ ghost use Rattle.bench_notation.specs.Components.{is_input_object};
 
 use crate::above::Above;
 use crate::directive_parts::DirectiveParts;
-use crate::kind_words::Role;
 use crate::line::{Component, Header};
 use crate::nesting::nested;
 use crate::nodes::{applied_directive, enum_value, input_value, root_operation};
 use crate::open_field::OpenField;
 use crate::selection_line::SelectionLine;
+use graphql_ast::declaration::{SchemaDeclaration, TypeDeclaration};
 use graphql_ast::definition::Definition;
-use graphql_ast::definition_parts::{DefinitionPart, DefinitionParts};
 use graphql_ast::directive::{Directive, DirectiveList};
+use graphql_ast::parts::{Part, Parts};
 use graphql_ast::type_reference::Type;
 use graphql_nodes::collections::items::Items;
 use graphql_nodes::name::Name;
@@ -27,7 +27,7 @@ pub struct OpenItem {
     location: SourceSpan,
     header: Header,
     /// The components, without the last field, and without those that a directive's definition alone has.
-    parts: DefinitionParts,
+    parts: Parts,
     directive: DirectiveParts,
     last_field: Option<OpenField>,
     /// The lines of selections, which an operation or fragment alone has.
@@ -58,7 +58,7 @@ impl OpenItem {
         OpenItem {
             location,
             header,
-            parts: DefinitionParts::new(alloc),
+            parts: Parts::new(alloc),
             directive: DirectiveParts::new(alloc),
             last_field: None,
             selections: Items::new(alloc),
@@ -101,10 +101,10 @@ impl OpenItem {
         match component {
             Component::Directive(name) => {
                 let directive = applied_directive(alloc, name, location)?;
-                self.parts.push(DefinitionPart::Directive(directive))
+                self.parts.push(Part::Directive(directive))
             }
             Component::Implements(name) | Component::Member(name) => {
-                self.parts.push(DefinitionPart::Name(name))
+                self.parts.push(Part::Name(name))
             }
             Component::Field(name, ty) => self.open_field(alloc, name, ty, location),
             Component::FieldDirective(name) => {
@@ -114,7 +114,7 @@ impl OpenItem {
             Component::Argument(name, ty) => self.add_argument(alloc, name, ty, location),
             Component::Value(name) => {
                 let value = enum_value(alloc, name, location)?;
-                self.parts.push(DefinitionPart::EnumValue(value))
+                self.parts.push(Part::EnumValue(value))
             }
             Component::On(location) => self.directive.locations.push(location),
             Component::Repeatable => {
@@ -123,7 +123,7 @@ impl OpenItem {
             }
             Component::Root(operation, name) => {
                 let root = root_operation(alloc, operation, name, location)?;
-                self.parts.push(DefinitionPart::Root(root))
+                self.parts.push(Part::Root(root))
             }
             Component::Selection(depth, selected) => self.selections.push(SelectionLine {
                 depth,
@@ -194,20 +194,31 @@ impl OpenItem {
             parts.push(field.close_as_part(alloc, is_input_object(&header))?)?;
         }
         match header {
-            Header::Type(Role::Definition, kind, name) => {
-                parts.into_definition(alloc, kind, None, name, Some(location))
-            }
-            Header::Type(Role::Extension, kind, name) => {
-                parts.into_extension(alloc, kind, name, Some(location))
+            Header::Type(role, kind, name) => {
+                let declaration = TypeDeclaration {
+                    kind,
+                    name,
+                    is_extension: role.is_extension(),
+                    description: None,
+                    location: Some(location),
+                    parts,
+                };
+                declaration.into_definition(alloc)
             }
             Header::Directive(name) => directive.into_definition(alloc, name, location),
-            Header::Schema(Role::Definition) => {
-                parts.into_schema_definition(alloc, None, Some(location))
+            Header::Schema(role) => {
+                let declaration = SchemaDeclaration {
+                    is_extension: role.is_extension(),
+                    description: None,
+                    location: Some(location),
+                    parts,
+                };
+                declaration.into_definition(alloc)
             }
-            Header::Schema(Role::Extension) => parts.into_schema_extension(alloc, Some(location)),
             Header::Executable(header) => {
-                let directives = mem::replace(&mut parts.directives, DirectiveList::new(alloc));
-                header.into_definition(alloc, directives, nested(alloc, selections)?, location)
+                let directives = mem::replace(&mut parts.directives, Items::new(alloc));
+                let selections = nested(alloc, selections)?;
+                header.into_definition(alloc, DirectiveList(directives), selections, location)
             }
         }
     }

@@ -1,7 +1,7 @@
 //! The words with which headers begin, and the words of kinds.
 ghost use Rattle.std.specs.Prelude.{◌≡◌, ◌≢◌, MatchOption};
 ghost use Rattle.graphql_nodes.specs.OperationTexts.{operation_text};
-ghost use Rattle.bench_notation.specs.HeaderWords.{role_word, schema_word, kind_word};
+ghost use Rattle.bench_notation.specs.HeaderWords.{is_extension, role_of, role_word, schema_word, kind_word};
 
 use graphql_nodes::operation_type::OperationType;
 use graphql_nodes::type_kind::TypeKind;
@@ -14,6 +14,24 @@ pub enum Role {
 }
 
 impl Role {
+    /// That of an extension where this is set, and else that of a definition.
+    pub fn of(is_extension: bool) -> Role
+        ensures { result ≡ role_of is_extension }
+    {
+        if is_extension {
+            Role::Extension
+        } else {
+            Role::Definition
+        }
+    }
+
+    /// Whether it is an extension.
+    pub fn is_extension(self) -> bool
+        ensures { result ≡ is_extension self }
+    {
+        matches!(self, Role::Extension)
+    }
+
     /// The first word of a type's header.
     pub fn word(self) -> &'static str
         ensures { result.now ≡ role_word self }

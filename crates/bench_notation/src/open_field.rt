@@ -2,8 +2,8 @@
 ghost use Rattle.std.specs.Prelude.{◌≡◌, IfOk};
 
 use crate::nodes::input_value;
-use graphql_ast::definition_parts::DefinitionPart;
 use graphql_ast::directive::DirectiveList;
+use graphql_ast::parts::Part;
 use graphql_ast::type_reference::Type;
 use graphql_ast::type_system::{FieldDefinition, InputValueDefinition};
 use graphql_nodes::collections::items::Items;
@@ -85,13 +85,13 @@ impl OpenField {
     }
 
     /// The field as a part of an input object type, or of another. The error is out of memory.
-    pub fn close_as_part(self, alloc: Global, is_input: bool) -> Result<DefinitionPart, AllocError>
+    pub fn close_as_part(self, alloc: Global, is_input: bool) -> Result<Part, AllocError>
         ensures { IfOk result (λ part. part ≡ field_part is_input self) }
     {
         Ok(if is_input {
-            DefinitionPart::InputField(self.close_as_input(alloc)?)
+            Part::InputField(self.close_as_input(alloc)?)
         } else {
-            DefinitionPart::Field(self.close(alloc)?)
+            Part::Field(self.close(alloc)?)
         })
     }
 }

@@ -1,19 +1,21 @@
 //! Definitions as text.
 ghost use Rattle.std.specs.Prelude.{◌≡◌, ◌++◌, OnOk, IfOk, codes, string_bytes};
-ghost use Rattle.bench_notation.specs.declared.kind_words.Role.{Role};
-ghost use Rattle.bench_notation.specs.Text.{word_line, named_line, typed_line, directives_text, names_text, arguments_text, field_line_text, field_definition_text, fields_text, input_fields_text, values_text, type_head_text, schema_head_text, operation_head_text, fragment_head_text, header_text, body_text, directive_body_text, root_text, roots_text, printed_definition, printed_definitions};
+ghost use Rattle.graphql_ast.specs.DeclarationsSeen.{declaration_seen};
+ghost use Rattle.graphql_ast.specs.PartsSeen.{parts_seen};
+ghost use Rattle.bench_notation.specs.Text.{word_line, named_line, typed_line, directives_text, names_text, arguments_text, field_line_text, field_definition_text, fields_text, input_fields_text, parts_text, values_text, type_head_text, schema_head_text, operation_head_text, fragment_head_text, header_text, body_text, directive_body_text, root_text, roots_text, printed_definition, printed_definitions};
 
 use crate::kind_words::{Role, kind_word};
 use crate::selection_printing::push_selections;
 use crate::type_notation::push_type;
+use graphql_ast::declaration_ref::DeclarationRef;
 use graphql_ast::definition::Definition;
-use graphql_ast::directive::{Directive, DirectiveList};
+use graphql_ast::directive::Directive;
 use graphql_ast::operation::{FragmentDefinition, OperationDefinition};
+use graphql_ast::parts::PartsRef;
 use graphql_ast::type_reference::Type;
 use graphql_ast::type_system::{
     DirectiveDefinition, EnumValueDefinition, FieldDefinition, InputValueDefinition,
 };
-use graphql_nodes::collections::items::Items;
 use graphql_nodes::name::{Name, NamedType};
 use graphql_nodes::node::Node;
 use graphql_nodes::operation_type::OperationType;
@@ -39,123 +41,57 @@ fn push_definition(
 ) -> Result<(), AllocError>
     ensures { OnOk result (string_bytes text.new ≡ string_bytes text.old ++ printed_definition definition.now) }
 {
-    push_header(text, definition)?;
-    push_body(alloc, text, definition)
+    let said = DeclarationRef::of(definition);
+    push_header(text, &said)?;
+    push_body(alloc, text, &said)
 }
 
 /// The header of a definition or extension, and its own directives.
-fn push_header(text: &mut String, definition: &Definition) -> Result<(), AllocError>
-    ensures { OnOk result (string_bytes text.new ≡ string_bytes text.old ++ header_text definition.now) }
+fn push_header(text: &mut String, said: &DeclarationRef<'_>) -> Result<(), AllocError>
+    ensures { OnOk result (string_bytes text.new ≡ string_bytes text.old ++ header_text (declaration_seen said.now)) }
 {
-    match definition {
-        Definition::DirectiveDefinition(item) => push_named_line(text, "directive ", &item.name),
-        Definition::ScalarTypeDefinition(item) => {
-            push_definition_head(text, TypeKind::Scalar, &item.name, &item.directives)
+    match said {
+        DeclarationRef::Type(said) => {
+            let role = Role::of(said.is_extension);
+            push_head(text, role, said.kind, said.name, said.parts.directives)
         }
-        Definition::ObjectTypeDefinition(item) => {
-            push_definition_head(text, TypeKind::Object, &item.name, &item.directives)
+        DeclarationRef::Schema(said) => {
+            push_schema_head(text, Role::of(said.is_extension), said.parts.directives)
         }
-        Definition::InterfaceTypeDefinition(item) => {
-            push_definition_head(text, TypeKind::Interface, &item.name, &item.directives)
-        }
-        Definition::UnionTypeDefinition(item) => {
-            push_definition_head(text, TypeKind::Union, &item.name, &item.directives)
-        }
-        Definition::EnumTypeDefinition(item) => {
-            push_definition_head(text, TypeKind::Enum, &item.name, &item.directives)
-        }
-        Definition::InputObjectTypeDefinition(item) => {
-            push_definition_head(text, TypeKind::InputObject, &item.name, &item.directives)
-        }
-        Definition::ScalarTypeExtension(item) => {
-            push_extension_head(text, TypeKind::Scalar, &item.name, &item.directives)
-        }
-        Definition::ObjectTypeExtension(item) => {
-            push_extension_head(text, TypeKind::Object, &item.name, &item.directives)
-        }
-        Definition::InterfaceTypeExtension(item) => {
-            push_extension_head(text, TypeKind::Interface, &item.name, &item.directives)
-        }
-        Definition::UnionTypeExtension(item) => {
-            push_extension_head(text, TypeKind::Union, &item.name, &item.directives)
-        }
-        Definition::EnumTypeExtension(item) => {
-            push_extension_head(text, TypeKind::Enum, &item.name, &item.directives)
-        }
-        Definition::InputObjectTypeExtension(item) => {
-            push_extension_head(text, TypeKind::InputObject, &item.name, &item.directives)
-        }
-        Definition::SchemaDefinition(item) => {
-            push_schema_head(text, Role::Definition, &item.directives)
-        }
-        Definition::SchemaExtension(item) => {
-            push_schema_head(text, Role::Extension, &item.directives)
-        }
-        Definition::OperationDefinition(item) => push_operation_head(text, item),
-        Definition::FragmentDefinition(item) => push_fragment_head(text, item),
+        DeclarationRef::Directive(item) => push_named_line(text, "directive ", &item.name),
+        DeclarationRef::Operation(item) => push_operation_head(text, item),
+        DeclarationRef::Fragment(item) => push_fragment_head(text, item),
     }
 }
 
 /// The lines below the header of a definition or extension, and below its own directives.
-fn push_body(alloc: Global, text: &mut String, definition: &Definition) -> Result<(), AllocError>
-    ensures { OnOk result (string_bytes text.new ≡ string_bytes text.old ++ body_text definition.now) }
+fn push_body(alloc: Global, text: &mut String, said: &DeclarationRef<'_>) -> Result<(), AllocError>
+    ensures { OnOk result (string_bytes text.new ≡ string_bytes text.old ++ body_text (declaration_seen said.now)) }
 {
-    match definition {
-        Definition::DirectiveDefinition(item) => push_directive_body(text, item),
-        Definition::ObjectTypeDefinition(item) => {
-            push_fields(text, &item.implements_interfaces, &item.fields)
-        }
-        Definition::ObjectTypeExtension(item) => {
-            push_fields(text, &item.implements_interfaces, &item.fields)
-        }
-        Definition::InterfaceTypeDefinition(item) => {
-            push_fields(text, &item.implements_interfaces, &item.fields)
-        }
-        Definition::InterfaceTypeExtension(item) => {
-            push_fields(text, &item.implements_interfaces, &item.fields)
-        }
-        Definition::UnionTypeDefinition(item) => {
-            push_names(text, "member ", item.members.as_slice())
-        }
-        Definition::UnionTypeExtension(item) => {
-            push_names(text, "member ", item.members.as_slice())
-        }
-        Definition::EnumTypeDefinition(item) => push_values(text, &item.values),
-        Definition::EnumTypeExtension(item) => push_values(text, &item.values),
-        Definition::InputObjectTypeDefinition(item) => push_input_fields(text, &item.fields),
-        Definition::InputObjectTypeExtension(item) => push_input_fields(text, &item.fields),
-        Definition::SchemaDefinition(item) => push_roots(text, &item.root_operations),
-        Definition::SchemaExtension(item) => push_roots(text, &item.root_operations),
-        Definition::OperationDefinition(item) => {
+    match said {
+        DeclarationRef::Type(said) => push_parts(text, said.kind, said.parts),
+        DeclarationRef::Schema(said) => push_roots(text, said.parts.roots),
+        DeclarationRef::Directive(item) => push_directive_body(text, item),
+        DeclarationRef::Operation(item) => {
             push_selections(alloc, text, item.selection_set.as_slice(), 0)
         }
-        Definition::FragmentDefinition(item) => {
+        DeclarationRef::Fragment(item) => {
             push_selections(alloc, text, item.selection_set.as_slice(), 0)
         }
-        Definition::ScalarTypeDefinition(_) | Definition::ScalarTypeExtension(_) => Ok(()),
     }
 }
 
-fn push_definition_head(
-    text: &mut String,
-    kind: TypeKind,
-    name: &Name,
-    directives: &DirectiveList,
-) -> Result<(), AllocError>
-    ensures { OnOk result (string_bytes text.new ≡ string_bytes text.old ++ type_head_text Role.Definition kind name.now directives.now.0) }
+/// What a type of this kind has besides directives.
+fn push_parts(text: &mut String, kind: TypeKind, parts: PartsRef<'_>) -> Result<(), AllocError>
+    ensures { OnOk result (string_bytes text.new ≡ string_bytes text.old ++ parts_text kind (parts_seen parts.entry)) }
 {
-    push_head(text, Role::Definition, kind, name, directives)
-}
-
-fn push_extension_head(
-    text: &mut String,
-    kind: TypeKind,
-    name: &Name,
-    directives: &DirectiveList,
-) -> Result<(), AllocError>
-    ensures { OnOk result (string_bytes text.new ≡ string_bytes text.old ++ type_head_text Role.Extension kind name.now directives.now.0) }
-{
-    push_head(text, Role::Extension, kind, name, directives)
+    match kind {
+        TypeKind::Scalar => Ok(()),
+        TypeKind::Object | TypeKind::Interface => push_fields(text, parts.names, parts.fields),
+        TypeKind::Union => push_names(text, "member ", parts.names),
+        TypeKind::Enum => push_values(text, parts.values),
+        TypeKind::InputObject => push_input_fields(text, parts.input_fields),
+    }
 }
 
 /// The header of a type, and the directives of the type.
@@ -164,28 +100,28 @@ fn push_head(
     role: Role,
     kind: TypeKind,
     name: &Name,
-    directives: &DirectiveList,
+    directives: &[Node<Directive>],
 ) -> Result<(), AllocError>
-    ensures { OnOk result (string_bytes text.new ≡ string_bytes text.old ++ type_head_text role kind name.now directives.now.0) }
+    ensures { OnOk result (string_bytes text.new ≡ string_bytes text.old ++ type_head_text role kind name.now directives.now) }
 {
     text.push_str(role.word())?;
     text.push_str(" ")?;
     text.push_str(kind_word(kind))?;
     push_named_line(text, " ", name)?;
-    push_directives(text, "@ ", directives.as_slice())
+    push_directives(text, "@ ", directives)
 }
 
 /// The header of the schema, and its directives.
 fn push_schema_head(
     text: &mut String,
     role: Role,
-    directives: &DirectiveList,
+    directives: &[Node<Directive>],
 ) -> Result<(), AllocError>
-    ensures { OnOk result (string_bytes text.new ≡ string_bytes text.old ++ schema_head_text role directives.now.0) }
+    ensures { OnOk result (string_bytes text.new ≡ string_bytes text.old ++ schema_head_text role directives.now) }
 {
     text.push_str(role.schema_word())?;
     text.push_str("\n")?;
-    push_directives(text, "@ ", directives.as_slice())
+    push_directives(text, "@ ", directives)
 }
 
 /// The header of an operation, and its directives.
@@ -216,25 +152,22 @@ fn push_fragment_head(text: &mut String, item: &FragmentDefinition) -> Result<()
 /// What an object or interface type has.
 fn push_fields(
     text: &mut String,
-    interfaces: &Items<Name>,
-    fields: &Items<Node<FieldDefinition>>,
+    interfaces: &[Name],
+    fields: &[Node<FieldDefinition>],
 ) -> Result<(), AllocError>
     ensures { OnOk result (string_bytes text.new ≡ string_bytes text.old ++ fields_text interfaces.now fields.now) }
 {
-    push_names(text, "implements ", interfaces.as_slice())?;
-    for field in fields.as_slice() {
+    push_names(text, "implements ", interfaces)?;
+    for field in fields {
         push_field(text, field)?;
     }
     Ok(())
 }
 
-fn push_values(
-    text: &mut String,
-    values: &Items<Node<EnumValueDefinition>>,
-) -> Result<(), AllocError>
+fn push_values(text: &mut String, values: &[Node<EnumValueDefinition>]) -> Result<(), AllocError>
     ensures { OnOk result (string_bytes text.new ≡ string_bytes text.old ++ values_text values.now) }
 {
-    for value in values.as_slice() {
+    for value in values {
         push_named_line(text, "value ", &value.value)?;
     }
     Ok(())
@@ -242,11 +175,11 @@ fn push_values(
 
 fn push_input_fields(
     text: &mut String,
-    fields: &Items<Node<InputValueDefinition>>,
+    fields: &[Node<InputValueDefinition>],
 ) -> Result<(), AllocError>
     ensures { OnOk result (string_bytes text.new ≡ string_bytes text.old ++ input_fields_text fields.now) }
 {
-    for field in fields.as_slice() {
+    for field in fields {
         push_field_line(text, &field.name, &field.ty, field.directives.as_slice())?;
     }
     Ok(())
@@ -268,11 +201,11 @@ fn push_directive_body(text: &mut String, item: &DirectiveDefinition) -> Result<
 
 fn push_roots(
     text: &mut String,
-    roots: &Items<Node<(OperationType, NamedType)>>,
+    roots: &[Node<(OperationType, NamedType)>],
 ) -> Result<(), AllocError>
     ensures { OnOk result (string_bytes text.new ≡ string_bytes text.old ++ roots_text roots.now) }
 {
-    for root in roots.as_slice() {
+    for root in roots {
         push_root(text, root)?;
     }
     Ok(())
