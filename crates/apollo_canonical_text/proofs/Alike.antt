@@ -5,7 +5,7 @@ use Rattle.graphql_nodes.specs.declared.source.SourceSpan.{SourceSpan}
 use Rattle.graphql_ast.specs.BareDocuments.{bare_definition}
 use Rattle.graphql_ast.specs.Definitions.{definition_location}
 use Rattle.graphql_ast.specs.declared.definition.Definition.TheVariants as ast
-use Rattle.apollo_built_in.specs.BuiltInTable.{built_in_definitions}
+use Rattle.apollo_meaning.specs.BuiltInTable.{built_in_definitions}
 use Rattle.apollo_meaning.specs.Faults.ListFaults.{faults_in, faults_of}
 use Rattle.apollo_schema_laws.specs.Equal.{AreEqualLists, compared}
 use Rattle.apollo_schema.specs.MeantSchema.{AreOf, MeansSchema}

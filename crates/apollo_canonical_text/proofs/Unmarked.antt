@@ -10,7 +10,7 @@ use Rattle.graphql_ast.specs.DefinitionParts.{schema_definition, schema_extensio
 use Rattle.graphql_ast.specs.Definitions.{definition_location}
 use Rattle.graphql_ast.specs.declared.definition.Definition.TheVariants as ast
 use Rattle.graphql_ast.specs.declared.definition_parts.DefinitionParts.{DefinitionParts}
-unfoldable use Rattle.apollo_built_in.specs.BuiltInTable.{built_in_definitions}
+unfoldable use Rattle.apollo_meaning.specs.BuiltInTable.{built_in_definitions}
 use Rattle.apollo_component.specs.Extensions.{extension_location, id_of, same_id}
 use Rattle.apollo_component.specs.WriteOut.{SourcedPart, by_origin, identities, of_extensions, of_origin, origins_in}
 use Rattle.apollo_component.specs.declared.extension.ComponentOrigin.{ComponentOrigin}

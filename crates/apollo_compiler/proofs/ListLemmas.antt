@@ -6,7 +6,7 @@ use Rattle.std.proofs.lemmas.List.{append-nil, map-append, take_all, take_more}
 use Rattle.std.proofs.lemmas.List.Sums.{fold_more}
 use Rattle.graphql_nodes.specs.Sources.{merged}
 use Rattle.graphql_ast.specs.declared.document.Document.{Document}
-use Rattle.apollo_built_in.specs.BuiltInTable.{built_in_definitions}
+use Rattle.apollo_meaning.specs.BuiltInTable.{built_in_definitions}
 use Rattle.apollo_meaning.specs.Items.ListItems.{added}
 use Rattle.apollo_schema.specs.SchemaWriteOut.{write_schema}
 use Rattle.apollo_schema.specs.declared.schema.Schema.{Schema}

@@ -7,3 +7,6 @@ pub mod Rows
 pub mod Schema
 pub mod Steps
 pub mod Types
+pub mod BuiltInNodes
+pub mod BuiltInRows
+pub mod BuiltInTable

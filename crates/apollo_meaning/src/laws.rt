@@ -24,8 +24,8 @@ ghost use Rattle.apollo_meaning.specs.Completion.ImpliedSchema.{completed, impli
 ghost use Rattle.apollo_meaning.specs.Completion.OrphanNames.{orphan_names};
 ghost use Rattle.apollo_meaning.specs.Schema.Definition.{schema_of, schema_sourced};
 ghost use Rattle.apollo_meaning.specs.Rows.SchemaRows.{type_name_of, extensions_alone, adopted_schema, adopted_faults, orphan_faults, query_type_alone, implied_query, schema_extensions_that_wait, waited_for_schema, dropped_root_fault, built_in_int, int_again, redefinition_fault};
-ghost use Rattle.apollo_built_in.specs.BuiltInNodes.{built_in_location};
-ghost use Rattle.apollo_built_in.specs.BuiltInTable.{built_in_definitions};
+ghost use Rattle.apollo_meaning.specs.BuiltInNodes.{built_in_location};
+ghost use Rattle.apollo_meaning.specs.BuiltInTable.{built_in_definitions};
 ghost use Rattle.apollo_meaning.specs.Directives.{directive_definitions, directive_names, directive_of};
 ghost use Rattle.apollo_meaning.specs.Rows.BuiltInNames.{defined_names, component_names, Distinct};
 ghost use Rattle.apollo_meaning.specs.Order.SpentIds.{SpendsIdsSoFar, SpendsIds};
@@ -160,7 +160,7 @@ pub fn extension_of_another_kind()
 
 /// No two built-in definitions have one name, and no type of introspection has two fields or two values of one name,
 /// computed.
-#[tactic(auto, unfolding(apollo_built_in::specs::BuiltInTable::built_in_definitions))]
+#[tactic(auto, unfolding(crate::specs::BuiltInTable::built_in_definitions))]
 pub fn built_in_names_are_distinct()
     ensures definitions { Distinct (defined_names built_in_definitions) }
     ensures components { All (λ definition. Distinct (component_names definition)) built_in_definitions }
@@ -219,7 +219,7 @@ pub fn faulty_list()
 {}
 
 /// The built-in definitions are without fault, with adoption and without, computed.
-#[tactic(auto, unfolding(apollo_built_in::specs::BuiltInTable::built_in_definitions))]
+#[tactic(auto, unfolding(crate::specs::BuiltInTable::built_in_definitions))]
 pub fn built_in_definitions_are_faultless()
     ensures plain { faults_of false (added false built_in_definitions) ≡ [] }
     ensures adopting { faults_of true (added false built_in_definitions) ≡ [] }

@@ -7,5 +7,7 @@
 #![tactic(auto)]
 
 pub mod build_error;
+pub mod built_in;
+mod built_in_nodes;
 pub mod collision;
 pub mod laws;

@@ -4,7 +4,7 @@ use Rattle.apollo_meaning.proofs.Prelude.{subst, ◌∙◌, IfErr, arith, added}
 use Rattle.apollo_schema.specs.declared.schema.Schema.{Schema}
 use Rattle.apollo_schema.specs.declared.build_failure.BuildFailure.{BuildFailure}
 use Rattle.apollo_schema.specs.declared.build_failure.BuildFailure.TheVariants as failures
-use Rattle.apollo_built_in.specs.BuiltInTable.{built_in_definitions}
+use Rattle.apollo_meaning.specs.BuiltInTable.{built_in_definitions}
 use Rattle.apollo_meaning.specs.Faults.ListFaults.{faults_of}
 use Rattle.apollo_meaning.specs.Schema.Whole.{folds}
 use Rattle.apollo_schema.specs.BuildAnswers.{IfFaults}

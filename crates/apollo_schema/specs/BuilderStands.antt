@@ -19,7 +19,7 @@ use Rattle.graphql_nodes.specs.declared.source.FileId.{FileId}
 use Rattle.graphql_nodes.specs.declared.source.SourceFile.{SourceFile}
 use Rattle.graphql_ast.specs.declared.definition.Definition.{Definition}
 use Rattle.graphql_ast.specs.declared.document.Document.{Document}
-use Rattle.apollo_built_in.specs.BuiltInTable.{built_in_definitions}
+use Rattle.apollo_meaning.specs.BuiltInTable.{built_in_definitions}
 use Rattle.apollo_component.specs.Extensions.{source_at}
 use Rattle.apollo_component.specs.declared.extension.ExtensionSource.{ExtensionSource}
 use Rattle.apollo_meaning.specs.Items.ListItems.{Added, added}

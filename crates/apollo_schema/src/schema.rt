@@ -1,7 +1,7 @@
 //! Schemas: GraphQL specification of October 2021, section 3.3.
 ghost use Rattle.std.specs.Prelude.{◌≡◌, false, [], IfOk, option_map};
 ghost use Rattle.std.specs.Option.{option_copied};
-ghost use Rattle.apollo_built_in.specs.BuiltInTable.{built_in_definitions};
+ghost use Rattle.apollo_meaning.specs.BuiltInTable.{built_in_definitions};
 ghost use Rattle.apollo_meaning.specs.Items.ListItems.{added};
 ghost use Rattle.apollo_schema.specs.MeantSchema.{MeansSchema};
 

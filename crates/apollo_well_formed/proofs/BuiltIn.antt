@@ -19,7 +19,7 @@ use Rattle.graphql_productions.specs.TreeParts.{Description, EnumName, Name, Nod
 use Rattle.graphql_productions.specs.WellFormed.{IsWellFormedPart}
 use Rattle.graphql_productions.proofs.NameTexts.{name_text}
 use Rattle.graphql_productions.proofs.RolledParts.{list_type_rolled, named_rolled}
-unfoldable use Rattle.apollo_built_in.specs.BuiltInTable.{built_in_definitions}
+unfoldable use Rattle.apollo_meaning.specs.BuiltInTable.{built_in_definitions}
 use Rattle.apollo_well_formed.specs.WellFormedLists.{IsWellFormedDefinition}
 
 -- whether a text is a name

@@ -7,7 +7,7 @@ use Rattle.graphql_productions.specs.WellFormed.{IsWellFormed, IsWellFormedPart}
 use Rattle.apollo_component.proofs.Lists.Each.{each-append}
 use Rattle.apollo_meaning.specs.Items.ListItems.{Added, added}
 use Rattle.apollo_schema_laws.specs.WrittenAgain.{with_built_ins}
-use Rattle.apollo_built_in.specs.BuiltInTable.{built_in_definitions}
+use Rattle.apollo_meaning.specs.BuiltInTable.{built_in_definitions}
 use Rattle.apollo_well_formed.specs.WellFormedLists.{AreWellFormed, IsWellFormedDefinition}
 use Rattle.apollo_well_formed.proofs.Lists.{each-flat_map, each-from_flat_map, each-map}
 use Rattle.apollo_well_formed.proofs.BuiltIn.{built_in}

@@ -4,7 +4,7 @@ ghost use Rattle.std.specs.List.{AllByRecursion};
 ghost use Rattle.graphql_ast.specs.declared.definition.Definition.{Definition};
 ghost use Rattle.graphql_productions.specs.DefinitionTreeParts.{document_parts};
 ghost use Rattle.graphql_productions.specs.WellFormed.{IsWellFormed};
-ghost use Rattle.apollo_built_in.specs.BuiltInTable.{built_in_definitions};
+ghost use Rattle.apollo_meaning.specs.BuiltInTable.{built_in_definitions};
 ghost use Rattle.apollo_meaning.specs.Items.ListItems.{Added, added};
 ghost use Rattle.apollo_schema.specs.MeantSchema.{MeansSchema};
 ghost use Rattle.apollo_schema.specs.SchemaWriteOut.{write_schema};

@@ -5,7 +5,7 @@ use Rattle.graphql_nodes.specs.declared.source.SourceSpan.{SourceSpan}
 use Rattle.graphql_ast.specs.declared.definition.Definition.{Definition}
 use Rattle.graphql_ast.specs.declared.definition.Definition.TheVariants as ast
 use Rattle.graphql_ast.specs.declared.type_system.DirectiveDefinition.{DirectiveDefinition}
-use Rattle.apollo_built_in.specs.BuiltInNodes.{built_in_location}
+use Rattle.apollo_meaning.specs.BuiltInNodes.{built_in_location}
 use Rattle.apollo_meaning.specs.Faults.Collisions.{Fault}
 use Rattle.apollo_meaning.specs.Rows.TypeRows.{line, name_on_line}
 use Rattle.apollo_meaning.specs.declared.build_error.BuildError.TheVariants as errors

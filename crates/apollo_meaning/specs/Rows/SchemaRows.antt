@@ -46,7 +46,7 @@ use Rattle.graphql_ast.specs.declared.directive.Directive.{Directive}
 use Rattle.apollo_component.specs.Extensions.{extension_id}
 use Rattle.apollo_component.specs.declared.component.ComponentName.{ComponentName}
 use Rattle.apollo_types.specs.declared.schema_definition.SchemaDefinition.{SchemaDefinition}
-use Rattle.apollo_built_in.specs.BuiltInNodes.{scalar}
+use Rattle.apollo_meaning.specs.BuiltInNodes.{scalar}
 use Rattle.apollo_meaning.specs.Items.ListItems.{ListItem, Defined, SchemaDefined, Other, Extended, SchemaExtended}
 use Rattle.apollo_meaning.specs.Items.Parts.{key_of, Root}
 use Rattle.apollo_meaning.specs.Faults.Collisions.{Fault}

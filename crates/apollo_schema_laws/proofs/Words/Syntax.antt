@@ -20,4 +20,4 @@ pub use Rattle.graphql_ast.specs.declared.parts.Part.{Part}
 pub use Rattle.graphql_ast.specs.declared.parts.Parts.{Parts}
 pub use Rattle.graphql_ast.specs.declared.directive.Directive.{Directive}
 pub use Rattle.graphql_ast.specs.declared.type_system.DirectiveDefinition.{DirectiveDefinition}
-unfoldable pub use Rattle.apollo_built_in.specs.BuiltInTable.{built_in_definitions}
+unfoldable pub use Rattle.apollo_meaning.specs.BuiltInTable.{built_in_definitions}

@@ -1,6 +1,6 @@
 use Rattle.apollo_meaning.proofs.Prelude.{◌≡◌, false, List, [], sym, ap, subst, ◌∙◌, append-nil}
 use Rattle.apollo_meaning.proofs.Prelude.{next_number, Added, added, added_items}
-use Rattle.apollo_built_in.specs.BuiltInTable.{built_in_definitions}
+use Rattle.apollo_meaning.specs.BuiltInTable.{built_in_definitions}
 use Rattle.apollo_schema.specs.BuilderStands.{Open, with_built_ins}
 use Rattle.apollo_schema.specs.Stands.{Stands}
 use Rattle.apollo_schema.proofs.schema_builder.SchemaBuilder.with_source_and_keys.Goals as goal

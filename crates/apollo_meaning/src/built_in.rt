@@ -1,12 +1,12 @@
 //! The definitions that every schema has: GraphQL specification of October 2021, sections 3.5 (scalars), 3.13
 //! (directives) and 4.2 (schema introspection).
 ghost use Rattle.std.specs.Prelude.{◌≡◌, ◌++◌, map, IfOk, OnOk};
-ghost use Rattle.apollo_built_in.specs.BuiltInNodes as nodes;
-ghost use Rattle.apollo_built_in.specs.BuiltInTable as table;
+ghost use Rattle.apollo_meaning.specs.BuiltInNodes as nodes;
+ghost use Rattle.apollo_meaning.specs.BuiltInTable as table;
 
-use crate::nodes::FieldRow::{Field, Filtered};
-use crate::nodes::TypeRow::{ListOf, Named, NonNull, NonNullListOf};
-use crate::nodes::{argument, directive, enumeration, object, scalar};
+use crate::built_in_nodes::FieldRow::{Field, Filtered};
+use crate::built_in_nodes::TypeRow::{ListOf, Named, NonNull, NonNullListOf};
+use crate::built_in_nodes::{argument, directive, enumeration, object, scalar};
 use graphql_ast::definition::Definition;
 use graphql_ast::value::Value;
 use graphql_nodes::collections::items::Items;

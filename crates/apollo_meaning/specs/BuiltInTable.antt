@@ -15,8 +15,8 @@ use Rattle.graphql_ast.specs.declared.type_system.FieldDefinition.{FieldDefiniti
 use Rattle.graphql_ast.specs.declared.type_system.InputValueDefinition.{InputValueDefinition}
 use Rattle.graphql_ast.specs.declared.type_system.EnumValueDefinition.{EnumValueDefinition}
 use Rattle.graphql_ast.specs.declared.definition.Definition.{Definition}
-use Rattle.apollo_built_in.specs.BuiltInNodes as nodes
-use Rattle.apollo_built_in.specs.BuiltInNodes.{list_of, non_null_list_of}
+use Rattle.apollo_meaning.specs.BuiltInNodes as nodes
+use Rattle.apollo_meaning.specs.BuiltInNodes.{list_of, non_null_list_of}
 
 -- a nullable type of this name
 abbrev pub named_type : String → TypeReference

@@ -1,8 +1,8 @@
 //! Nodes in the file of built-in definitions, with no description and no directive. Each error is out of memory.
 ghost use Rattle.std.specs.Prelude.{◌≡◌, ◌∷◌, [], map, option_map, IfOk};
-ghost use Rattle.apollo_built_in.specs.BuiltInNodes as nodes;
-ghost use Rattle.apollo_built_in.specs.BuiltInRows.{row_type, row_field};
-ghost use Rattle.apollo_built_in.specs.BuiltInTable.{include_deprecated};
+ghost use Rattle.apollo_meaning.specs.BuiltInNodes as nodes;
+ghost use Rattle.apollo_meaning.specs.BuiltInRows.{row_type, row_field};
+ghost use Rattle.apollo_meaning.specs.BuiltInTable.{include_deprecated};
 
 use graphql_ast::definition::Definition;
 use graphql_ast::directive::DirectiveList;

@@ -4,12 +4,12 @@ use Rattle.std.specs.Prelude.{[], ◌∷◌}
 use Rattle.graphql_nodes.specs.NodeView.{NodeView}
 use Rattle.graphql_ast.specs.declared.type_reference.Type.{«Type» as TypeReference}
 use Rattle.graphql_ast.specs.declared.type_system.FieldDefinition.{FieldDefinition}
-use Rattle.apollo_built_in.specs.BuiltInNodes as nodes
-use Rattle.apollo_built_in.specs.BuiltInTable.{include_deprecated}
-use Rattle.apollo_built_in.specs.declared.nodes.TypeRow.{TypeRow}
-use Rattle.apollo_built_in.specs.declared.nodes.TypeRow.TheVariants as type_rows
-use Rattle.apollo_built_in.specs.declared.nodes.FieldRow.{FieldRow}
-use Rattle.apollo_built_in.specs.declared.nodes.FieldRow.TheVariants as field_rows
+use Rattle.apollo_meaning.specs.BuiltInNodes as nodes
+use Rattle.apollo_meaning.specs.BuiltInTable.{include_deprecated}
+use Rattle.apollo_meaning.specs.declared.built_in_nodes.TypeRow.{TypeRow}
+use Rattle.apollo_meaning.specs.declared.built_in_nodes.TypeRow.TheVariants as type_rows
+use Rattle.apollo_meaning.specs.declared.built_in_nodes.FieldRow.{FieldRow}
+use Rattle.apollo_meaning.specs.declared.built_in_nodes.FieldRow.TheVariants as field_rows
 
 -- the type that a row has: `text`, `text!`, `[text!]` or `[text!]!`
 abbrev pub row_type : TypeRow → TypeReference

@@ -1,3 +1,0 @@
-pub mod BuiltInNodes
-pub mod BuiltInRows
-pub mod BuiltInTable
