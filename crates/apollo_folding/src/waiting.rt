@@ -29,7 +29,7 @@ pub fn take_waiting(
 
 /// Lets a copy of an extension wait for the definition of this name, behind those that wait for it. A new name goes last. The
 /// error is out of memory.
-pub fn wait(
+pub fn add_waiting(
     alloc: Global,
     waiting: &mut Table<Name, Items<Definition>>,
     name: &Name,

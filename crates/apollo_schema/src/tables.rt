@@ -27,7 +27,7 @@ use apollo_folding::directive_definition::define_directive;
 use apollo_folding::from_ast::schema_definition::{begin_schema, extend_schema};
 use apollo_folding::from_ast::{begin_type, extend_type};
 use apollo_folding::redefinition::note_redefinition;
-use apollo_folding::waiting::{take_waiting, wait};
+use apollo_folding::waiting::{add_waiting, take_waiting};
 use apollo_meaning::build_error::{BuildError, Fault};
 use apollo_types::extended_type::ExtendedType;
 use apollo_types::schema_definition::SchemaDefinition;
@@ -170,7 +170,7 @@ impl Tables {
         ensures sources { self.new.sources ≡ self.old.sources }
     {
         let Some(ty) = self.types.get_mut(extension.name) else {
-            wait(self.alloc, &mut self.waiting, extension.name, definition)?;
+            add_waiting(self.alloc, &mut self.waiting, extension.name, definition)?;
             return Ok(());
         };
         extend_type(ty, extension, &mut self.ids, &mut self.faults)?;

@@ -10,9 +10,9 @@ returns-in_default-clause-stands c = λ is start xs was.
     let p = part_seen c.args.extension.now in
     let absent : is_some (lookup (by_text (key_of p)) t.types) ≡ false = ap is_some (sym c.get_mut.ensures.value ∙ ap option_copied_mut c.in_default.is) in
     Stands-early was p _ refl refl c.get_mut.follows.holds-at-none refl refl refl
-    c.in_ok-wait.ensures.names
+    c.in_ok-add_waiting.ensures.names
     absent
-    (λ n. c.in_ok-wait.ensures.waits n
+    (λ n. c.in_ok-add_waiting.ensures.waits n
     ∙ ap (λ x. cond (same n (key_of p)) (items_held (lookup (by_text n) t.waiting) ++ x ∷ []) (items_held (lookup (by_text n) t.waiting))) is)
 
 pub returns-in_err-extend_type-clause-refused : goal.returns-in_err-extend_type-clause-refused

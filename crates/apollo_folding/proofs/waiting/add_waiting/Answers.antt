@@ -1,7 +1,7 @@
 use Rattle.apollo_meaning.proofs.Prelude.{◌≡◌, [], ◌∷◌, ◌++◌, Some, None, is_some, sym, ap, ◌∙◌, if◌then◌else◌, rules, keys_of, lookup, set_value, keys-set_value, option_copied_mut, insert_entry, same_text, by_text, items_held}
 use Rattle.apollo_folding.proofs.HeldLemmas.{held-write_more, held-put}
 use Rattle.apollo_folding.proofs.NameTables.{keys-put}
-use Rattle.apollo_folding.proofs.waiting.wait.Goals as goal
+use Rattle.apollo_folding.proofs.waiting.add_waiting.Goals as goal
 
 pub returns-in-Some-clause-waits : goal.returns-in-Some-clause-waits
 returns-in-Some-clause-waits c = λ n.
