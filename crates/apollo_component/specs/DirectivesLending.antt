@@ -15,8 +15,12 @@ use Rattle.apollo_component.specs.contracts.directive_list.DirectiveList.{the_ro
 
 -- once the borrow r ends, the list has the directives that were written last
 abbrev pub LendsDirectives : MutBor DirectiveList → MutBor (List (Component Directive)) → Fml
-LendsDirectives list r = Lends the_row (items.the_row (component.the_row directive.the_row)) list r (λ directives. record { 0 = directives })
+LendsDirectives list r =
+    Lends the_row (items.the_row (component.the_row directive.the_row)) list r
+    (λ directives. record { 0 = directives })
 
 -- once the walk ends, the list has the directives that were written last
 abbrev pub LendsEachDirective : MutBor DirectiveList → IterMut (Component Directive) → Fml
-LendsEachDirective list walk = follows the_row (Array (component.the_row directive.the_row) 0) list.ghost_name (iter_mut_name walk) (λ written. record { 0 = written_over list.now.0 written })
+LendsEachDirective list walk =
+    follows the_row (Array (component.the_row directive.the_row) 0) list.ghost_name (iter_mut_name walk)
+    (λ written. record { 0 = written_over list.now.0 written })

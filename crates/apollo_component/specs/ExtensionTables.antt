@@ -18,4 +18,5 @@ entries_held (Many table) = table
 
 -- one part more of the extension of this identity, which is new or has parts
 abbrev pub with_extension_part : ExtensionId → Part → List (ExtensionId × Parts) → List (ExtensionId × Parts)
-with_extension_part id part extensions = insert_entry same_id extensions id (with_part part (unwrap_or (lookup (same_id id) extensions) no_parts))
+with_extension_part id part extensions =
+    insert_entry same_id extensions id (with_part part (unwrap_or (lookup (same_id id) extensions) no_parts))

@@ -1,5 +1,5 @@
--- What types and the schema's definition are written out as: the identities of their extensions, and what is of one
--- origin. GraphQL specification of October 2021, sections 3.3 and 3.4.3.
+-- What types and the schema's definition are written out as: the identities of their extensions, and what is
+-- of one origin. GraphQL specification of October 2021, sections 3.3 and 3.4.3.
 --
 -- **Identities of a type.** The identities of a type are the distinct ones among its *origins*, in order
 -- of first appearance. Of equal identities the first gives the location.
@@ -12,7 +12,8 @@ use Rattle.graphql_nodes.specs.NameView.{NameView}
 use Rattle.graphql_nodes.specs.NodeView.{NodeView}
 use Rattle.graphql_nodes.specs.declared.source.SourceSpan.{SourceSpan}
 use Rattle.graphql_nodes.specs.declared.type_kind.TypeKind.{TypeKind}
-use Rattle.graphql_ast.specs.Declarations.{type_definition, type_extension, schema_definition, schema_extension}
+use Rattle.graphql_ast.specs.Declarations.{type_definition, type_extension, schema_definition}
+use Rattle.graphql_ast.specs.Declarations.{schema_extension}
 use Rattle.graphql_ast.specs.Parts.{parts_of}
 use Rattle.graphql_ast.specs.declared.definition.Definition.{Definition}
 use Rattle.graphql_ast.specs.declared.parts.Part.{Part}
@@ -60,9 +61,14 @@ abbrev pub by_origin : List SourcedPart → PartsByOrigin
 by_origin cs = record { definition = of_origin origins.Definition cs; extensions = of_extensions cs }
 
 -- the definition of a type, at this location, then its extensions, each where it stands
-abbrev pub written_type : TypeKind → Option NameView → NameView → PartsByOrigin → Option SourceSpan → List Definition
-written_type kind description name parts location = type_definition kind description name parts.definition location ∷ map (λ e. type_extension kind name e.1 (extension_location e.0)) parts.extensions
+abbrev pub written_type : TypeKind → Option NameView → NameView → PartsByOrigin → Option SourceSpan
+    → List Definition
+written_type kind description name parts location =
+    type_definition kind description name parts.definition location
+    ∷ map (λ e. type_extension kind name e.1 (extension_location e.0)) parts.extensions
 
 -- the definition of the schema, at this location, if it is written, then its extensions, each where it stands
 abbrev pub written_schema : Bool → Option NameView → PartsByOrigin → Option SourceSpan → List Definition
-written_schema is_written description parts location = (if is_written then schema_definition description parts.definition location ∷ [] else []) ++ map (λ e. schema_extension e.1 (extension_location e.0)) parts.extensions
+written_schema is_written description parts location =
+    (if is_written then schema_definition description parts.definition location ∷ [] else [])
+    ++ map (λ e. schema_extension e.1 (extension_location e.0)) parts.extensions

@@ -1,4 +1,5 @@
-//! Components of types, and names that are components: GraphQL specification of October 2021, sections 3.4 and 3.4.3.
+//! Components of types, and names that are components: GraphQL specification of October 2021, sections 3.4
+//! and 3.4.3.
 ghost use Rattle.std.specs.Prelude.{◌≡◌, IfOk, Some, nat_eq};
 ghost use Rattle.std.specs.Borrow.{sem};
 ghost use Rattle.std.specs.Cmp;
@@ -36,7 +37,11 @@ impl<T> Component<T> {
     pub fn new(alloc: Global, value: T) -> Result<Component<T>, AllocError>
     where
         T: Drop,
-        ensures { IfOk result (λ c. c ≡ record { origin = ComponentOrigin.Definition; node = record { value = value; location = None } }) }
+        ensures { IfOk result (λ c. c
+            ≡ record {
+              origin = ComponentOrigin.Definition;
+              node = record { value = value; location = None };
+            }) }
     {
         Ok(Component {
             origin: ComponentOrigin::Definition,
@@ -85,7 +90,8 @@ impl<T> DerefMut for Component<T> {
 
     ghost deref_mut_gives = { λ component node. node ≡ component.node };
 
-    /// The node, to write to. When the loan ends, the component has the node that was written, of the origin that it had.
+    /// The node, to write to. When the loan ends, the component has the node that was written, of the origin
+    /// that it had.
     fn deref_mut(&mut self) -> &mut Node<T>
         ensures* writes_back { sem 𝓛 (LendsNode T.row self.entry result) }
         ensures value { result.now ≡ self.old.node }
@@ -133,7 +139,8 @@ impl<T: Drop> Clone for Component<T> {
 /// A name, and the definition or extension that it comes from. A type lists the name, as an interface or a
 /// union member, or a schema has it as a root.
 ///
-/// Component names are equal and hashed by their texts: origins and locations are left out. `Display` is the text.
+/// Component names are equal and hashed by their texts: origins and locations are left out. `Display` is the
+/// text.
 #[derive(Debug)]
 pub struct ComponentName {
     pub origin: ComponentOrigin,

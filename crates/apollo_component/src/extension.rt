@@ -6,7 +6,8 @@ ghost use Rattle.std.specs.Cmp;
 ghost use Rattle.std.specs.Hash as fed;
 ghost use Rattle.std.specs.Option.{option_copied};
 ghost use Rattle.std.proofs.Common.{rules};
-ghost use Rattle.apollo_component.specs.Extensions.{extension_id, number_of, extension_location, next_number, source_at, id_of};
+ghost use Rattle.apollo_component.specs.Extensions.{extension_id, number_of, extension_location, next_number};
+ghost use Rattle.apollo_component.specs.Extensions.{source_at, id_of};
 
 use graphql_nodes::node::Node;
 use graphql_nodes::source::SourceSpan;
@@ -19,8 +20,8 @@ use thiserror::Error;
 #[error("extension identities spent")]
 pub struct IdsSpent;
 
-/// A source of identities. It answers its next number each time, so that the identities of one source are distinct;
-/// those of two sources may be equal.
+/// A source of identities. It answers its next number each time, so that the identities of one source are
+/// distinct; those of two sources may be equal.
 #[derive(Debug, Drop)]
 pub struct ExtensionSource {
     next: u64,
@@ -52,7 +53,8 @@ impl ExtensionSource {
     ///
     /// At `u64::MAX`, and there alone, it is refused, and the source stays. So that number is never given.
     pub fn draw(&mut self, location: Option<SourceSpan>) -> Result<ExtensionId, IdsSpent>
-        ensures drawn { IfOk result (λ id. (id ≡ extension_id (next_number self.old) location) × (self.new ≡ source_at (next_number self.old + 1))) }
+        ensures drawn { IfOk result (λ id. (id ≡ extension_id (next_number self.old) location)
+            × (self.new ≡ source_at (next_number self.old + 1))) }
         ensures spent { OnErr result (next_number self.old ≡ 2 ^ 64 - 1) }
         ensures last { next_number self.old ≡ 2 ^ 64 - 1 → IsErr result }
         ensures err { OnErr result (self.new ≡ self.old) }
@@ -76,13 +78,14 @@ pub struct ExtensionId {
 }
 
 impl ExtensionId {
-    /// The next identity of the source, at the location of this node, which holds the extension. It is refused as
-    /// [`ExtensionSource::draw`] is.
+    /// The next identity of the source, at the location of this node, which holds the extension. It is
+    /// refused as [`ExtensionSource::draw`] is.
     pub fn new<T>(
         source: &mut ExtensionSource,
         extension: &Node<T>,
     ) -> Result<ExtensionId, IdsSpent>
-        ensures drawn { IfOk result (λ id. (id ≡ extension_id (next_number source.old) extension.now.location) × (source.new ≡ source_at (next_number source.old + 1))) }
+        ensures drawn { IfOk result (λ id. (id ≡ extension_id (next_number source.old) extension.now.location)
+            × (source.new ≡ source_at (next_number source.old + 1))) }
         ensures spent { OnErr result (next_number source.old ≡ 2 ^ 64 - 1) }
         ensures last { next_number source.old ≡ 2 ^ 64 - 1 → IsErr result }
         ensures err { OnErr result (source.new ≡ source.old) }
@@ -136,7 +139,8 @@ impl Hash for ExtensionId {
     }
 }
 
-/// Where a component comes from: the definition, or an extension, of its type or of the schema (sections 3.3.2 and 3.4.3).
+/// Where a component comes from: the definition, or an extension, of its type or of the schema (sections
+/// 3.3.2 and 3.4.3).
 ///
 /// Origins are equal where both are the definition, or extensions of one number.
 #[derive(Clone, Copy, Debug, PartialEq, Eq, Hash)]

@@ -1,5 +1,5 @@
-//! The parts of the extensions of a type or of a schema's definition: GraphQL specification of October 2021, sections 3.3.2 and
-//! 3.4.3.
+//! The parts of the extensions of a type or of a schema's definition: GraphQL specification of October 2021,
+//! sections 3.3.2 and 3.4.3.
 ghost use Rattle.std.specs.Prelude.{◌≡◌, [], ◌∷◌, ◌++◌, map, IfOk, OnOk};
 ghost use Rattle.graphql_ast.specs.Declarations.{type_extension, schema_extension};
 ghost use Rattle.graphql_ast.specs.Parts.{no_parts, with_part};
@@ -27,7 +27,8 @@ enum HeldParts {
     Many(Table<ExtensionId, Parts>),
 }
 
-/// The parts of each extension, by first appearance. Contracts see the list of the identities, each with its parts.
+/// The parts of each extension, by first appearance. Contracts see the list of the identities, each with its
+/// parts.
 #[derive(Drop)]
 pub struct ExtensionParts {
     held: HeldParts,
@@ -60,8 +61,8 @@ impl ExtensionParts {
         }
     }
 
-    /// Adds a part of the extension of this identity, the last of its sort there. The error is out of memory, after which
-    /// nothing is said of the parts.
+    /// Adds a part of the extension of this identity, the last of its sort there. The error is out of memory,
+    /// after which nothing is said of the parts.
     pub(crate) fn add(
         &mut self,
         alloc: Global,
@@ -73,8 +74,8 @@ impl ExtensionParts {
         self.held.add(alloc, id, part)
     }
 
-    /// Adds each, in order, as an extension of a type of this kind and name, at its own location. The error is
-    /// out of memory, after which `written` begins with what it held.
+    /// Adds each, in order, as an extension of a type of this kind and name, at its own location. The error
+    /// is out of memory, after which `written` begins with what it held.
     pub(crate) fn write_types(
         self,
         alloc: Global,
@@ -82,7 +83,9 @@ impl ExtensionParts {
         name: &Name,
         written: &mut Vec<Definition>,
     ) -> Result<(), AllocError>
-        ensures added { OnOk result (written.new.items ≡ written.old.items ++ map (λ e. type_extension kind name.now e.1 (extension_location e.0)) self) }
+        ensures added { OnOk result (written.new.items
+            ≡ written.old.items
+            ++ map (λ e. type_extension kind name.now e.1 (extension_location e.0)) self) }
         ensures kept { Begins written.old.items written.new.items }
     {
         match self.held {
@@ -101,7 +104,8 @@ impl ExtensionParts {
         alloc: Global,
         written: &mut Vec<Definition>,
     ) -> Result<(), AllocError>
-        ensures { OnOk result (written.new.items ≡ written.old.items ++ map (λ e. schema_extension e.1 (extension_location e.0)) self) }
+        ensures { OnOk result (written.new.items
+            ≡ written.old.items ++ map (λ e. schema_extension e.1 (extension_location e.0)) self) }
     {
         for (id, parts) in self.held.into_table(alloc)?.into_index_map() {
             written.push(extension_of_schema(alloc, id.location(), parts)?)?;
@@ -164,7 +168,9 @@ fn write_types_of(
     name: &Name,
     written: &mut Vec<Definition>,
 ) -> Result<(), AllocError>
-    ensures added { OnOk result (written.new.items ≡ written.old.items ++ map (λ e. type_extension kind name.now e.1 (extension_location e.0)) extensions) }
+    ensures added { OnOk result (written.new.items
+        ≡ written.old.items
+        ++ map (λ e. type_extension kind name.now e.1 (extension_location e.0)) extensions) }
     ensures kept { Begins written.old.items written.new.items }
 {
     for (id, parts) in extensions.into_index_map() {

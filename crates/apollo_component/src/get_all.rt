@@ -11,7 +11,8 @@ use std::iter::FusedIterator;
 use std::marker::Model;
 use std::slice::Iter;
 
-/// The directives of one name that a list has, in order. Contracts see the list of those that are still to come.
+/// The directives of one name that a list has, in order. Contracts see the list of those that are still to
+/// come.
 #[derive(Drop)]
 pub struct GetAll<'a, 'n> {
     directives: Iter<'a, Component<Directive>>,
@@ -55,8 +56,8 @@ impl<'a, 'n> Iterator for GetAll<'a, 'n> {
 
     ghost remaining = { λ left. at_most (length left) };
 
-    /// The first directive of the name that is left, after which the rest is left. Once none is left it answers none, from then
-    /// on too.
+    /// The first directive of the name that is left, after which the rest is left. Once none is left it
+    /// answers none, from then on too.
     fn next(&mut self) -> Option<&'a Component<Directive>> {
         while let Some(directive) = self.directives.next() {
             if directive.name == *self.name {

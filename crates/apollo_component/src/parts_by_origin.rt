@@ -1,8 +1,9 @@
-//! The components of a type or of a schema's definition, put under their origins and written out: GraphQL specification of
-//! October 2021, sections 3.3.2 and 3.4.3.
+//! The components of a type or of a schema's definition, put under their origins and written out: GraphQL
+//! specification of October 2021, sections 3.3.2 and 3.4.3.
 ghost use Rattle.std.specs.Prelude.{◌≡◌, List, [], ◌∷◌, ◌++◌, map, IfOk, OnOk};
 ghost use Rattle.apollo_component.specs.Beginnings.{Begins};
-ghost use Rattle.apollo_component.specs.WriteOut.{SourcedPart, sourced, sourced_name, by_origin, written_type, written_schema};
+ghost use Rattle.apollo_component.specs.WriteOut.{SourcedPart, sourced, sourced_name, by_origin};
+ghost use Rattle.apollo_component.specs.WriteOut.{written_type, written_schema};
 
 use crate::component::{Component, ComponentName};
 use crate::extension::ComponentOrigin;
@@ -45,7 +46,8 @@ impl PartsByOrigin {
         }
     }
 
-    /// Adds a part of this origin, the last of its sort there. The error is out of memory: drop the parts then.
+    /// Adds a part of this origin, the last of its sort there. The error is out of memory: drop the parts
+    /// then.
     pub fn add(
         &mut self,
         alloc: Global,
@@ -62,14 +64,15 @@ impl PartsByOrigin {
         Ok(())
     }
 
-    /// Adds each of these components, in order, as [`add`](PartsByOrigin::add) does. The error is out of memory: drop the
-    /// parts then.
+    /// Adds each of these components, in order, as [`add`](PartsByOrigin::add) does. The error is out of
+    /// memory: drop the parts then.
     pub fn add_components<T: NodePart>(
         &mut self,
         alloc: Global,
         components: &[Component<T>],
     ) -> Result<(), AllocError>
-        ensures { OnOk result ((cs : List SourcedPart) → self.old ≡ by_origin cs → self.new ≡ by_origin (cs ++ map (sourced T.node_part) components.now)) }
+        ensures { OnOk result ((cs : List SourcedPart) → self.old ≡ by_origin cs
+            → self.new ≡ by_origin (cs ++ map (sourced T.node_part) components.now)) }
     {
         T::make_room(&mut self.definition, components.len())?;
         for component in components {
@@ -82,14 +85,15 @@ impl PartsByOrigin {
         Ok(())
     }
 
-    /// Adds each of the components that are left of a table's values, in order, as [`add`](PartsByOrigin::add) does. The error
-    /// is out of memory: drop the parts then.
+    /// Adds each of the components that are left of a table's values, in order, as
+    /// [`add`](PartsByOrigin::add) does. The error is out of memory: drop the parts then.
     pub fn add_named_components<T: NodePart>(
         &mut self,
         alloc: Global,
         components: Values<'_, Name, Component<T>>,
     ) -> Result<(), AllocError>
-        ensures { OnOk result ((cs : List SourcedPart) → self.old ≡ by_origin cs → self.new ≡ by_origin (cs ++ map (sourced T.node_part) components.entry)) }
+        ensures { OnOk result ((cs : List SourcedPart) → self.old ≡ by_origin cs
+            → self.new ≡ by_origin (cs ++ map (sourced T.node_part) components.entry)) }
     {
         T::make_room(&mut self.definition, components.len())?;
         for component in components {
@@ -102,10 +106,11 @@ impl PartsByOrigin {
         Ok(())
     }
 
-    /// Adds each of these names, in order, as [`add`](PartsByOrigin::add) does. The error is out of memory: drop the parts
-    /// then.
+    /// Adds each of these names, in order, as [`add`](PartsByOrigin::add) does. The error is out of memory:
+    /// drop the parts then.
     pub fn add_names(&mut self, alloc: Global, names: &[ComponentName]) -> Result<(), AllocError>
-        ensures { OnOk result ((cs : List SourcedPart) → self.old ≡ by_origin cs → self.new ≡ by_origin (cs ++ map sourced_name names.now)) }
+        ensures { OnOk result ((cs : List SourcedPart) → self.old ≡ by_origin cs
+            → self.new ≡ by_origin (cs ++ map sourced_name names.now)) }
     {
         self.definition.names.reserve_exact(names.len())?;
         for name in names {
@@ -128,7 +133,8 @@ impl PartsByOrigin {
         location: Option<SourceSpan>,
         written: &mut Vec<Definition>,
     ) -> Result<(), AllocError>
-        ensures added { OnOk result (written.new.items ≡ written.old.items ++ written_type kind description name.now self location) }
+        ensures added { OnOk result (written.new.items
+            ≡ written.old.items ++ written_type kind description name.now self location) }
         ensures kept { Begins written.old.items written.new.items }
     {
         let PartsByOrigin {
@@ -158,7 +164,8 @@ impl PartsByOrigin {
         description: Option<NodeStr>,
         location: Option<SourceSpan>,
     ) -> Result<Vec<Definition>, AllocError>
-        ensures { IfOk result (λ written. written.items ≡ written_schema is_written description self location) }
+        ensures { IfOk result (λ written. written.items
+            ≡ written_schema is_written description self location) }
     {
         let PartsByOrigin {
             definition,

@@ -1,6 +1,7 @@
--- What `==` compares of what lookups of coordinates answer: the sort of what is found, and its value, without locations, origins and
--- sources. GraphQL specification of October 2021, sections 3.4 to 3.10 and 3.13.
-use Rattle.graphql_ast.specs.BareTypeSystem.{bare_directive_definition, bare_enum_value_definition, bare_field_definition, bare_input_value_definition}
+-- What `==` compares of what lookups of coordinates answer: the sort of what is found, and its value, without
+-- locations, origins and sources. GraphQL specification of October 2021, sections 3.4 to 3.10 and 3.13.
+use Rattle.graphql_ast.specs.BareTypeSystem.{bare_directive_definition, bare_enum_value_definition}
+use Rattle.graphql_ast.specs.BareTypeSystem.{bare_field_definition, bare_input_value_definition}
 use Rattle.graphql_ast.specs.declared.type_system.DirectiveDefinition.{DirectiveDefinition}
 use Rattle.graphql_ast.specs.declared.type_system.EnumValueDefinition.{EnumValueDefinition}
 use Rattle.graphql_ast.specs.declared.type_system.FieldDefinition.{FieldDefinition}

@@ -1,5 +1,5 @@
--- What the lookups of coordinates answer, over the maps of any schema value alone: Schema Coordinates RFC, and the GraphQL
--- specification of October 2021, sections 3.5 to 3.10, 3.13, 4.1 and 4.2.
+-- What the lookups of coordinates answer, over the maps of any schema value alone: Schema Coordinates RFC,
+-- and the GraphQL specification of October 2021, sections 3.5 to 3.10, 3.13, 4.1 and 4.2.
 --
 -- **Attribute.** The attribute a of a name T, over any schema value: the enum value or input field a
 -- that the type of T declares, or else the *field* a of T, which may be a meta-field. (So a value
@@ -16,7 +16,8 @@ use Rattle.graphql_ast.specs.declared.type_system.EnumValueDefinition.{EnumValue
 use Rattle.graphql_ast.specs.declared.type_system.InputValueDefinition.{InputValueDefinition}
 use Rattle.apollo_component.specs.declared.component.Component.{Component}
 use Rattle.apollo_types.specs.declared.extended_type.ExtendedType.{ExtendedType}
-use Rattle.apollo_types.specs.declared.extended_type.ExtendedType.TheVariants.{Scalar, Object, Interface, Union, Enum, InputObject}
+use Rattle.apollo_types.specs.declared.extended_type.ExtendedType.TheVariants.{Scalar, Object, Interface}
+use Rattle.apollo_types.specs.declared.extended_type.ExtendedType.TheVariants.{Union, Enum, InputObject}
 use Rattle.apollo_schema.specs.Lookups.{Types, type_at, field_at}
 use Rattle.apollo_schema.specs.declared.schema.Schema.{Schema}
 use Rattle.apollo_coordinate.specs.declared.coordinates.SchemaCoordinate.{SchemaCoordinate}
@@ -24,7 +25,11 @@ use Rattle.apollo_coordinate.specs.declared.coordinates.SchemaCoordinate.TheVari
 use Rattle.apollo_coordinate.specs.declared.lookup_answers.SchemaCoordinateLookup.{SchemaCoordinateLookup}
 use Rattle.apollo_coordinate.specs.declared.lookup_answers.SchemaCoordinateLookup.TheVariants as answers
 use Rattle.apollo_coordinate.specs.declared.lookup_answers.SchemaLookupError.{SchemaLookupError}
-use Rattle.apollo_coordinate.specs.declared.lookup_answers.SchemaLookupError.TheVariants.{MissingType, MissingAttribute, InvalidArgumentAttribute, MissingArgument, InvalidType}
+use Rattle.apollo_coordinate.specs.declared.lookup_answers.SchemaLookupError.TheVariants.{MissingType}
+use Rattle.apollo_coordinate.specs.declared.lookup_answers.SchemaLookupError.TheVariants.{MissingAttribute}
+use Rattle.apollo_coordinate.specs.declared.lookup_answers.SchemaLookupError.TheVariants.{InvalidArgumentAttribute}
+use Rattle.apollo_coordinate.specs.declared.lookup_answers.SchemaLookupError.TheVariants.{MissingArgument}
+use Rattle.apollo_coordinate.specs.declared.lookup_answers.SchemaLookupError.TheVariants.{InvalidType}
 use Rattle.apollo_coordinate.specs.declared.lookup_answers.TypeAttributeLookup.{TypeAttributeLookup}
 use Rattle.apollo_coordinate.specs.declared.lookup_answers.TypeAttributeLookup.TheVariants as attributes
 
@@ -104,8 +109,8 @@ IsMissingHere declares type a (MissingAttribute n) = (n.now ≡ a) × (declares 
 IsMissingHere declares type a (InvalidType other) = (other.now ≡ type) × (declares ≡ false)
 IsMissingHere declares type a _ = ⊥
 
--- there is no type of the name; or it is of a kind that declares what is looked for, but has none of the name; or it is of
--- another kind
+-- there is no type of the name; or it is of a kind that declares what is looked for, but has none of the
+-- name; or it is of another kind
 abbrev pub IsMissingAttribute : (ExtendedType → Bool) → Types → NameView → NameView
     → SchemaLookupError → Type 0
 IsMissingAttribute declares types t a (MissingType n) = (n.now ≡ t) × (type_at types t ≡ None)
@@ -115,8 +120,8 @@ IsMissingAttribute declares types t a (InvalidType type) =
     (type_at types t ≡ Some type.now) × (declares type.now ≡ false)
 IsMissingAttribute declares types t a _ = ⊥
 
--- an argument: the attribute is an enum value or an input field; or the field has no argument of the name; or there is no
--- attribute of the name, as in its own lookup
+-- an argument: the attribute is an enum value or an input field; or the field has no argument of the name; or
+-- there is no attribute of the name, as in its own lookup
 abbrev pub IsMissingFieldArgument : Schema → NameView → NameView → NameView → SchemaLookupError → Type 0
 IsMissingFieldArgument s t f a (InvalidArgumentAttribute n) =
     (n.now ≡ f) × (IsSome (enum_value_at s.types t f) ⊎ IsSome (input_field_at s.types t f))

@@ -15,7 +15,10 @@ use Rattle.apollo_coordinate.specs.declared.coordinates.FieldArgumentCoordinate.
 use Rattle.apollo_coordinate.specs.declared.coordinates.DirectiveCoordinate.{DirectiveCoordinate}
 use Rattle.apollo_coordinate.specs.declared.coordinates.DirectiveArgumentCoordinate.{DirectiveArgumentCoordinate}
 use Rattle.apollo_coordinate.specs.declared.coordinates.SchemaCoordinate.{SchemaCoordinate}
-use Rattle.apollo_coordinate.specs.declared.coordinates.SchemaCoordinate.TheVariants.{Ty, TypeAttribute, FieldArgument, Directive, DirectiveArgument}
+use Rattle.apollo_coordinate.specs.declared.coordinates.SchemaCoordinate.TheVariants.{Ty, TypeAttribute}
+use Rattle.apollo_coordinate.specs.declared.coordinates.SchemaCoordinate.TheVariants.{FieldArgument}
+use Rattle.apollo_coordinate.specs.declared.coordinates.SchemaCoordinate.TheVariants.{Directive}
+use Rattle.apollo_coordinate.specs.declared.coordinates.SchemaCoordinate.TheVariants.{DirectiveArgument}
 
 -- `T`
 abbrev pub IsTypeText : List ℕ → Type 0

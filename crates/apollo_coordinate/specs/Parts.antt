@@ -8,7 +8,8 @@ use Rattle.apollo_coordinate.specs.declared.coordinates.DirectiveArgumentCoordin
 use Rattle.apollo_coordinate.specs.declared.coordinates.SchemaCoordinate.{SchemaCoordinate}
 use Rattle.apollo_coordinate.specs.declared.coordinates.SchemaCoordinate.TheVariants as any
 use Rattle.apollo_coordinate.specs.declared.parse_error.SchemaCoordinateParseError.{SchemaCoordinateParseError}
-use Rattle.apollo_coordinate.specs.declared.parse_error.SchemaCoordinateParseError.TheVariants.{InvalidFormat, InvalidName}
+use Rattle.apollo_coordinate.specs.declared.parse_error.SchemaCoordinateParseError.TheVariants.{InvalidFormat}
+use Rattle.apollo_coordinate.specs.declared.parse_error.SchemaCoordinateParseError.TheVariants.{InvalidName}
 use Rattle.apollo_coordinate.specs.declared.text_parts.AttributeParts.{AttributeParts}
 use Rattle.apollo_coordinate.specs.declared.text_parts.FieldArgumentParts.{FieldArgumentParts}
 use Rattle.apollo_coordinate.specs.declared.text_parts.DirectiveArgumentParts.{DirectiveArgumentParts}

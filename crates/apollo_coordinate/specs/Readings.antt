@@ -6,7 +6,8 @@ use Rattle.apollo_coordinate.specs.declared.coordinates.SchemaCoordinate.{Schema
 use Rattle.apollo_coordinate.specs.declared.parse_error.SchemaCoordinateParseError.{SchemaCoordinateParseError}
 use Rattle.apollo_coordinate.specs.declared.parse_error.SchemaCoordinateParseError.TheVariants.{Memory}
 
--- what `SchemaCoordinate::from_str` promises of its answer to a text: it says the answer, or is outside the grammar
+-- what `SchemaCoordinate::from_str` promises of its answer to a text: it says the answer, or is outside the
+-- grammar
 abbrev pub IsReadingOf : List ℕ → Result SchemaCoordinate SchemaCoordinateParseError → Type 0
 IsReadingOf t result = IfOk result (SaysCoordinate t) × IfErr result (WhenRefused (IsNoCoordinate t))
 

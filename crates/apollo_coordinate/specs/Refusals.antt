@@ -20,7 +20,9 @@ use Rattle.graphql_nodes.specs.NameSyntax.{IsName}
 use Rattle.graphql_nodes.specs.declared.name.NameError.{NameError}
 use Rattle.graphql_nodes.specs.declared.name.NameError.TheVariants as names
 use Rattle.apollo_coordinate.specs.declared.parse_error.SchemaCoordinateParseError.{SchemaCoordinateParseError}
-use Rattle.apollo_coordinate.specs.declared.parse_error.SchemaCoordinateParseError.TheVariants.{InvalidFormat, InvalidName, Memory}
+use Rattle.apollo_coordinate.specs.declared.parse_error.SchemaCoordinateParseError.TheVariants.{InvalidFormat}
+use Rattle.apollo_coordinate.specs.declared.parse_error.SchemaCoordinateParseError.TheVariants.{InvalidName}
+use Rattle.apollo_coordinate.specs.declared.parse_error.SchemaCoordinateParseError.TheVariants.{Memory}
 use Rattle.apollo_coordinate.specs.CoordinateText.{IsAttributeText, IsDirectiveText, IsCoordinateText}
 
 -- what a refused name is to a coordinate

@@ -1,7 +1,8 @@
 //! The five coordinates, and any of them: the Schema Coordinates RFC of GraphQL.
 //!
-//! Coordinates are equal and hashed by the texts of their names. A clone is the original, with the locations of its names; its
-//! error is out of memory. `Display` is the text of the form, which reads back as the coordinate where the parts are names.
+//! Coordinates are equal and hashed by the texts of their names. A clone is the original, with the locations
+//! of its names; its error is out of memory. `Display` is the text of the form, which reads back as the
+//! coordinate where the parts are names.
 ghost use Rattle.std.specs.Prelude.{◌≡◌, IfOk};
 ghost use Rattle.apollo_coordinate.specs.declared.coordinates.SchemaCoordinate.TheVariants as any;
 

@@ -1,14 +1,16 @@
 //! Coordinates from texts: the Schema Coordinates RFC of GraphQL.
 //!
-//! A text is first read into its parts, in place. Only if all of it is of the form are they made names, from the left: a text
-//! that is read takes memory for its names alone. A refused text takes memory for the one text that `InvalidName` carries,
-//! and for `InvalidFormat` none: where the format is refused, it is whatever memory there is. `Memory` says nothing more of the
-//! text than that.
+//! A text is first read into its parts, in place. Only if all of it is of the form are they made names, from
+//! the left: a text that is read takes memory for its names alone. A refused text takes memory for the one
+//! text that `InvalidName` carries, and for `InvalidFormat` none: where the format is refused, it is whatever
+//! memory there is. `Memory` says nothing more of the text than that.
 ghost use Rattle.std.specs.Prelude.{◌≡◌, Err, IfOk, IfErr, OnOk};
 ghost use Rattle.apollo_coordinate.specs.CoordinateText.{IsCoordinateText, SaysCoordinate};
-ghost use Rattle.apollo_coordinate.specs.Parts.{attribute_of, field_argument_of, directive_argument_of, coordinate_of};
+ghost use Rattle.apollo_coordinate.specs.Parts.{attribute_of, field_argument_of, directive_argument_of};
+ghost use Rattle.apollo_coordinate.specs.Parts.{coordinate_of};
 ghost use Rattle.apollo_coordinate.specs.Readings.{IsReadingOf};
-ghost use Rattle.apollo_coordinate.specs.Refusals.{WhenRefused, IsNoName, IsNoAttribute, IsNoDirective, IsNoFieldArgument, IsNoDirectiveArgument};
+ghost use Rattle.apollo_coordinate.specs.Refusals.{WhenRefused, IsNoName, IsNoAttribute, IsNoDirective};
+ghost use Rattle.apollo_coordinate.specs.Refusals.{IsNoFieldArgument, IsNoDirectiveArgument};
 ghost use Rattle.apollo_coordinate.specs.declared.coordinates.SchemaCoordinate.TheVariants as any;
 
 use crate::coordinates::{
@@ -80,8 +82,8 @@ impl<'a> Parts<'a> {
 impl TypeCoordinate {
     /// The coordinate that a text `Type` says, whose name has no location.
     ///
-    /// A text that is no name is refused with [`InvalidName`](SchemaCoordinateParseError::InvalidName) of the text;
-    /// [`Memory`](SchemaCoordinateParseError::Memory) is out of memory. `InvalidFormat` doesn't come.
+    /// A text that is no name is refused with [`InvalidName`](SchemaCoordinateParseError::InvalidName) of the
+    /// text; [`Memory`](SchemaCoordinateParseError::Memory) is out of memory. `InvalidFormat` doesn't come.
     pub fn from_str(alloc: Global, text: &str) -> Result<TypeCoordinate, SchemaCoordinateParseError>
         ensures says { IfOk result (λ c. SaysCoordinate text.now (any.Ty c)) }
         ensures refused { IfErr result (WhenRefused (IsNoName text.now)) }
@@ -98,10 +100,10 @@ impl TypeCoordinate {
 impl TypeAttributeCoordinate {
     /// The coordinate that a text `Type.attribute` says, whose names have no location.
     ///
-    /// A text without a `.` is refused with [`InvalidFormat`](SchemaCoordinateParseError::InvalidFormat). Of what stands
-    /// before and after the first `.` the first that is no name is refused with
-    /// [`InvalidName`](SchemaCoordinateParseError::InvalidName) of it. [`Memory`](SchemaCoordinateParseError::Memory) is out of
-    /// memory.
+    /// A text without a `.` is refused with [`InvalidFormat`](SchemaCoordinateParseError::InvalidFormat). Of
+    /// what stands before and after the first `.` the first that is no name is refused with
+    /// [`InvalidName`](SchemaCoordinateParseError::InvalidName) of it.
+    /// [`Memory`](SchemaCoordinateParseError::Memory) is out of memory.
     pub fn from_str(
         alloc: Global,
         text: &str,
@@ -148,8 +150,8 @@ impl DirectiveCoordinate {
     ///
     /// A text that doesn't begin with `@` is refused with
     /// [`InvalidFormat`](SchemaCoordinateParseError::InvalidFormat), and what is no name after it with
-    /// [`InvalidName`](SchemaCoordinateParseError::InvalidName) of it. [`Memory`](SchemaCoordinateParseError::Memory) is out of
-    /// memory.
+    /// [`InvalidName`](SchemaCoordinateParseError::InvalidName) of it.
+    /// [`Memory`](SchemaCoordinateParseError::Memory) is out of memory.
     pub fn from_str(
         alloc: Global,
         text: &str,
@@ -195,9 +197,9 @@ impl DirectiveArgumentCoordinate {
 impl SchemaCoordinate {
     /// The coordinate that a text of any form says, whose names have no location.
     ///
-    /// A text of no form is refused with [`InvalidName`](SchemaCoordinateParseError::InvalidName) of the whole text, but for
-    /// the `@` that it may begin with. [`Memory`](SchemaCoordinateParseError::Memory) is out of memory, and is answered at
-    /// once. `InvalidFormat` doesn't come.
+    /// A text of no form is refused with [`InvalidName`](SchemaCoordinateParseError::InvalidName) of the
+    /// whole text, but for the `@` that it may begin with. [`Memory`](SchemaCoordinateParseError::Memory) is
+    /// out of memory, and is answered at once. `InvalidFormat` doesn't come.
     pub fn from_str(
         alloc: Global,
         text: &str,

@@ -1,9 +1,18 @@
-//! Laws of coordinates and their texts, for those who build on them; and what `==` answers at coordinates and at what their
-//! lookups answer. Schema Coordinates RFC; names are those of section 2.1.9 of the GraphQL specification of October 2021.
+//! Laws of coordinates and their texts, for those who build on them; and what `==` answers at coordinates and
+//! at what their lookups answer. Schema Coordinates RFC; names are those of section 2.1.9 of the GraphQL
+//! specification of October 2021.
 ghost use Rattle.std.specs.Prelude.{◌≡◌, ℕ, List, Result};
 ghost use Rattle.apollo_coordinate.specs.BareLookups.{bare_attribute_lookup, bare_lookup};
-ghost use Rattle.apollo_coordinate.specs.CoordinateText.{IsTypeText, IsAttributeText, IsFieldArgumentText, IsDirectiveText, IsDirectiveArgumentText, IsCoordinateText, HasNames, SaysCoordinate, coordinate_text, bare_coordinate, bare_type_coordinate, bare_attribute_coordinate, bare_field_argument_coordinate, bare_directive_coordinate, bare_directive_argument_coordinate};
-ghost use Rattle.apollo_coordinate.specs.Refusals.{IsNoName, IsNoAttribute, IsNoFieldArgument, IsNoDirective, IsNoDirectiveArgument};
+ghost use Rattle.apollo_coordinate.specs.CoordinateText.{IsTypeText, IsAttributeText, IsFieldArgumentText};
+ghost use Rattle.apollo_coordinate.specs.CoordinateText.{IsDirectiveText, IsDirectiveArgumentText};
+ghost use Rattle.apollo_coordinate.specs.CoordinateText.{IsCoordinateText, HasNames, SaysCoordinate};
+ghost use Rattle.apollo_coordinate.specs.CoordinateText.{coordinate_text, bare_coordinate};
+ghost use Rattle.apollo_coordinate.specs.CoordinateText.{bare_type_coordinate, bare_attribute_coordinate};
+ghost use Rattle.apollo_coordinate.specs.CoordinateText.{bare_field_argument_coordinate};
+ghost use Rattle.apollo_coordinate.specs.CoordinateText.{bare_directive_coordinate};
+ghost use Rattle.apollo_coordinate.specs.CoordinateText.{bare_directive_argument_coordinate};
+ghost use Rattle.apollo_coordinate.specs.Refusals.{IsNoName, IsNoAttribute, IsNoFieldArgument, IsNoDirective};
+ghost use Rattle.apollo_coordinate.specs.Refusals.{IsNoDirectiveArgument};
 ghost use Rattle.apollo_coordinate.specs.Readings.{IsReadingOf, IsReadBack};
 ghost use Rattle.graphql_nodes.specs.Clones.{IsExact};
 ghost use Rattle.graphql_nodes.specs.Comparing.{ComparesBy};
@@ -53,8 +62,8 @@ pub fn equality_of_coordinates()
     ensures coordinate { ComparesBy ⟦<SchemaCoordinate as PartialEq>⟧.eq bare_coordinate }
 {}
 
-/// What lookups answer is equal exactly where both answers are of one sort, and what is found is one without locations, origins
-/// and sources. GraphQL specification of October 2021, sections 3.4 to 3.10 and 3.13.
+/// What lookups answer is equal exactly where both answers are of one sort, and what is found is one without
+/// locations, origins and sources. GraphQL specification of October 2021, sections 3.4 to 3.10 and 3.13.
 pub fn equality_of_lookups<'schema>()
     ensures attribute { ComparesBy ⟦<TypeAttributeLookup<'schema> as PartialEq>⟧.eq bare_attribute_lookup }
     ensures coordinate { ComparesBy ⟦<SchemaCoordinateLookup<'schema> as PartialEq>⟧.eq bare_lookup }
@@ -63,7 +72,8 @@ pub fn equality_of_lookups<'schema>()
     equality_of_types();
 }
 
-/// Each clone of a coordinate is the original, with the locations of its names; and so is each clone of a refusal.
+/// Each clone of a coordinate is the original, with the locations of its names; and so is each clone of a
+/// refusal.
 pub fn clones_of_coordinates_are_exact()
     ensures ty { IsExact ⟦<TypeCoordinate as Clone>⟧.is_clone }
     ensures attribute { IsExact ⟦<TypeAttributeCoordinate as Clone>⟧.is_clone }

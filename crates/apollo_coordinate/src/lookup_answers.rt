@@ -14,7 +14,8 @@ use thiserror::Error;
 
 /// What an attribute of a type is, lent by the schema.
 ///
-/// Answers are equal where they are of one sort and what is found is equal: locations and origins are left out.
+/// Answers are equal where they are of one sort and what is found is equal: locations and origins are left
+/// out.
 #[derive(Debug, Clone, Copy, PartialEq, Eq)]
 pub enum TypeAttributeLookup<'schema> {
     /// A field of an object or interface type, or a meta-field.
@@ -25,9 +26,11 @@ pub enum TypeAttributeLookup<'schema> {
     EnumValue(&'schema Component<EnumValueDefinition>),
 }
 
-/// What a coordinate of any form points to, lent by the schema. `From` of what is found is the answer of its sort.
+/// What a coordinate of any form points to, lent by the schema. `From` of what is found is the answer of its
+/// sort.
 ///
-/// Answers are equal where they are of one sort and what is found is equal: locations and origins are left out.
+/// Answers are equal where they are of one sort and what is found is equal: locations and origins are left
+/// out.
 #[derive(Debug, Clone, Copy, PartialEq, Eq)]
 pub enum SchemaCoordinateLookup<'schema> {
     Ty(&'schema ExtendedType),
@@ -39,7 +42,8 @@ pub enum SchemaCoordinateLookup<'schema> {
     Argument(&'schema Node<InputValueDefinition>),
 }
 
-/// Why a coordinate points to nothing in a schema. The names are lent by the coordinate, the type by the schema.
+/// Why a coordinate points to nothing in a schema. The names are lent by the coordinate, the type by the
+/// schema.
 #[derive(Debug, Clone, Copy, Error)]
 pub enum SchemaLookupError<'coord, 'schema> {
     /// The schema has no type, or no directive, of this name.
@@ -54,7 +58,8 @@ pub enum SchemaLookupError<'coord, 'schema> {
     /// The field or directive has no argument of this name.
     #[error("field or directive does not have argument `{0}`")]
     MissingArgument(&'coord Name),
-    /// This type has no such attribute, and is of a kind without attributes, or without those that are looked for.
+    /// This type has no such attribute, and is of a kind without attributes, or without those that are looked
+    /// for.
     #[error("type does not have attributes")]
     InvalidType(&'schema ExtendedType),
 }

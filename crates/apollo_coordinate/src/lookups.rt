@@ -1,10 +1,19 @@
-//! Coordinates looked up in schemas: the Schema Coordinates RFC, and the GraphQL specification of October 2021, sections 3.5 to
-//! 3.10, 3.13, 4.1 and 4.2. Meta-fields are found. Lookups borrow from the schema and take no memory.
+//! Coordinates looked up in schemas: the Schema Coordinates RFC, and the GraphQL specification of October
+//! 2021, sections 3.5 to 3.10, 3.13, 4.1 and 4.2. Meta-fields are found. Lookups borrow from the schema and
+//! take no memory.
 ghost use Rattle.std.specs.Prelude.{◌≡◌, Some, None, IfOk, IfErr, OnErr};
 ghost use Rattle.std.specs.Option.{option_copied};
 ghost use Rattle.apollo_types.specs.TypeKinds.{is_enum, is_input_object};
 ghost use Rattle.apollo_schema.specs.Lookups.{type_at, field_at};
-ghost use Rattle.apollo_coordinate.specs.CoordinateLookups.{declared_enum_value, declared_input_field, enum_value_at, input_field_at, directive_at, declares_fields, declares_attributes, IsFieldName, IsAttribute, HasNoAttribute, field_argument_at, directive_argument_at, IsMissingHere, IsMissingType, IsMissingAttribute, IsMissingFieldArgument, IsMissingDirective, IsMissingDirectiveArgument, PointsTo, PointsToNothing};
+ghost use Rattle.apollo_coordinate.specs.CoordinateLookups.{declared_enum_value, declared_input_field};
+ghost use Rattle.apollo_coordinate.specs.CoordinateLookups.{enum_value_at, input_field_at, directive_at};
+ghost use Rattle.apollo_coordinate.specs.CoordinateLookups.{declares_fields, declares_attributes};
+ghost use Rattle.apollo_coordinate.specs.CoordinateLookups.{IsFieldName, IsAttribute, HasNoAttribute};
+ghost use Rattle.apollo_coordinate.specs.CoordinateLookups.{field_argument_at, directive_argument_at};
+ghost use Rattle.apollo_coordinate.specs.CoordinateLookups.{IsMissingHere, IsMissingType, IsMissingAttribute};
+ghost use Rattle.apollo_coordinate.specs.CoordinateLookups.{IsMissingFieldArgument, IsMissingDirective};
+ghost use Rattle.apollo_coordinate.specs.CoordinateLookups.{IsMissingDirectiveArgument, PointsTo};
+ghost use Rattle.apollo_coordinate.specs.CoordinateLookups.{PointsToNothing};
 
 use crate::coordinates::{
     DirectiveArgumentCoordinate, DirectiveCoordinate, FieldArgumentCoordinate, SchemaCoordinate,
@@ -129,7 +138,8 @@ fn find_directive<'coord, 'schema>(
 }
 
 impl TypeCoordinate {
-    /// The type that the coordinate points to. [`MissingType`](SchemaLookupError::MissingType) is a name without a type.
+    /// The type that the coordinate points to. [`MissingType`](SchemaLookupError::MissingType) is a name
+    /// without a type.
     pub fn lookup<'coord, 'schema>(
         &'coord self,
         schema: &'schema Schema,
@@ -142,11 +152,11 @@ impl TypeCoordinate {
 }
 
 impl TypeAttributeCoordinate {
-    /// The attribute that the coordinate points to: an enum value or an input field of the name, or else the field that
-    /// [`Schema::type_field`] finds, which may be a meta-field.
+    /// The attribute that the coordinate points to: an enum value or an input field of the name, or else the
+    /// field that [`Schema::type_field`] finds, which may be a meta-field.
     ///
-    /// [`MissingType`](SchemaLookupError::MissingType) is a name without a type. Where the type has no such attribute, the
-    /// error is [`InvalidType`](SchemaLookupError::InvalidType) for a scalar or a union, and
+    /// [`MissingType`](SchemaLookupError::MissingType) is a name without a type. Where the type has no such
+    /// attribute, the error is [`InvalidType`](SchemaLookupError::InvalidType) for a scalar or a union, and
     /// [`MissingAttribute`](SchemaLookupError::MissingAttribute) for any other.
     pub fn lookup<'coord, 'schema>(
         &'coord self,
@@ -162,9 +172,9 @@ impl TypeAttributeCoordinate {
 
     /// The field that the coordinate points to, as [`Schema::type_field`] finds it: it may be a meta-field.
     ///
-    /// [`MissingType`](SchemaLookupError::MissingType) is a name without a type. Where the type has no such field, the error
-    /// is [`MissingAttribute`](SchemaLookupError::MissingAttribute) for an object or interface, and
-    /// [`InvalidType`](SchemaLookupError::InvalidType) for any other.
+    /// [`MissingType`](SchemaLookupError::MissingType) is a name without a type. Where the type has no such
+    /// field, the error is [`MissingAttribute`](SchemaLookupError::MissingAttribute) for an object or
+    /// interface, and [`InvalidType`](SchemaLookupError::InvalidType) for any other.
     pub fn lookup_field<'coord, 'schema>(
         &'coord self,
         schema: &'schema Schema,
@@ -186,9 +196,9 @@ impl TypeAttributeCoordinate {
 
     /// The input field that the coordinate points to.
     ///
-    /// [`MissingType`](SchemaLookupError::MissingType) is a name without a type. Where the type has no such input field, the
-    /// error is [`MissingAttribute`](SchemaLookupError::MissingAttribute) for an input object, and
-    /// [`InvalidType`](SchemaLookupError::InvalidType) for any other.
+    /// [`MissingType`](SchemaLookupError::MissingType) is a name without a type. Where the type has no such
+    /// input field, the error is [`MissingAttribute`](SchemaLookupError::MissingAttribute) for an input
+    /// object, and [`InvalidType`](SchemaLookupError::InvalidType) for any other.
     pub fn lookup_input_field<'coord, 'schema>(
         &'coord self,
         schema: &'schema Schema,
@@ -208,8 +218,8 @@ impl TypeAttributeCoordinate {
 
     /// The enum value that the coordinate points to.
     ///
-    /// [`MissingType`](SchemaLookupError::MissingType) is a name without a type. Where the type has no such value, the error is
-    /// [`MissingAttribute`](SchemaLookupError::MissingAttribute) for an enum, and
+    /// [`MissingType`](SchemaLookupError::MissingType) is a name without a type. Where the type has no such
+    /// value, the error is [`MissingAttribute`](SchemaLookupError::MissingAttribute) for an enum, and
     /// [`InvalidType`](SchemaLookupError::InvalidType) for any other.
     pub fn lookup_enum_value<'coord, 'schema>(
         &'coord self,
@@ -230,11 +240,13 @@ impl TypeAttributeCoordinate {
 }
 
 impl FieldArgumentCoordinate {
-    /// The argument that the coordinate points to: the first of its name of the field, which may be a meta-field.
+    /// The argument that the coordinate points to: the first of its name of the field, which may be a
+    /// meta-field.
     ///
-    /// Where the type has no attribute of the field's name, the error is that of [`TypeAttributeCoordinate::lookup`]. An enum
-    /// value or input field is [`InvalidArgumentAttribute`](SchemaLookupError::InvalidArgumentAttribute), and a field without
-    /// such an argument [`MissingArgument`](SchemaLookupError::MissingArgument).
+    /// Where the type has no attribute of the field's name, the error is that of
+    /// [`TypeAttributeCoordinate::lookup`]. An enum value or input field is
+    /// [`InvalidArgumentAttribute`](SchemaLookupError::InvalidArgumentAttribute), and a field without such an
+    /// argument [`MissingArgument`](SchemaLookupError::MissingArgument).
     pub fn lookup<'coord, 'schema>(
         &'coord self,
         schema: &'schema Schema,
@@ -259,8 +271,8 @@ impl FieldArgumentCoordinate {
 }
 
 impl DirectiveCoordinate {
-    /// The directive that the coordinate points to. [`MissingType`](SchemaLookupError::MissingType) is a name without a
-    /// directive.
+    /// The directive that the coordinate points to. [`MissingType`](SchemaLookupError::MissingType) is a name
+    /// without a directive.
     pub fn lookup<'coord, 'schema>(
         &'coord self,
         schema: &'schema Schema,

@@ -1,6 +1,7 @@
 //! Why a text is not read as a coordinate.
 ghost use Rattle.std.specs.Prelude.{◌≡◌};
-ghost use Rattle.apollo_coordinate.specs.declared.parse_error.SchemaCoordinateParseError.TheVariants.{InvalidName, Memory};
+ghost use Rattle.apollo_coordinate.specs.declared.parse_error.SchemaCoordinateParseError.TheVariants.{InvalidName};
+ghost use Rattle.apollo_coordinate.specs.declared.parse_error.SchemaCoordinateParseError.TheVariants.{Memory};
 ghost use Rattle.apollo_coordinate.specs.Refusals.{error_of_name};
 
 use graphql_nodes::name::{InvalidNameError, NameError};
@@ -15,8 +16,8 @@ pub enum SchemaCoordinateParseError {
     /// A mark of the coordinate's form is missing, or stands elsewhere. It takes no memory.
     #[error("invalid schema coordinate")]
     InvalidFormat,
-    /// A part is no name (section 2.1.9 of the GraphQL specification of October 2021). The error has a copy of the part, and no
-    /// location.
+    /// A part is no name (section 2.1.9 of the GraphQL specification of October 2021). The error has a copy
+    /// of the part, and no location.
     #[error(transparent)]
     InvalidName(InvalidNameError),
     /// Memory ran out, which says of the text only that its format is not refused.

@@ -1,6 +1,9 @@
 //! Coordinates as texts: the Schema Coordinates RFC of GraphQL.
 ghost use Rattle.std.specs.Prelude.{Some};
-ghost use Rattle.apollo_coordinate.specs.CoordinateText.{type_coordinate_text, attribute_coordinate_text, field_argument_coordinate_text, directive_coordinate_text, directive_argument_coordinate_text, coordinate_text};
+ghost use Rattle.apollo_coordinate.specs.CoordinateText.{type_coordinate_text, attribute_coordinate_text};
+ghost use Rattle.apollo_coordinate.specs.CoordinateText.{field_argument_coordinate_text};
+ghost use Rattle.apollo_coordinate.specs.CoordinateText.{directive_coordinate_text};
+ghost use Rattle.apollo_coordinate.specs.CoordinateText.{directive_argument_coordinate_text, coordinate_text};
 
 use crate::coordinates::{
     DirectiveArgumentCoordinate, DirectiveCoordinate, FieldArgumentCoordinate, SchemaCoordinate,

@@ -1,4 +1,5 @@
-//! Why a text is no coordinate, told by what stands in the text: only the error that is answered takes memory.
+//! Why a text is no coordinate, told by what stands in the text: only the error that is answered takes
+//! memory.
 ghost use Rattle.std.specs.Prelude.{◌≡◌};
 ghost use Rattle.apollo_coordinate.specs.Parts.{error_of};
 ghost use Rattle.apollo_coordinate.specs.Refusals.{WhenRefused};
@@ -18,7 +19,8 @@ pub(crate) enum Refusal<'a> {
 }
 
 impl<'a> Refusal<'a> {
-    /// The error that is answered, with a copy of the part that is no name; or out of memory, where there is none for that.
+    /// The error that is answered, with a copy of the part that is no name; or out of memory, where there is
+    /// none for that.
     pub(crate) fn into_error(self, alloc: Global) -> SchemaCoordinateParseError
         ensures answered { WhenRefused (λ error. error ≡ error_of self.entry) result }
         ensures format { error_of self.entry ≡ SchemaCoordinateParseError.InvalidFormat

@@ -1,10 +1,15 @@
 //! The parts of a text, cut at its marks and checked in place: nothing here takes memory.
-ghost use Rattle.std.specs.Prelude.{◌≡◌, ◌≢◌, ◌++◌, ◌<◌, ℕ, List, IfOk, IfErr, OnOk, IsOk, MatchOption, codes};
+ghost use Rattle.std.specs.Prelude.{◌≡◌, ◌≢◌, ◌++◌, ◌<◌, ℕ, List, IfOk, IfErr, OnOk, IsOk, MatchOption};
+ghost use Rattle.std.specs.Prelude.{codes};
 ghost use Rattle.graphql_nodes.specs.NameSyntax.{IsName};
 ghost use Rattle.graphql_nodes.specs.NameView.{plain_name};
-ghost use Rattle.apollo_coordinate.specs.CoordinateText.{IsCoordinateText, IsAttributeText, IsDirectiveText, SaysCoordinate};
-ghost use Rattle.apollo_coordinate.specs.Parts.{attribute_of, field_argument_of, directive_argument_of, coordinate_of, error_of};
-ghost use Rattle.apollo_coordinate.specs.Refusals.{Lacks, IsCut, IsNoName, IsNoNames, IsNoAttribute, IsNoDirective, IsNoArgument, IsNoPair, IsNoFieldArgument, IsNoDirectiveArgument, IsNoCoordinate, without_at};
+ghost use Rattle.apollo_coordinate.specs.CoordinateText.{IsCoordinateText, IsAttributeText, IsDirectiveText};
+ghost use Rattle.apollo_coordinate.specs.CoordinateText.{SaysCoordinate};
+ghost use Rattle.apollo_coordinate.specs.Parts.{attribute_of, field_argument_of, directive_argument_of};
+ghost use Rattle.apollo_coordinate.specs.Parts.{coordinate_of, error_of};
+ghost use Rattle.apollo_coordinate.specs.Refusals.{Lacks, IsCut, IsNoName, IsNoNames, IsNoAttribute};
+ghost use Rattle.apollo_coordinate.specs.Refusals.{IsNoDirective, IsNoArgument, IsNoPair, IsNoFieldArgument};
+ghost use Rattle.apollo_coordinate.specs.Refusals.{IsNoDirectiveArgument, IsNoCoordinate, without_at};
 ghost use Rattle.apollo_coordinate.specs.declared.coordinates.SchemaCoordinate.TheVariants as any;
 
 use crate::refusal::Refusal;
@@ -210,7 +215,8 @@ impl<'a> Parts<'a> {
         })
     }
 
-    /// The parts of a text of any form. A text of none is refused whole, but for the `@` that it may begin with.
+    /// The parts of a text of any form. A text of none is refused whole, but for the `@` that it may begin
+    /// with.
     pub(crate) fn read(text: &'a str) -> Result<Parts<'a>, Refusal<'a>>
         ensures says { IfOk result (λ parts. SaysCoordinate text.now (coordinate_of parts)) }
         ensures grammar { OnOk result (IsCoordinateText text.now) }

@@ -1,5 +1,5 @@
--- A typed tree, erased and elaborated again, gives itself and no fault. So of typed sets from one type no two are erased to one
--- list.
+-- A typed tree, erased and elaborated again, gives itself and no fault. So of typed sets from one type no two
+-- are erased to one list.
 use Rattle.std.proofs.Common.{◌≡◌, ◌∙◌, ap, sym, subst, refl, List, [], ◌∷◌, ◌++◌, map, Option, Some, option_map, Ok}
 use Rattle.std.specs.List.{AllByRecursion, cons_option}
 use Rattle.graphql_nodes.specs.NameView.{NameView}

@@ -23,7 +23,8 @@ some_key test (e ∷ es) = by (test e.0) (some_key test es)
 any : {V : Type 0} (es : List (NameView × V)) (m : NameView) (v : V) → list_any (same_key same_text (m, v)) es ≡ is_some (lookup_key (same_text m) (first_of_each (same_key same_text) es))
 any es m v = sym (list_any-first_of_each (same_key same_text) entry_laws (m, v) es) ∙ some_key (same_text m) (first_of_each (same_key same_text) es)
 
--- of one more entry, if there is one, the first of each name are those with it put last, unless its name is taken
+-- of one more entry, if there is one, the first of each name are those with it put last, unless its name is
+-- taken
 pub first-put : {V : Type 0} (es : List (NameView × V)) (m : NameView) (v : V) (b : Bool)
     → first_of_each (same_key same_text) (es ++ cond b ((m, v) ∷ []) []) ≡ put_unless_taken m (lookup_key (same_text m) (first_of_each (same_key same_text) es)) (cond b (Some v) None) (first_of_each (same_key same_text) es)
 first-put {V} es m v b = by (lookup_key (same_text m) (first_of_each (same_key same_text) es)) refl b

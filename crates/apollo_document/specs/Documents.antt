@@ -1,5 +1,5 @@
--- The document that is built of a list of definitions, over a schema value or without a schema: GraphQL specification of October
--- 2021, sections 2.2 to 2.8.
+-- The document that is built of a list of definitions, over a schema value or without a schema: GraphQL
+-- specification of October 2021, sections 2.2 to 2.8.
 use Rattle.std.specs.Prelude.{◌≡◌, List, Option}
 use Rattle.std.specs.List.{AllZip}
 use Rattle.graphql_nodes.specs.NameView.{NameView}
@@ -15,9 +15,11 @@ abbrev pub IsUnderName : {A B : Type 0} → (A → B → Type 0) → NameView ×
 IsUnderName R kept entry = (entry.0 ≡ kept.0) × R kept.1 entry.1
 
 -- the operations and fragments are the kept ones of the list, each at its place among them
-pub record IsDocumentOf (s : Option Schema) (xs : List DocumentItem) (document : ExecutableDocument) : Type 0 where
+pub record IsDocumentOf (s : Option Schema) (xs : List DocumentItem) (document : ExecutableDocument) :
+    Type 0 where
   -- the kept anonymous operation, typed, if there is one
-  pub anonymous : AllZip (IsOperationOf s) (listed (kept_anonymous s xs)) (listed document.operations.anonymous)
+  pub anonymous : AllZip (IsOperationOf s) (listed (kept_anonymous s xs))
+      (listed document.operations.anonymous)
   -- the kept named operations, typed, each under its name
   pub named : AllZip (IsUnderName (IsOperationOf s)) (kept_named s xs) document.operations.named
   -- the kept fragments, typed, each under its name

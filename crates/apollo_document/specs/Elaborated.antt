@@ -46,10 +46,19 @@ set_of ty xs = roll-SelectionSet (record { ty = ty; selections = xs })
 
 -- a field with this definition and set
 abbrev pub field_over : ast_field.Field → NodeView FieldDefinition → SelectionSet → Field
-field_over f d set = roll-Field (record { definition = d; alias = f.alias; name = f.name; arguments = f.arguments; directives = f.directives; selection_set = set })
+field_over f d set =
+    roll-Field (record {
+      definition = d;
+      alias = f.alias;
+      name = f.name;
+      arguments = f.arguments;
+      directives = f.directives;
+      selection_set = set;
+    })
 
 -- a field with this definition, and with what stands for its subselections in its child type
-abbrev pub typed_field : Option NameView → NameView → List (NodeView Argument) → DirectiveList → (NameView → List Selection) → NodeView FieldDefinition → Field
+abbrev pub typed_field : Option NameView → NameView → List (NodeView Argument) → DirectiveList
+    → (NameView → List Selection) → NodeView FieldDefinition → Field
 typed_field alias name arguments directives below d = roll-Field (record {
   definition = d;
   alias = alias;
@@ -60,14 +69,24 @@ typed_field alias name arguments directives below d = roll-Field (record {
 })
 
 -- an inline fragment with this child type, and with what stands for its selections in that
-abbrev pub typed_inline_fragment : Option NameView → DirectiveList → (NameView → List Selection) → NameView → InlineFragment
-typed_inline_fragment condition directives below child = roll-InlineFragment (record { type_condition = condition; directives = directives; selection_set = set_of child (below child) })
+abbrev pub typed_inline_fragment : Option NameView → DirectiveList → (NameView → List Selection) → NameView
+    → InlineFragment
+typed_inline_fragment condition directives below child =
+    roll-InlineFragment (record {
+      type_condition = condition;
+      directives = directives;
+      selection_set = set_of child (below child);
+    })
 
 -- one level of a selection
 abbrev pub selection_step : layer.Selection-F TS TF TI → TS
-selection_step (layer.Selection-F.Field n) ty = option_map (λ (f : Field). roll-Selection (Selection-F.Field (in_place_of n f))) (n.value ty)
-selection_step (layer.Selection-F.FragmentSpread n) ty = Some (roll-Selection (Selection-F.FragmentSpread (in_place_of n (typed_spread n.value))))
-selection_step (layer.Selection-F.InlineFragment n) ty = option_map (λ (f : InlineFragment). roll-Selection (Selection-F.InlineFragment (in_place_of n f))) (n.value ty)
+selection_step (layer.Selection-F.Field n) ty =
+    option_map (λ (f : Field). roll-Selection (Selection-F.Field (in_place_of n f))) (n.value ty)
+selection_step (layer.Selection-F.FragmentSpread n) ty =
+    Some (roll-Selection (Selection-F.FragmentSpread (in_place_of n (typed_spread n.value))))
+selection_step (layer.Selection-F.InlineFragment n) ty =
+    option_map (λ (f : InlineFragment). roll-Selection (Selection-F.InlineFragment (in_place_of n f)))
+    (n.value ty)
 
 -- what stands for selections in a type, in order
 abbrev pub typed_below : List TS → NameView → List Selection
@@ -75,15 +94,20 @@ typed_below ss ty = filter_map (λ (s : TS). s ty) ss
 
 -- one level of a field
 abbrev pub field_step : Option Schema → layer.Field-F TS TF TI → TF
-field_step s f ty = if_typable (typed_field f.alias f.name f.arguments f.directives (typed_below f.selection_set)) (typable_field s ty f.name (is_bare f.selection_set))
+field_step s f ty =
+    if_typable (typed_field f.alias f.name f.arguments f.directives (typed_below f.selection_set))
+    (typable_field s ty f.name (is_bare f.selection_set))
 
 -- one level of an inline fragment
 abbrev pub fragment_step : Option Schema → layer.InlineFragment-F TS TF TI → TI
-fragment_step s f ty = if_typable (typed_inline_fragment f.type_condition f.directives (typed_below f.selection_set)) (typable_fragment s ty f.type_condition)
+fragment_step s f ty =
+    if_typable (typed_inline_fragment f.type_condition f.directives (typed_below f.selection_set))
+    (typable_fragment s ty f.type_condition)
 
 -- the typed selection that stands for one in a type, if it is typable there
 abbrev pub elaborated_selection : Option Schema → NameView → ast.Selection → Option Selection
-elaborated_selection s ty x = folds.fold-Selection TS TF TI selection_step (field_step s) (fragment_step s) x ty
+elaborated_selection s ty x =
+    folds.fold-Selection TS TF TI selection_step (field_step s) (fragment_step s) x ty
 
 -- the typed field that stands for one in a type, if it is typable there
 abbrev pub elaborated_field : Option Schema → NameView → ast_field.Field → Option Field
@@ -91,7 +115,8 @@ elaborated_field s ty f = folds.fold-Field TS TF TI selection_step (field_step s
 
 -- the typed inline fragment that stands for one in a type, if it is typable there
 abbrev pub elaborated_fragment : Option Schema → NameView → ast_inline.InlineFragment → Option InlineFragment
-elaborated_fragment s ty f = folds.fold-InlineFragment TS TF TI selection_step (field_step s) (fragment_step s) f ty
+elaborated_fragment s ty f =
+    folds.fold-InlineFragment TS TF TI selection_step (field_step s) (fragment_step s) f ty
 
 -- the typed set that stands for a list of selections in a type
 abbrev pub elaborated : Option Schema → NameView → List ast.Selection → SelectionSet

@@ -1,4 +1,5 @@
--- Where the selections of a field set stand: as those of an anonymous query. GraphQL specification of October 2021, section 2.4.
+-- Where the selections of a field set stand: as those of an anonymous query. GraphQL specification of October
+-- 2021, section 2.4.
 use Rattle.std.specs.Prelude.{[]}
 use Rattle.graphql_nodes.specs.declared.operation_type.OperationType.TheVariants.{Query}
 use Rattle.apollo_document.specs.declared.selection_path.ExecutableDefinitionName.TheVariants.{AnonymousOperation}

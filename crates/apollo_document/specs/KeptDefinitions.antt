@@ -1,5 +1,5 @@
--- The operations and fragments that a document of a list of definitions has, over a schema value or without a schema: GraphQL
--- specification of October 2021, sections 2.3 and 2.8. The roots are those of section 3.3.1.
+-- The operations and fragments that a document of a list of definitions has, over a schema value or without a
+-- schema: GraphQL specification of October 2021, sections 2.3 and 2.8. The roots are those of section 3.3.1.
 --
 -- **Kept.** Of a list of definitions, each with whether one of the type system is at fault
 -- (`DocumentItem`), these are kept:
@@ -8,7 +8,8 @@
 --   name) the first of each name (`kept_named`), and the first of all if it is anonymous
 --   (`kept_anonymous`);
 -- - of the fragments whose condition names a type the first of each name (`kept_fragments`).
-use Rattle.std.specs.Prelude.{Bool, ◌&&◌, cond, List, [], ◌∷◌, map, filter, filter_map, Option, None, Some, option_map, is_some, not}
+use Rattle.std.specs.Prelude.{Bool, ◌&&◌, cond, List, [], ◌∷◌, map, filter, filter_map, Option, None, Some}
+use Rattle.std.specs.Prelude.{option_map, is_some, not}
 use Rattle.std.specs.List.{find, list_any}
 use Rattle.graphql_nodes.specs.NameView.{NameView, plain_name}
 use Rattle.graphql_nodes.specs.NodeView.{NodeView}
@@ -50,12 +51,15 @@ abbrev pub kept_anonymous : Option Schema → List DocumentItem → Option (Node
 kept_anonymous s xs = first_if_anonymous (find (is_rooted s) (operations xs))
 
 -- an operation under its name, if it has one
-abbrev pub operation_under_name : NodeView OperationDefinition → Option (NameView × NodeView OperationDefinition)
+abbrev pub operation_under_name : NodeView OperationDefinition
+    → Option (NameView × NodeView OperationDefinition)
 operation_under_name n = option_map (λ (name : NameView). (name, n)) n.value.name
 
 -- the named operations: the first rooted one of each name
 abbrev pub kept_named : Option Schema → List DocumentItem → List (NameView × NodeView OperationDefinition)
-kept_named s xs = first_of_each (same_key same_text) (filter_map operation_under_name (filter (is_rooted s) (operations xs)))
+kept_named s xs =
+    first_of_each (same_key same_text)
+    (filter_map operation_under_name (filter (is_rooted s) (operations xs)))
 
 -- a fragment has a type if its condition is one
 abbrev pub is_on_type : Option Schema → NodeView FragmentDefinition → Bool
@@ -67,7 +71,8 @@ fragment_under_name n = (n.value.name, n)
 
 -- the fragments: the first of each name whose condition is a type
 abbrev pub kept_fragments : Option Schema → List DocumentItem → List (NameView × NodeView FragmentDefinition)
-kept_fragments s xs = first_of_each (same_key same_text) (map fragment_under_name (filter (is_on_type s) (fragments xs)))
+kept_fragments s xs =
+    first_of_each (same_key same_text) (map fragment_under_name (filter (is_on_type s) (fragments xs)))
 
 -- what stands after the first that passes
 abbrev pub after_first : {A : Type 0} → (A → Bool) → List A → List A
@@ -76,4 +81,5 @@ after_first p (x ∷ xs) = cond (p x) xs (after_first p xs)
 
 -- an anonymous operation is kept, and another stands after it
 abbrev pub is_repeated : Option Schema → List DocumentItem → Bool
-is_repeated s xs = is_some (kept_anonymous s xs) && list_any is_anonymous (after_first (is_rooted s) (operations xs))
+is_repeated s xs =
+    is_some (kept_anonymous s xs) && list_any is_anonymous (after_first (is_rooted s) (operations xs))

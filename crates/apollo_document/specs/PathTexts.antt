@@ -1,10 +1,13 @@
--- The text of a path, which begins with that of its definition's name. GraphQL specification of October 2021, sections 2.3 to 2.8.
+-- The text of a path, which begins with that of its definition's name. GraphQL specification of October 2021,
+-- sections 2.3 to 2.8.
 use Rattle.std.specs.Prelude.{ℕ, List, [], ◌∷◌, ◌++◌, codes}
 use Rattle.graphql_nodes.specs.NameView.{NameView}
 use Rattle.graphql_nodes.specs.OperationTexts.{operation_text}
 use Rattle.apollo_document.specs.declared.selection_path.ExecutableDefinitionName.{ExecutableDefinitionName}
 use Rattle.apollo_document.specs.declared.selection_path.SelectionPath.{SelectionPath}
-use Rattle.apollo_document.specs.declared.selection_path.ExecutableDefinitionName.TheVariants.{AnonymousOperation, NamedOperation, Fragment}
+use Rattle.apollo_document.specs.declared.selection_path.ExecutableDefinitionName.TheVariants.{AnonymousOperation}
+use Rattle.apollo_document.specs.declared.selection_path.ExecutableDefinitionName.TheVariants.{NamedOperation}
+use Rattle.apollo_document.specs.declared.selection_path.ExecutableDefinitionName.TheVariants.{Fragment}
 
 -- `query`, `query N` or `fragment F`
 abbrev pub definition_name_text : ExecutableDefinitionName → List ℕ

@@ -1,6 +1,6 @@
--- The faults of an untyped list in a type, in order: for each typable selection those of its subselections in its child type,
--- for each other one what is wrong with it; of a field, the path of both is longer by its response key. GraphQL specification
--- of October 2021, sections 2.4 to 2.8.
+-- The faults of an untyped list in a type, in order: for each typable selection those of its subselections in
+-- its child type, for each other one what is wrong with it; of a field, the path of both is longer by its
+-- response key. GraphQL specification of October 2021, sections 2.4 to 2.8.
 --
 -- **Faults of selections.** `faults_of_selections` goes by the selections in order. A typable one has
 -- the faults of its subselections, in its child type. Any other one has what is wrong with it: of a
@@ -43,30 +43,40 @@ abbrev pub faults_below : List FS → FS
 faults_below ss ty path = flat_map (λ (s : FS). s ty path) ss
 
 -- the faults below what is typable, or what is wrong with what isn't
-abbrev pub below_or_wrong : {A : Type 0} → (A → List Fault) → Option SourceSpan → SelectionPath → Result A Wrong → List Fault
+abbrev pub below_or_wrong : {A : Type 0} → (A → List Fault) → Option SourceSpan → SelectionPath
+    → Result A Wrong → List Fault
 below_or_wrong below location path (Ok a) = below a
 below_or_wrong below location path (Err wrong) = wrong location path
 
 -- one level of a field
 abbrev pub field_faults_step : Option Schema → Field-F FS FN FN → FN
 field_faults_step s f ty location path =
-    below_or_wrong (λ d. faults_below f.selection_set (child_of d) (inside path (response_key_of f.alias f.name))) location (inside path (response_key_of f.alias f.name)) (typable_field s ty f.name (is_bare f.selection_set))
+    below_or_wrong (λ d.
+    faults_below f.selection_set (child_of d) (inside path (response_key_of f.alias f.name))) location
+    (inside path (response_key_of f.alias f.name)) (typable_field s ty f.name (is_bare f.selection_set))
 
 -- one level of an inline fragment
 abbrev pub fragment_faults_step : Option Schema → InlineFragment-F FS FN FN → FN
-fragment_faults_step s f ty location path = below_or_wrong (λ child. faults_below f.selection_set child path) location path (typable_fragment s ty f.type_condition)
+fragment_faults_step s f ty location path =
+    below_or_wrong (λ child. faults_below f.selection_set child path) location path
+    (typable_fragment s ty f.type_condition)
 
 -- the faults of a selection in a type, and of what is below it
 abbrev pub faults_of_selection : Option Schema → NameView → SelectionPath → Selection → List Fault
-faults_of_selection s ty path x = folds.fold-Selection FS FN FN faults_step (field_faults_step s) (fragment_faults_step s) x ty path
+faults_of_selection s ty path x =
+    folds.fold-Selection FS FN FN faults_step (field_faults_step s) (fragment_faults_step s) x ty path
 
 -- the faults of a field in a type, and of what is below it
 abbrev pub faults_of_field : Option Schema → NameView → Option SourceSpan → SelectionPath → Field → List Fault
-faults_of_field s ty location path f = folds.fold-Field FS FN FN faults_step (field_faults_step s) (fragment_faults_step s) f ty location path
+faults_of_field s ty location path f =
+    folds.fold-Field FS FN FN faults_step (field_faults_step s) (fragment_faults_step s) f ty location path
 
 -- the faults of an inline fragment in a type, and of what is below it
-abbrev pub faults_of_fragment : Option Schema → NameView → Option SourceSpan → SelectionPath → InlineFragment → List Fault
-faults_of_fragment s ty location path f = folds.fold-InlineFragment FS FN FN faults_step (field_faults_step s) (fragment_faults_step s) f ty location path
+abbrev pub faults_of_fragment : Option Schema → NameView → Option SourceSpan → SelectionPath → InlineFragment
+    → List Fault
+faults_of_fragment s ty location path f =
+    folds.fold-InlineFragment FS FN FN faults_step (field_faults_step s) (fragment_faults_step s) f ty
+    location path
 
 -- the faults of a list of selections in a type
 abbrev pub faults_of_selections : Option Schema → NameView → SelectionPath → List Selection → List Fault

@@ -13,7 +13,8 @@ use Rattle.apollo_executable.specs.declared.selection.SelectionSet.{SelectionSet
 use Rattle.apollo_document.specs.Elaborated.{elaborated}
 use Rattle.apollo_document.specs.Typable.{has_type}
 use Rattle.apollo_document.specs.AddedDefinitions.{DocumentItem}
-use Rattle.apollo_document.specs.KeptDefinitions.{root_type_of, kept_anonymous, kept_named, kept_fragments, is_repeated}
+use Rattle.apollo_document.specs.KeptDefinitions.{root_type_of, kept_anonymous, kept_named, kept_fragments}
+use Rattle.apollo_document.specs.KeptDefinitions.{is_repeated}
 use Rattle.apollo_document.specs.DocumentFaults.{document_faults}
 use Rattle.apollo_document.specs.declared.tables.Tables.{Tables}
 use Rattle.apollo_document.specs.declared.state.State.{State}
@@ -22,7 +23,13 @@ use Rattle.apollo_document.specs.BuilderStands.{Standing, Open, Failed}
 
 -- an operation with this set
 abbrev pub operation_over : OperationDefinition → SelectionSet → Operation
-operation_over o set = record { operation_type = o.operation_type; name = o.name; variables = o.variables; directives = o.directives; selection_set = set }
+operation_over o set = record {
+  operation_type = o.operation_type;
+  name = o.name;
+  variables = o.variables;
+  directives = o.directives;
+  selection_set = set;
+}
 
 -- an operation from this root type, typed
 abbrev pub operation_from : Option Schema → NameView → OperationDefinition → Operation
@@ -30,7 +37,9 @@ operation_from s root o = operation_over o (elaborated s root o.selection_set)
 
 -- an operation, typed, if it has a root type
 abbrev pub rooted_operation : Option Schema → NodeView OperationDefinition → Option (NodeView Operation)
-rooted_operation s n = option_map (λ (root : NameView). at_place (operation_from s root) n) (root_type_of s n.value.operation_type)
+rooted_operation s n =
+    option_map (λ (root : NameView). at_place (operation_from s root) n)
+    (root_type_of s n.value.operation_type)
 
 -- the root type of an operation that is kept, which has one
 abbrev pub root_or_none : Option Schema → NodeView OperationDefinition → NameView
@@ -42,7 +51,12 @@ typed_operation s n = at_place (operation_from s (root_or_none s n)) n
 
 -- a fragment, typed in its condition
 abbrev pub fragment_on_type : Option Schema → FragmentDefinition → Fragment
-fragment_on_type s f = record { name = f.name; directives = f.directives; selection_set = elaborated s f.type_condition f.selection_set }
+fragment_on_type s f =
+    record {
+      name = f.name;
+      directives = f.directives;
+      selection_set = elaborated s f.type_condition f.selection_set;
+    }
 
 -- a fragment, typed in its condition, where it stands
 abbrev pub typed_fragment : Option Schema → NodeView FragmentDefinition → NodeView Fragment
@@ -57,7 +71,8 @@ abbrev pub entries_by : {A B : Type 0} → (A → B) → List (NameView × A) �
 entries_by f es = map (λ e. (e.0, f e.1)) es
 
 -- a definition that is built, put last under its name, unless that is taken
-abbrev pub put_unless_taken : {V : Type 0} → NameView → Option NameView → Option V → List (NameView × V) → List (NameView × V)
+abbrev pub put_unless_taken : {V : Type 0} → NameView → Option NameView → Option V → List (NameView × V)
+    → List (NameView × V)
 put_unless_taken name None (Some v) es = es ++ (name, v) ∷ []
 put_unless_taken name None None es = es
 put_unless_taken name (Some kept) v es = es

@@ -1,5 +1,6 @@
--- Which untyped selections are typable in a type, over a schema value or without a schema, and what is wrong with the others:
--- GraphQL specification of October 2021, sections 2.4 to 2.8. The leaf types are those of sections 3.5 and 3.9.
+-- Which untyped selections are typable in a type, over a schema value or without a schema, and what is wrong
+-- with the others: GraphQL specification of October 2021, sections 2.4 to 2.8. The leaf types are those of
+-- sections 3.5 and 3.9.
 --
 -- **Typable.** Of a selection in a type, which is given by its name, over a schema value:
 --
@@ -13,7 +14,8 @@
 --
 -- **Child type.** The child type of a typable field is its definition's inner name. That of a typable
 -- inline fragment is its condition, or without one the type that the fragment is in.
-use Rattle.std.specs.Prelude.{◌==◌, Bool, true, false, List, [], ◌∷◌, length, Option, None, Some, is_some, Result, Ok, Err, codes}
+use Rattle.std.specs.Prelude.{◌==◌, Bool, true, false, List, [], ◌∷◌, length, Option, None, Some, is_some}
+use Rattle.std.specs.Prelude.{Result, Ok, Err, codes}
 use Rattle.graphql_nodes.specs.NameView.{NameView, plain_name}
 use Rattle.graphql_nodes.specs.NodeView.{NodeView}
 use Rattle.graphql_nodes.specs.SameText.{same_text}
@@ -37,21 +39,31 @@ use Rattle.apollo_document.specs.declared.selection_path.SelectionPath.{Selectio
 abbrev pub Fault : Type 0
 Fault = Option SourceSpan × BuildError
 
--- what is wrong with a selection, by the location of its node and by its path: nothing, where it is left out without a fault
+-- what is wrong with a selection, by the location of its node and by its path: nothing, where it is left out
+-- without a fault
 abbrev pub Wrong : Type 0
 Wrong = Option SourceSpan → SelectionPath → List Fault
 
 -- the definition of any field without a schema
 abbrev pub unknown_field : NameView → NodeView FieldDefinition
-unknown_field name = plain_node (record { description = None; name = name; arguments = []; ty = Named (plain_name (codes "UNKNOWN")); directives = record { 0 = [] } })
+unknown_field name =
+    plain_node (record {
+      description = None;
+      name = name;
+      arguments = [];
+      ty = Named (plain_name (codes "UNKNOWN"));
+      directives = record { 0 = [] };
+    })
 
--- a field that isn't defined is at fault, at its name, if the schema has its type; the fault has the name that the schema has that under
+-- a field that isn't defined is at fault, at its name, if the schema has its type; the fault has the name
+-- that the schema has that under
 abbrev pub undefined : NameView → Option NameView → Wrong
 undefined name (Some key) location path = (name.location, e.UndefinedField key name path) ∷ []
 undefined name None location path = []
 
 -- the definition that a schema gives for a field, or what is wrong
-abbrev pub defined_as : NameView → Option NameView → Option (Component FieldDefinition) → Result (NodeView FieldDefinition) Wrong
+abbrev pub defined_as : NameView → Option NameView → Option (Component FieldDefinition)
+    → Result (NodeView FieldDefinition) Wrong
 defined_as name key (Some c) = Ok c.node
 defined_as name key None = Err (undefined name key)
 
@@ -64,8 +76,8 @@ abbrev pub definition_in : Option Schema → NameView → NameView → Result (N
 definition_in None ty name = Ok (unknown_field name)
 definition_in (Some s) ty name = defined_in s ty name
 
--- what is wrong with subselections from a type: it is a scalar or an enum. Types of the other kinds, and those that the
--- schema lacks, may have some
+-- what is wrong with subselections from a type: it is a scalar or an enum. Types of the other kinds, and
+-- those that the schema lacks, may have some
 abbrev pub leaf_fault : NameView → Option ExtendedType → Option Wrong
 leaf_fault ty (Some (Scalar n)) = Some (λ location path. (location, e.SubselectionOnScalarType ty path) ∷ [])
 leaf_fault ty (Some (Enum n)) = Some (λ location path. (location, e.SubselectionOnEnumType ty path) ∷ [])
@@ -84,18 +96,21 @@ abbrev pub is_bare : {A : Type 0} → List A → Bool
 is_bare selections = length selections == 0
 
 -- a definition stands where there are no subselections, or they are from no leaf type
-abbrev pub unless_leaf : Bool → NodeView FieldDefinition → Option Wrong → Result (NodeView FieldDefinition) Wrong
+abbrev pub unless_leaf : Bool → NodeView FieldDefinition → Option Wrong
+    → Result (NodeView FieldDefinition) Wrong
 unless_leaf true d leaf = Ok d
 unless_leaf false d None = Ok d
 unless_leaf false d (Some wrong) = Err wrong
 
 -- the definition of a field that may have the subselections that it has, or what is wrong with it
-abbrev pub with_subselections : Schema → Bool → Result (NodeView FieldDefinition) Wrong → Result (NodeView FieldDefinition) Wrong
+abbrev pub with_subselections : Schema → Bool → Result (NodeView FieldDefinition) Wrong
+    → Result (NodeView FieldDefinition) Wrong
 with_subselections s bare (Ok d) = unless_leaf bare d (leaf_at s d)
 with_subselections s bare (Err wrong) = Err wrong
 
 -- the definition of a field that is typable in a type, with subselections or bare, or what is wrong with it
-abbrev pub typable_field : Option Schema → NameView → NameView → Bool → Result (NodeView FieldDefinition) Wrong
+abbrev pub typable_field : Option Schema → NameView → NameView → Bool
+    → Result (NodeView FieldDefinition) Wrong
 typable_field None ty name bare = Ok (unknown_field name)
 typable_field (Some s) ty name bare = with_subselections s bare (defined_in s ty name)
 
@@ -111,7 +126,9 @@ has_type (Some s) ty = is_some (type_at s.types ty)
 -- the child type of an inline fragment with this condition if its type is there, or what is wrong with it
 abbrev pub if_there : Bool → NameView → Result NameView Wrong
 if_there true condition = Ok condition
-if_there false condition = Err (λ location path. (condition.location, e.UndefinedTypeInInlineFragmentTypeCondition condition path) ∷ [])
+if_there false condition =
+    Err (λ location path. (condition.location, e.UndefinedTypeInInlineFragmentTypeCondition condition path)
+    ∷ [])
 
 -- the child type of an inline fragment that is typable in a type, by its condition, or what is wrong with it
 abbrev pub typable_fragment : Option Schema → NameView → Option NameView → Result NameView Wrong

@@ -1,5 +1,5 @@
--- Operations and fragments typed: the definition that is kept, with its typable selections. GraphQL specification of October 2021,
--- sections 2.3 and 2.8.
+-- Operations and fragments typed: the definition that is kept, with its typable selections. GraphQL
+-- specification of October 2021, sections 2.3 and 2.8.
 use Rattle.std.specs.Prelude.{◌≡◌, Option, Some}
 use Rattle.graphql_nodes.specs.NameView.{NameView}
 use Rattle.graphql_nodes.specs.NodeView.{NodeView}
@@ -32,11 +32,16 @@ stripped_fragment s f = record {
   selection_set = stripped s f.type_condition f.selection_set;
 }
 
--- a typed operation that is erased to that of a definition, where it stands, stripped in its root type, and is typed in that
+-- a typed operation that is erased to that of a definition, where it stands, stripped in its root type, and
+-- is typed in that
 abbrev pub IsOperationOf : Option Schema → NodeView OperationDefinition → NodeView Operation → Type 0
 IsOperationOf s n o = (root : NameView)
-    × ((root_type_of s n.value.operation_type ≡ Some root) × ((at_place erased_operation o ≡ at_place (stripped_operation s root) n) × IsTypedSet s root o.value.selection_set))
+    × ((root_type_of s n.value.operation_type ≡ Some root)
+    × ((at_place erased_operation o ≡ at_place (stripped_operation s root) n)
+    × IsTypedSet s root o.value.selection_set))
 
--- a typed fragment that is erased to that of a definition, where it stands, stripped in its condition, and is typed in that
+-- a typed fragment that is erased to that of a definition, where it stands, stripped in its condition, and is
+-- typed in that
 abbrev pub IsFragmentOf : Option Schema → NodeView FragmentDefinition → NodeView Fragment → Type 0
-IsFragmentOf s n f = (at_place erased_fragment f ≡ at_place (stripped_fragment s) n) × IsTypedSet s n.value.type_condition f.value.selection_set
+IsFragmentOf s n f = (at_place erased_fragment f ≡ at_place (stripped_fragment s) n)
+    × IsTypedSet s n.value.type_condition f.value.selection_set

@@ -6,7 +6,8 @@ use Rattle.std.specs.List.{AllByRecursion}
 use Rattle.graphql_nodes.specs.NameView.{NameView}
 use Rattle.apollo_schema.specs.declared.schema.Schema.{Schema}
 use Rattle.apollo_executable.specs.declared.selection.Selection.{Selection}
-use Rattle.apollo_executable.specs.declared.selection.Selection.TheOpen.{Selection-F, Field-F, InlineFragment-F, SelectionSet-F}
+use Rattle.apollo_executable.specs.declared.selection.Selection.TheOpen.{Selection-F, Field-F}
+use Rattle.apollo_executable.specs.declared.selection.Selection.TheOpen.{InlineFragment-F, SelectionSet-F}
 use Rattle.apollo_executable.specs.declared.selection.Selection.TheFolds as folds
 use Rattle.apollo_executable.specs.declared.selection.Field.{Field}
 use Rattle.apollo_executable.specs.declared.selection.InlineFragment.{InlineFragment}
@@ -26,12 +27,17 @@ selection_in X X' X'' X3 k' k'' (Selection-F.InlineFragment n) ty = k'' n.value 
 
 -- one level of a field: it is typable with the definition that it has, and its set is right for its child
 -- type
-abbrev pub typed_field_in : Option Schema → (X X' X'' X3 : Type 0) → (X3 → SelectionSet) → (X3 → In) → Field-F X X' X'' X3 → In
-typed_field_in s X X' X'' X3 v3 k3 f ty = (typable_field s ty f.name (is_bare (v3 f.selection_set).selections) ≡ Ok f.definition) × k3 f.selection_set (child_of f.definition)
+abbrev pub typed_field_in : Option Schema → (X X' X'' X3 : Type 0) → (X3 → SelectionSet) → (X3 → In)
+    → Field-F X X' X'' X3 → In
+typed_field_in s X X' X'' X3 v3 k3 f ty =
+    (typable_field s ty f.name (is_bare (v3 f.selection_set).selections) ≡ Ok f.definition)
+    × k3 f.selection_set (child_of f.definition)
 
 -- one level of an inline fragment: it is typable, and its set is right for its child type
-abbrev pub typed_fragment_in : Option Schema → (X X' X'' X3 : Type 0) → (X3 → In) → InlineFragment-F X X' X'' X3 → In
-typed_fragment_in s X X' X'' X3 k3 f ty = (child : NameView) × ((typable_fragment s ty f.type_condition ≡ Ok child) × k3 f.selection_set child)
+abbrev pub typed_fragment_in : Option Schema → (X X' X'' X3 : Type 0) → (X3 → In)
+    → InlineFragment-F X X' X'' X3 → In
+typed_fragment_in s X X' X'' X3 k3 f ty = (child : NameView)
+    × ((typable_fragment s ty f.type_condition ≡ Ok child) × k3 f.selection_set child)
 
 -- one level of a set: it is from this type, and each of its selections is right for it
 abbrev pub set_in : (X X' X'' X3 : Type 0) → (X → In) → SelectionSet-F X X' X'' X3 → In

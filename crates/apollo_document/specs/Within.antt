@@ -11,4 +11,6 @@ use Rattle.apollo_document.specs.declared.selection_path.SelectionPath.{Selectio
 
 -- what is wrong with a field in a type, or with what is below it, where the path has its response key
 abbrev pub faults_within : Option Schema → NameView → Option SourceSpan → SelectionPath → Field → List Fault
-faults_within s ty location path f = below_or_wrong (λ d. faults_of_selections s (child_of d) path f.selection_set) location path (typable_field s ty f.name (is_bare f.selection_set))
+faults_within s ty location path f =
+    below_or_wrong (λ d. faults_of_selections s (child_of d) path f.selection_set) location path
+    (typable_field s ty f.name (is_bare f.selection_set))

@@ -1,5 +1,5 @@
-//! The builder of executable documents: documents of syntax go in, in any number, and a typed document comes out. GraphQL
-//! specification of October 2021, section 2.
+//! The builder of executable documents: documents of syntax go in, in any number, and a typed document comes
+//! out. GraphQL specification of October 2021, section 2.
 ghost use Rattle.std.specs.Prelude.{◌≡◌, ◌↔◌, [], Err, OnOk, OnErr, IfOk};
 ghost use Rattle.std.specs.Option.{option_copied};
 ghost use Rattle.apollo_document.specs.BuilderStands.{HasFailed, IsBuiltOf};
@@ -18,8 +18,8 @@ use graphql_nodes::collections::hash_keys::HashKeys;
 use std::alloc::{AllocError, Global};
 use std::marker::Model;
 
-/// A builder of an executable document, over a schema or without one: GraphQL specification of October 2021, sections 2.2 to
-/// 2.8. Documents of syntax go in, in any number.
+/// A builder of an executable document, over a schema or without one: GraphQL specification of October 2021,
+/// sections 2.2 to 2.8. Documents of syntax go in, in any number.
 ///
 /// Of operations the first of each name is kept that has a root type in the schema. An anonymous one is kept
 /// if it is the first of all operations that have a root type. Of fragments the first of each name is kept
@@ -69,11 +69,12 @@ impl<'schema> Model for ExecutableDocumentBuilder<'schema> {
 }
 
 impl<'schema> ExecutableDocumentBuilder<'schema> {
-    /// A builder of no definition, over this schema or without one. Without a schema each operation has the default name of its
-    /// root type, each name is that of a type, and every selection is typable. It takes no memory.
+    /// A builder of no definition, over this schema or without one. Without a schema each operation has the
+    /// default name of its root type, each name is that of a type, and every selection is typable. It takes
+    /// no memory.
     ///
-    /// The document's tables hash by the keys of the schema, and without one by fixed keys: for documents from strangers without
-    /// a schema, take [`with_keys`](ExecutableDocumentBuilder::with_keys).
+    /// The document's tables hash by the keys of the schema, and without one by fixed keys: for documents
+    /// from strangers without a schema, take [`with_keys`](ExecutableDocumentBuilder::with_keys).
     pub fn new(alloc: Global, schema: Option<&'schema Schema>) -> ExecutableDocumentBuilder<'schema>
         ensures { result ≡ building_over (option_copied schema.entry) }
     {
@@ -84,8 +85,8 @@ impl<'schema> ExecutableDocumentBuilder<'schema> {
         ExecutableDocumentBuilder::with_keys(alloc, schema, keys)
     }
 
-    /// A builder as [`new`](ExecutableDocumentBuilder::new) makes it, for a document whose tables hash by these keys. No clause
-    /// speaks of keys: answers and orders never depend on them. It takes no memory.
+    /// A builder as [`new`](ExecutableDocumentBuilder::new) makes it, for a document whose tables hash by
+    /// these keys. No clause speaks of keys: answers and orders never depend on them. It takes no memory.
     pub fn with_keys(
         alloc: Global,
         schema: Option<&'schema Schema>,
@@ -100,11 +101,13 @@ impl<'schema> ExecutableDocumentBuilder<'schema> {
         }
     }
 
-    /// Adds the definitions of a document, in order, and its sources: of two files of one number the later stays. Definitions of
-    /// the type system are passed over; with `type_system_definitions_are_errors` each is a fault (section 2.2).
+    /// Adds the definitions of a document, in order, and its sources: of two files of one number the later
+    /// stays. Definitions of the type system are passed over; with `type_system_definitions_are_errors` each
+    /// is a fault (section 2.2).
     ///
-    /// `Memory` is out of memory, and drops all that was added, sources too; `Failed` comes exactly after that, and changes
-    /// nothing. No other error comes, and of a document without definitions and sources `Failed` alone.
+    /// `Memory` is out of memory, and drops all that was added, sources too; `Failed` comes exactly after
+    /// that, and changes nothing. No other error comes, and of a document without definitions and sources
+    /// `Failed` alone.
     pub fn add_ast_document(
         &mut self,
         document: &Document,
@@ -134,9 +137,9 @@ impl<'schema> ExecutableDocumentBuilder<'schema> {
         Ok(())
     }
 
-    /// The document of what was added, with the merged sources, and what is wrong with it, in the order of the definitions. The
-    /// document comes whether anything is wrong or not. It takes no memory: `Failed` comes exactly after a refusal, and no other
-    /// error does.
+    /// The document of what was added, with the merged sources, and what is wrong with it, in the order of
+    /// the definitions. The document comes whether anything is wrong or not. It takes no memory: `Failed`
+    /// comes exactly after a refusal, and no other error does.
     pub fn build(self) -> Result<(ExecutableDocument, Faults), BuilderError>
         ensures built { IfOk result (λ built. IsBuiltOf self.entry built.0 built.1.items) }
         ensures failed { HasFailed self.entry ↔ (result ≡ Err BuilderError.Failed) }

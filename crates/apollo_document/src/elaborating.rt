@@ -1,15 +1,17 @@
 //! Untyped selections made into typed ones: GraphQL specification of October 2021, sections 2.4 to 2.8.
 //!
-//! Input nodes are borrowed. The key of a field is pushed and popped; the whole path is copied for a fault alone. Arguments and
-//! directives are shared with the input.
+//! Input nodes are borrowed. The key of a field is pushed and popped; the whole path is copied for a fault
+//! alone. Arguments and directives are shared with the input.
 ghost use Rattle.std.specs.Prelude.{◌≡◌, ◌++◌, [], IfOk, OnOk, option_map};
 ghost use Rattle.std.specs.List.{cons_option, filter_map};
 ghost use Rattle.std.specs.Option.{option_copied};
 ghost use Rattle.apollo_executable.specs.SelectionParts.{response_key_of};
 ghost use Rattle.apollo_document.specs.Elaborated as spec;
-ghost use Rattle.apollo_document.specs.Elaborated.{elaborated, elaborated_selection, elaborated_field, elaborated_fragment};
+ghost use Rattle.apollo_document.specs.Elaborated.{elaborated, elaborated_selection, elaborated_field};
+ghost use Rattle.apollo_document.specs.Elaborated.{elaborated_fragment};
 ghost use Rattle.apollo_document.specs.Stripped.{in_place_of};
-ghost use Rattle.apollo_document.specs.SelectionFaults.{faults_of_selections, faults_of_selection, faults_of_field, faults_of_fragment};
+ghost use Rattle.apollo_document.specs.SelectionFaults.{faults_of_selections, faults_of_selection};
+ghost use Rattle.apollo_document.specs.SelectionFaults.{faults_of_field, faults_of_fragment};
 ghost use Rattle.apollo_document.specs.Within.{faults_within};
 
 use crate::build_error::Fault;
@@ -83,7 +85,12 @@ fn inline_fragment_over(
     fragment: &ast::InlineFragment,
     selection_set: SelectionSet,
 ) -> Result<InlineFragment, AllocError>
-    ensures { IfOk result (λ typed. typed ≡ record { type_condition = fragment.now.type_condition; directives = fragment.now.directives; selection_set = selection_set }) }
+    ensures { IfOk result (λ typed. typed
+        ≡ record {
+          type_condition = fragment.now.type_condition;
+          directives = fragment.now.directives;
+          selection_set = selection_set;
+        }) }
 {
     Ok(InlineFragment {
         type_condition: fragment.type_condition.clone()?,
@@ -103,7 +110,8 @@ pub(crate) fn elaborate_set(
     faults: &mut Items<Fault>,
 ) -> Result<SelectionSet, AllocError>
     ensures set { IfOk result (λ set. set ≡ elaborated (option_copied schema.entry) ty.now selections.now) }
-    ensures faults { OnOk result (faults.new ≡ faults.old ++ faults_of_selections (option_copied schema.entry) ty.now path.old selections.now) }
+    ensures faults { OnOk result (faults.new
+        ≡ faults.old ++ faults_of_selections (option_copied schema.entry) ty.now path.old selections.now) }
     ensures path { path.new ≡ path.old }
 {
     if selections.is_empty() {
@@ -129,8 +137,12 @@ fn elaborate_all(
     path: &mut SelectionPath,
     faults: &mut Items<Fault>,
 ) -> Result<Items<Selection>, AllocError>
-    ensures kept { IfOk result (λ kept. kept ≡ filter_map (elaborated_selection (option_copied parent.now.schema) parent.now.ty.now) selections.now) }
-    ensures faults { OnOk result (faults.new ≡ faults.old ++ faults_of_selections (option_copied parent.now.schema) parent.now.ty.now path.old selections.now) }
+    ensures kept { IfOk result (λ kept. kept
+        ≡ filter_map (elaborated_selection (option_copied parent.now.schema) parent.now.ty.now)
+        selections.now) }
+    ensures faults { OnOk result (faults.new
+        ≡ faults.old
+        ++ faults_of_selections (option_copied parent.now.schema) parent.now.ty.now path.old selections.now) }
     ensures path { path.new ≡ path.old }
 {
     let mut kept = Items::new(alloc);
@@ -151,8 +163,11 @@ fn elaborate_selection(
     path: &mut SelectionPath,
     faults: &mut Items<Fault>,
 ) -> Result<Option<Selection>, AllocError>
-    ensures typed { IfOk result (λ kept. kept ≡ elaborated_selection (option_copied parent.now.schema) parent.now.ty.now selection.now) }
-    ensures faults { OnOk result (faults.new ≡ faults.old ++ faults_of_selection (option_copied parent.now.schema) parent.now.ty.now path.old selection.now) }
+    ensures typed { IfOk result (λ kept. kept
+        ≡ elaborated_selection (option_copied parent.now.schema) parent.now.ty.now selection.now) }
+    ensures faults { OnOk result (faults.new
+        ≡ faults.old
+        ++ faults_of_selection (option_copied parent.now.schema) parent.now.ty.now path.old selection.now) }
     ensures path { path.new ≡ path.old }
 {
     match selection {
@@ -180,8 +195,13 @@ fn elaborate_field(
     path: &mut SelectionPath,
     faults: &mut Items<Fault>,
 ) -> Result<Option<Node<Field>>, AllocError>
-    ensures typed { IfOk result (λ kept. kept ≡ option_map (in_place_of node.now) (elaborated_field (option_copied parent.now.schema) parent.now.ty.now node.now.value)) }
-    ensures faults { OnOk result (faults.new ≡ faults.old ++ faults_of_field (option_copied parent.now.schema) parent.now.ty.now node.now.location path.old node.now.value) }
+    ensures typed { IfOk result (λ kept. kept
+        ≡ option_map (in_place_of node.now)
+        (elaborated_field (option_copied parent.now.schema) parent.now.ty.now node.now.value)) }
+    ensures faults { OnOk result (faults.new
+        ≡ faults.old
+        ++ faults_of_field (option_copied parent.now.schema) parent.now.ty.now node.now.location path.old
+        node.now.value) }
     ensures path { path.new ≡ path.old }
 {
     path.nested_fields.push(response_key(node).clone()?)?;
@@ -200,8 +220,13 @@ fn elaborate_within(
     path: &mut SelectionPath,
     faults: &mut Items<Fault>,
 ) -> Result<Option<Node<Field>>, AllocError>
-    ensures typed { IfOk result (λ kept. kept ≡ option_map (in_place_of node.now) (elaborated_field (option_copied parent.now.schema) parent.now.ty.now node.now.value)) }
-    ensures faults { OnOk result (faults.new ≡ faults.old ++ faults_within (option_copied parent.now.schema) parent.now.ty.now node.now.location path.old node.now.value) }
+    ensures typed { IfOk result (λ kept. kept
+        ≡ option_map (in_place_of node.now)
+        (elaborated_field (option_copied parent.now.schema) parent.now.ty.now node.now.value)) }
+    ensures faults { OnOk result (faults.new
+        ≡ faults.old
+        ++ faults_within (option_copied parent.now.schema) parent.now.ty.now node.now.location path.old
+        node.now.value) }
     ensures path { path.new ≡ path.old }
 {
     let Some(definition) = typable_field(alloc, parent, node, path, faults)? else {
@@ -230,8 +255,13 @@ fn elaborate_fragment(
     path: &mut SelectionPath,
     faults: &mut Items<Fault>,
 ) -> Result<Option<Node<InlineFragment>>, AllocError>
-    ensures typed { IfOk result (λ kept. kept ≡ option_map (in_place_of node.now) (elaborated_fragment (option_copied parent.now.schema) parent.now.ty.now node.now.value)) }
-    ensures faults { OnOk result (faults.new ≡ faults.old ++ faults_of_fragment (option_copied parent.now.schema) parent.now.ty.now node.now.location path.old node.now.value) }
+    ensures typed { IfOk result (λ kept. kept
+        ≡ option_map (in_place_of node.now)
+        (elaborated_fragment (option_copied parent.now.schema) parent.now.ty.now node.now.value)) }
+    ensures faults { OnOk result (faults.new
+        ≡ faults.old
+        ++ faults_of_fragment (option_copied parent.now.schema) parent.now.ty.now node.now.location path.old
+        node.now.value) }
     ensures path { path.new ≡ path.old }
 {
     let Some(child) = typable_fragment(parent.schema, &*parent.ty, node, path, faults)? else {

@@ -16,8 +16,8 @@ use graphql_nodes::collections::items::Items;
 use graphql_nodes::name::NamedType;
 use std::alloc::{AllocError, Global};
 
-/// The typable ones of these selections from this type, typed, each with its own selections treated likewise. The faults of
-/// the others are added at the end, in order, each with its path, which begins with `path`.
+/// The typable ones of these selections from this type, typed, each with its own selections treated likewise.
+/// The faults of the others are added at the end, in order, each with its path, which begins with `path`.
 ///
 /// A field is typable under two conditions: the schema's [`type_field`](Schema::type_field) gives a
 /// definition for its name in the type; and it has no selections or isn't of a scalar or enum type. Its
@@ -27,7 +27,8 @@ use std::alloc::{AllocError, Global};
 /// is. Without a schema every selection is typable, and each field has a definition of its name, whose type
 /// is `UNKNOWN`.
 ///
-/// Whatever the answer, the path is afterwards as it was before. The error is out of memory, and leaves the faults as they were.
+/// Whatever the answer, the path is afterwards as it was before. The error is out of memory, and leaves the
+/// faults as they were.
 pub fn elaborate_selections(
     alloc: Global,
     schema: Option<&Schema>,
@@ -36,9 +37,11 @@ pub fn elaborate_selections(
     path: &mut SelectionPath,
     faults: &mut Items<Fault>,
 ) -> Result<SelectionSet, AllocError>
-    ensures kept { IfOk result (λ set. erased_set set ≡ stripped (option_copied schema.entry) ty.now selections.now) }
+    ensures kept { IfOk result (λ set. erased_set set
+        ≡ stripped (option_copied schema.entry) ty.now selections.now) }
     ensures typed { IfOk result (IsTypedSet (option_copied schema.entry) ty.now) }
-    ensures faults { OnOk result (faults.new ≡ faults.old ++ faults_of_selections (option_copied schema.entry) ty.now path.old selections.now) }
+    ensures faults { OnOk result (faults.new
+        ≡ faults.old ++ faults_of_selections (option_copied schema.entry) ty.now path.old selections.now) }
     ensures unchanged { OnErr result (faults.new ≡ faults.old) }
     ensures path { path.new ≡ path.old }
 {

@@ -1,5 +1,5 @@
-//! Sets of fields that stand by themselves, as arguments of directives have them: GraphQL specification of October 2021,
-//! section 2.4.
+//! Sets of fields that stand by themselves, as arguments of directives have them: GraphQL specification of
+//! October 2021, section 2.4.
 ghost use Rattle.std.specs.Prelude.{◌≡◌, ◌≢◌, [], Some, IfOk, OnErr};
 ghost use Rattle.graphql_nodes.specs.declared.operation_type.OperationType.TheVariants.{Query};
 ghost use Rattle.apollo_executable.specs.Erasure.{erased_set};
@@ -21,8 +21,8 @@ use graphql_nodes::operation_type::OperationType;
 use graphql_nodes::source::SourceMap;
 use std::alloc::{AllocError, Global};
 
-/// Selections from a type of a schema, without a definition around them, and the files that they come from. A clone is the
-/// original, with its sources; its error is out of memory.
+/// Selections from a type of a schema, without a definition around them, and the files that they come from. A
+/// clone is the original, with its sources; its error is out of memory.
 #[derive(Debug)]
 pub struct FieldSet {
     pub sources: SourceMap,
@@ -61,10 +61,12 @@ impl FieldSet {
         ty: NamedType,
         selections: &[ast::Selection],
     ) -> Result<(FieldSet, Faults), AllocError>
-        ensures kept { IfOk result (λ made. erased_set made.0.selection_set ≡ stripped (Some schema.now) ty selections.now) }
+        ensures kept { IfOk result (λ made. erased_set made.0.selection_set
+            ≡ stripped (Some schema.now) ty selections.now) }
         ensures typed { IfOk result (λ made. IsTypedSet (Some schema.now) ty made.0.selection_set) }
         ensures sources { IfOk result (λ made. made.0.sources ≡ []) }
-        ensures faults { IfOk result (λ made. made.1.items ≡ faults_of_selections (Some schema.now) ty field_set_path selections.now) }
+        ensures faults { IfOk result (λ made. made.1.items
+            ≡ faults_of_selections (Some schema.now) ty field_set_path selections.now) }
     {
         let mut faults = Items::new(alloc);
         let mut path = SelectionPath {
@@ -86,7 +88,8 @@ impl FieldSet {
         Ok((set, faults.into_vec()))
     }
 
-    /// The selections as syntax, in order. The error is out of memory, which a set without selections doesn't meet.
+    /// The selections as syntax, in order. The error is out of memory, which a set without selections doesn't
+    /// meet.
     pub fn to_ast(&self, alloc: Global) -> Result<Vec<ast::Selection>, AllocError>
         ensures written { IfOk result (λ written. written.items ≡ erased_set self.now.selection_set) }
         ensures memory { OnErr result (self.now.selection_set.selections ≢ []) }

@@ -25,7 +25,12 @@ fn fragment_over(
     definition: &FragmentDefinition,
     selection_set: SelectionSet,
 ) -> Result<Fragment, AllocError>
-    ensures { IfOk result (λ fragment. fragment ≡ record { name = definition.now.name; directives = definition.now.directives; selection_set = selection_set }) }
+    ensures { IfOk result (λ fragment. fragment
+        ≡ record {
+          name = definition.now.name;
+          directives = definition.now.directives;
+          selection_set = selection_set;
+        }) }
 {
     Ok(Fragment {
         name: definition.name.clone()?,
@@ -41,8 +46,10 @@ fn build_fragment(
     node: &Node<FragmentDefinition>,
     faults: &mut Items<Fault>,
 ) -> Result<Option<Node<Fragment>>, AllocError>
-    ensures built { IfOk result (λ fragment. fragment ≡ fragment_if_typed (option_copied schema.entry) node.now) }
-    ensures faults { OnOk result (faults.new ≡ faults.old ++ faults_in_fragment (option_copied schema.entry) node.now) }
+    ensures built { IfOk result (λ fragment. fragment
+        ≡ fragment_if_typed (option_copied schema.entry) node.now) }
+    ensures faults { OnOk result (faults.new
+        ≡ faults.old ++ faults_in_fragment (option_copied schema.entry) node.now) }
 {
     if !has_type(schema, &node.type_condition) {
         let error = BuildError::UndefinedTypeInNamedFragmentTypeCondition {
@@ -64,7 +71,8 @@ fn build_fragment(
     Ok(Some(node.same_location(alloc, fragment)?))
 }
 
-/// Puts a fragment under its name, typed, if its condition is a type and its name isn't taken. What is wrong with it is noted.
+/// Puts a fragment under its name, typed, if its condition is a type and its name isn't taken. What is wrong
+/// with it is noted.
 pub(crate) fn put_fragment(
     alloc: Global,
     schema: Option<&Schema>,
@@ -72,8 +80,13 @@ pub(crate) fn put_fragment(
     node: &Node<FragmentDefinition>,
     faults: &mut Items<Fault>,
 ) -> Result<(), AllocError>
-    ensures fragments { OnOk result (fragments.new ≡ put_unless_taken node.now.value.name (lookup_key (same_text node.now.value.name) fragments.old) (fragment_if_typed (option_copied schema.entry) node.now) fragments.old) }
-    ensures faults { OnOk result (faults.new ≡ faults.old ++ fragment_faults (option_copied schema.entry) (lookup_key (same_text node.now.value.name) fragments.old) node.now) }
+    ensures fragments { OnOk result (fragments.new
+        ≡ put_unless_taken node.now.value.name (lookup_key (same_text node.now.value.name) fragments.old)
+        (fragment_if_typed (option_copied schema.entry) node.now) fragments.old) }
+    ensures faults { OnOk result (faults.new
+        ≡ faults.old
+        ++ fragment_faults (option_copied schema.entry)
+        (lookup_key (same_text node.now.value.name) fragments.old) node.now) }
 {
     if let Some((kept, _)) = fragments.get_key_value(&node.name) {
         let error = BuildError::FragmentNameCollision {

@@ -8,7 +8,8 @@ ghost use Rattle.apollo_document.specs.AddedDefinitions.{DocumentItem};
 ghost use Rattle.apollo_document.specs.BuilderStands.{Building, HasFailed, StandsFor};
 ghost use Rattle.apollo_document.specs.Documents.{IsDocumentOf};
 ghost use Rattle.apollo_document.specs.KeptDefinitions.{is_rooted, kept_anonymous, kept_named};
-ghost use Rattle.apollo_document.specs.WrittenAgain.{AreOneButSources, IsBuiltAgain, ambiguous_again, faults_again};
+ghost use Rattle.apollo_document.specs.WrittenAgain.{AreOneButSources, IsBuiltAgain, ambiguous_again};
+ghost use Rattle.apollo_document.specs.WrittenAgain.{faults_again};
 
 use crate::selection_laws::{elaborated_sets, typed_sets};
 use apollo_executable::document::ExecutableDocument;
@@ -21,27 +22,39 @@ use apollo_schema::schema::Schema;
 /// write-out is one ambiguity for each named operation if the document has an anonymous one, and nothing
 /// otherwise. GraphQL specification of October 2021, sections 2.2 to 2.8.
 pub fn document_again()
-    ensures unique { (schema : Option Schema) (xs : List DocumentItem) (a b : ExecutableDocument) → IsDocumentOf schema xs a → IsDocumentOf schema xs b → AreOneButSources a b }
-    ensures itself { (s : Option Schema) (xs : List DocumentItem) (errors : Bool) (document : ExecutableDocument) → IsDocumentOf s xs document → IsBuiltAgain s errors document document }
-    ensures again { (s : Option Schema) (xs : List DocumentItem) (errors : Bool) (document again : ExecutableDocument) → IsDocumentOf s xs document → IsBuiltAgain s errors document again → AreOneButSources again document }
-    ensures faults { (s : Option Schema) (xs : List DocumentItem) (errors : Bool) (document : ExecutableDocument) → IsDocumentOf s xs document → faults_again s errors document ≡ ambiguous_again document.operations }
+    ensures unique { (schema : Option Schema) (xs : List DocumentItem) (a b : ExecutableDocument)
+        → IsDocumentOf schema xs a → IsDocumentOf schema xs b → AreOneButSources a b }
+    ensures itself { (s : Option Schema) (xs : List DocumentItem) (errors : Bool)
+        (document : ExecutableDocument) → IsDocumentOf s xs document
+        → IsBuiltAgain s errors document document }
+    ensures again { (s : Option Schema) (xs : List DocumentItem) (errors : Bool)
+        (document again : ExecutableDocument) → IsDocumentOf s xs document
+        → IsBuiltAgain s errors document again → AreOneButSources again document }
+    ensures faults { (s : Option Schema) (xs : List DocumentItem) (errors : Bool)
+        (document : ExecutableDocument) → IsDocumentOf s xs document
+        → faults_again s errors document ≡ ambiguous_again document.operations }
 {
     typed_sets();
 }
 
-/// Every list of definitions means a document, over any schema value and without a schema: so what is said of the documents that a
-/// list means is said of one. GraphQL specification of October 2021, sections 2.2 to 2.8.
+/// Every list of definitions means a document, over any schema value and without a schema: so what is said of
+/// the documents that a list means is said of one. GraphQL specification of October 2021, sections 2.2 to
+/// 2.8.
 pub fn every_list_means_a_document()
-    ensures { (schema : Option Schema) (xs : List DocumentItem) → (document : ExecutableDocument) × IsDocumentOf schema xs document }
+    ensures { (schema : Option Schema) (xs : List DocumentItem) → (document : ExecutableDocument)
+        × IsDocumentOf schema xs document }
 {
     elaborated_sets();
 }
 
-/// Each operation that is kept has a root type: the one that the schema names for its kind, or without a schema the default name.
-/// GraphQL specification of October 2021, sections 2.3 and 3.3.1.
+/// Each operation that is kept has a root type: the one that the schema names for its kind, or without a
+/// schema the default name. GraphQL specification of October 2021, sections 2.3 and 3.3.1.
 pub fn kept_operations_are_rooted()
-    ensures anonymous { (schema : Option Schema) (xs : List DocumentItem) → AllByRecursion (λ operation. is_rooted schema operation ≡ true) (listed (kept_anonymous schema xs)) }
-    ensures named { (schema : Option Schema) (xs : List DocumentItem) → AllByRecursion (λ entry. is_rooted schema entry.1 ≡ true) (kept_named schema xs) }
+    ensures anonymous { (schema : Option Schema) (xs : List DocumentItem)
+        → AllByRecursion (λ operation. is_rooted schema operation
+        ≡ true) (listed (kept_anonymous schema xs)) }
+    ensures named { (schema : Option Schema) (xs : List DocumentItem)
+        → AllByRecursion (λ entry. is_rooted schema entry.1 ≡ true) (kept_named schema xs) }
 {}
 
 /// A builder that stands for a list has not failed: no call on it was refused.

@@ -1,5 +1,5 @@
-//! Executable documents built from documents of syntax, over a schema or without one: GraphQL specification of October 2021,
-//! sections 2.2 to 2.8.
+//! Executable documents built from documents of syntax, over a schema or without one: GraphQL specification
+//! of October 2021, sections 2.2 to 2.8.
 //!
 //! Proved: `build` answers exactly the typed document and its faults; exactly the selections that have a type
 //! are kept; what is written out builds again to itself.

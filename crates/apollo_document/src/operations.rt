@@ -6,7 +6,8 @@ ghost use Rattle.graphql_nodes.specs.Tables.{lookup_key};
 ghost use Rattle.apollo_document.specs.declared.build_error.BuildError.TheVariants as errors;
 ghost use Rattle.apollo_document.specs.KeptDefinitions.{root_type_of};
 ghost use Rattle.graphql_nodes.specs.OperationTexts.{operation_text};
-ghost use Rattle.apollo_document.specs.DocumentFaults.{ambiguous, ambiguous_if, faults_in_operation, faults_of_named, after_anonymous};
+ghost use Rattle.apollo_document.specs.DocumentFaults.{ambiguous, ambiguous_if, faults_in_operation};
+ghost use Rattle.apollo_document.specs.DocumentFaults.{faults_of_named, after_anonymous};
 ghost use Rattle.apollo_document.specs.Stands.{operation_over, rooted_operation, put_unless_taken};
 
 use crate::build_error::{BuildError, Fault};
@@ -74,7 +75,8 @@ pub(crate) fn note_kept(
     anonymous: &Option<Node<Operation>>,
     faults: &mut Items<Fault>,
 ) -> Result<(), AllocError>
-    ensures { OnOk result (faults.new ≡ faults.old ++ ambiguous_if (option_map (λ o. o.location) anonymous.now)) }
+    ensures { OnOk result (faults.new
+        ≡ faults.old ++ ambiguous_if (option_map (λ o. o.location) anonymous.now)) }
 {
     if let Some(kept) = anonymous {
         note_ambiguous(kept.location(), faults)?;
@@ -87,7 +89,10 @@ fn note_unrooted(
     node: &Node<OperationDefinition>,
     faults: &mut Items<Fault>,
 ) -> Result<(), AllocError>
-    ensures { OnOk result (faults.new ≡ faults.old ++ (node.now.location, errors.UndefinedRootOperation (operation_text node.now.value.operation_type)) ∷ []) }
+    ensures { OnOk result (faults.new
+        ≡ faults.old
+        ++ (node.now.location, errors.UndefinedRootOperation (operation_text node.now.value.operation_type))
+        ∷ []) }
 {
     let error = BuildError::UndefinedRootOperation {
         operation_type: StaticText::new(node.operation_type.name()),
@@ -103,8 +108,10 @@ pub(crate) fn build_operation(
     name: ExecutableDefinitionName,
     faults: &mut Items<Fault>,
 ) -> Result<Option<Node<Operation>>, AllocError>
-    ensures built { IfOk result (λ operation. operation ≡ rooted_operation (option_copied schema.entry) node.now) }
-    ensures faults { OnOk result (faults.new ≡ faults.old ++ faults_in_operation (option_copied schema.entry) name node.now) }
+    ensures built { IfOk result (λ operation. operation
+        ≡ rooted_operation (option_copied schema.entry) node.now) }
+    ensures faults { OnOk result (faults.new
+        ≡ faults.old ++ faults_in_operation (option_copied schema.entry) name node.now) }
 {
     let Some(root) = root_type(alloc, schema, node.operation_type)? else {
         note_unrooted(node, faults)?;
@@ -121,7 +128,8 @@ pub(crate) fn build_operation(
     Ok(Some(node.same_location(alloc, operation)?))
 }
 
-/// Puts a named operation under its name, typed, if it has a root type and its name isn't taken. What is wrong with it is noted.
+/// Puts a named operation under its name, typed, if it has a root type and its name isn't taken. What is
+/// wrong with it is noted.
 pub(crate) fn put_named(
     alloc: Global,
     schema: Option<&Schema>,
@@ -130,8 +138,13 @@ pub(crate) fn put_named(
     name: &Name,
     faults: &mut Items<Fault>,
 ) -> Result<(), AllocError>
-    ensures named { OnOk result (named.new ≡ put_unless_taken name.now (lookup_key (same_text name.now) named.old) (rooted_operation (option_copied schema.entry) node.now) named.old) }
-    ensures faults { OnOk result (faults.new ≡ faults.old ++ faults_of_named (option_copied schema.entry) (lookup_key (same_text name.now) named.old) name.now node.now) }
+    ensures named { OnOk result (named.new
+        ≡ put_unless_taken name.now (lookup_key (same_text name.now) named.old)
+        (rooted_operation (option_copied schema.entry) node.now) named.old) }
+    ensures faults { OnOk result (faults.new
+        ≡ faults.old
+        ++ faults_of_named (option_copied schema.entry) (lookup_key (same_text name.now) named.old) name.now
+        node.now) }
 {
     if let Some((kept, _)) = named.get_key_value(name) {
         let error = BuildError::OperationNameCollision {
@@ -148,7 +161,8 @@ pub(crate) fn put_named(
     Ok(())
 }
 
-/// Notes an anonymous operation after the kept one, whose location is `kept`. That one is noted too, at the first of them.
+/// Notes an anonymous operation after the kept one, whose location is `kept`. That one is noted too, at the
+/// first of them.
 pub(crate) fn note_further_anonymous(
     kept: Option<SourceSpan>,
     multiple_anonymous: bool,

@@ -1,8 +1,9 @@
-//! Laws of elaboration, for those who build on it; and what `==` answers at paths and the errors of a build, and what clones
-//! of these errors are.
+//! Laws of elaboration, for those who build on it; and what `==` answers at paths and the errors of a build,
+//! and what clones of these errors are.
 //!
 //! Each law is a function that does nothing. A proof cites it by a call, and finds its clauses there.
-ghost use Rattle.std.specs.Prelude.{◌≡◌, ◌⊎◌, ◌↔◌, Bool, true, false, List, [], Option, None, Some, Ok, option_map};
+ghost use Rattle.std.specs.Prelude.{◌≡◌, ◌⊎◌, ◌↔◌, Bool, true, false, List, [], Option, None, Some, Ok};
+ghost use Rattle.std.specs.Prelude.{option_map};
 ghost use Rattle.std.specs.List.{AllByRecursion};
 ghost use Rattle.graphql_nodes.specs.Clones.{IsExact};
 ghost use Rattle.graphql_nodes.specs.Comparing.{ComparesBy};
@@ -21,8 +22,10 @@ ghost use Rattle.apollo_document.specs.BareErrors.{bare_root, bare_path, bare_bu
 ghost use Rattle.apollo_document.specs.BareLeaves.{IsBareOnLeaf};
 ghost use Rattle.apollo_document.specs.Elaborated.{elaborated};
 ghost use Rattle.apollo_document.specs.SelectionFaults.{faults_of_selections};
-ghost use Rattle.apollo_document.specs.Stripped.{kept_field, kept_fragment, stripped, stripped_field, stripped_inline_fragment, stripped_selection};
-ghost use Rattle.apollo_document.specs.Typable.{has_type, if_typable, is_bare, typable_field, typable_fragment, unknown_field};
+ghost use Rattle.apollo_document.specs.Stripped.{kept_field, kept_fragment, stripped, stripped_field};
+ghost use Rattle.apollo_document.specs.Stripped.{stripped_inline_fragment, stripped_selection};
+ghost use Rattle.apollo_document.specs.Typable.{has_type, if_typable, is_bare, typable_field};
+ghost use Rattle.apollo_document.specs.Typable.{typable_fragment, unknown_field};
 ghost use Rattle.apollo_document.specs.TypedSelections.{IsTypedSet};
 
 use crate::build_error::BuildError;
@@ -31,21 +34,28 @@ use apollo_executable::selection::{Field, SelectionSet};
 use apollo_schema::schema::Schema;
 use graphql_ast::selection::Selection;
 
-/// The selections that a typed set is erased to are all typable in its type, so nothing of them is at fault; and no two typed
-/// sets from one type are erased to the same selections. GraphQL specification of October 2021, sections 2.4 to 2.8.
+/// The selections that a typed set is erased to are all typable in its type, so nothing of them is at fault;
+/// and no two typed sets from one type are erased to the same selections. GraphQL specification of October
+/// 2021, sections 2.4 to 2.8.
 pub fn typed_sets()
-    ensures stripped { (schema : Option Schema) (ty : NameView) (set : SelectionSet) → IsTypedSet schema ty set → stripped schema ty (erased_set set) ≡ erased_set set }
-    ensures faultless { (schema : Option Schema) (ty : NameView) (path : SelectionPath) (set : SelectionSet) → IsTypedSet schema ty set → faults_of_selections schema ty path (erased_set set) ≡ [] }
-    ensures unique { (schema : Option Schema) (ty : NameView) (a b : SelectionSet) → IsTypedSet schema ty a → IsTypedSet schema ty b → erased_set a ≡ erased_set b → a ≡ b }
+    ensures stripped { (schema : Option Schema) (ty : NameView) (set : SelectionSet)
+        → IsTypedSet schema ty set → stripped schema ty (erased_set set) ≡ erased_set set }
+    ensures faultless { (schema : Option Schema) (ty : NameView) (path : SelectionPath) (set : SelectionSet)
+        → IsTypedSet schema ty set → faults_of_selections schema ty path (erased_set set) ≡ [] }
+    ensures unique { (schema : Option Schema) (ty : NameView) (a b : SelectionSet) → IsTypedSet schema ty a
+        → IsTypedSet schema ty b → erased_set a ≡ erased_set b → a ≡ b }
 {}
 
 /// Take the set that selections are elaborated to from a type. It is erased to the typable ones of them, each
 /// stripped in its child type, and is typed in that type. No other set is both. GraphQL specification of
 /// October 2021, sections 2.4 to 2.8.
 pub fn elaborated_sets()
-    ensures kept { (schema : Option Schema) (ty : NameView) (xs : List Selection) → erased_set (elaborated schema ty xs) ≡ stripped schema ty xs }
-    ensures typed { (schema : Option Schema) (ty : NameView) (xs : List Selection) → IsTypedSet schema ty (elaborated schema ty xs) }
-    ensures unique { (schema : Option Schema) (ty : NameView) (xs : List Selection) (set : SelectionSet) → erased_set set ≡ stripped schema ty xs → IsTypedSet schema ty set
+    ensures kept { (schema : Option Schema) (ty : NameView) (xs : List Selection)
+        → erased_set (elaborated schema ty xs) ≡ stripped schema ty xs }
+    ensures typed { (schema : Option Schema) (ty : NameView) (xs : List Selection)
+        → IsTypedSet schema ty (elaborated schema ty xs) }
+    ensures unique { (schema : Option Schema) (ty : NameView) (xs : List Selection) (set : SelectionSet)
+        → erased_set set ≡ stripped schema ty xs → IsTypedSet schema ty set
         → set ≡ elaborated schema ty xs }
 {}
 
@@ -58,26 +68,42 @@ pub fn elaborated_sets()
 /// an inline fragment from its child type (`stripped_field`, `stripped_fragment`). GraphQL specification of
 /// October 2021, sections 2.4 to 2.8.
 pub fn what_is_typable()
-    ensures field { (s : Schema) (ty name : NameView) (bare : Bool) (d : NodeView FieldDefinition) → (typable_field (Some s) ty name bare ≡ Ok d)
-        ↔ ((option_map (λ c. c.node) (field_at s ty name) ≡ Some d) × ((bare ≡ true) ⊎ (refers_to is_leaf s.types d.value.ty ≡ false))) }
-    ensures any_field { (ty name : NameView) (bare : Bool) → typable_field None ty name bare ≡ Ok (unknown_field name) }
-    ensures condition { (schema : Option Schema) (ty condition child : NameView) → (typable_fragment schema ty (Some condition) ≡ Ok child) ↔ ((child ≡ condition) × (has_type schema condition ≡ true)) }
-    ensures without_condition { (schema : Option Schema) (ty : NameView) → typable_fragment schema ty None ≡ Ok ty }
-    ensures spread { (schema : Option Schema) (ty : NameView) (n : NodeView syntax_spread.FragmentSpread) → stripped_selection schema ty (syntax.FragmentSpread n) ≡ Some (syntax.FragmentSpread n) }
-    ensures stripped_field { (schema : Option Schema) (ty : NameView) (f : syntax_field.Field) → stripped_field schema ty f
-        ≡ if_typable (kept_field f.alias f.name f.arguments f.directives (λ child. stripped schema child f.selection_set)) (typable_field schema ty f.name (is_bare f.selection_set)) }
-    ensures stripped_fragment { (schema : Option Schema) (ty : NameView) (f : syntax_fragment.InlineFragment) → stripped_inline_fragment schema ty f
-        ≡ if_typable (kept_fragment f.type_condition f.directives (λ child. stripped schema child f.selection_set)) (typable_fragment schema ty f.type_condition) }
+    ensures field { (s : Schema) (ty name : NameView) (bare : Bool) (d : NodeView FieldDefinition)
+        → (typable_field (Some s) ty name bare ≡ Ok d)
+        ↔ ((option_map (λ c. c.node) (field_at s ty name) ≡ Some d)
+        × ((bare ≡ true) ⊎ (refers_to is_leaf s.types d.value.ty ≡ false))) }
+    ensures any_field { (ty name : NameView) (bare : Bool)
+        → typable_field None ty name bare ≡ Ok (unknown_field name) }
+    ensures condition { (schema : Option Schema) (ty condition child : NameView)
+        → (typable_fragment schema ty (Some condition) ≡ Ok child)
+        ↔ ((child ≡ condition) × (has_type schema condition ≡ true)) }
+    ensures without_condition { (schema : Option Schema) (ty : NameView)
+        → typable_fragment schema ty None ≡ Ok ty }
+    ensures spread { (schema : Option Schema) (ty : NameView) (n : NodeView syntax_spread.FragmentSpread)
+        → stripped_selection schema ty (syntax.FragmentSpread n) ≡ Some (syntax.FragmentSpread n) }
+    ensures stripped_field { (schema : Option Schema) (ty : NameView) (f : syntax_field.Field)
+        → stripped_field schema ty f
+        ≡ if_typable
+        (kept_field f.alias f.name f.arguments f.directives
+        (λ child. stripped schema child f.selection_set))
+        (typable_field schema ty f.name (is_bare f.selection_set)) }
+    ensures stripped_fragment { (schema : Option Schema) (ty : NameView) (f : syntax_fragment.InlineFragment)
+        → stripped_inline_fragment schema ty f
+        ≡ if_typable
+        (kept_fragment f.type_condition f.directives (λ child. stripped schema child f.selection_set))
+        (typable_fragment schema ty f.type_condition) }
 {}
 
-/// In a set that is typed over a schema no field has subselections whose type is a scalar or enum of that schema. GraphQL
-/// specification of October 2021, section 5.3.3.
+/// In a set that is typed over a schema no field has subselections whose type is a scalar or enum of that
+/// schema. GraphQL specification of October 2021, section 5.3.3.
 pub fn leaves_of_typed_sets()
-    ensures { (schema : Schema) (ty : NameView) (set : SelectionSet) → IsTypedSet (Some schema) ty set → AllByRecursion (λ (n : NodeView Field). IsBareOnLeaf schema n.value) (fields_in true set.selections) }
+    ensures { (schema : Schema) (ty : NameView) (set : SelectionSet) → IsTypedSet (Some schema) ty set
+        → AllByRecursion (λ (n : NodeView Field). IsBareOnLeaf schema n.value)
+        (fields_in true set.selections) }
 {}
 
-/// Paths and the errors of a build are equal exactly where they are one without the locations of names. GraphQL specification of
-/// October 2021, sections 2.2 to 2.8.
+/// Paths and the errors of a build are equal exactly where they are one without the locations of names.
+/// GraphQL specification of October 2021, sections 2.2 to 2.8.
 pub fn equality_of_build_errors()
     ensures definition_name { ComparesBy ⟦<ExecutableDefinitionName as PartialEq>⟧.eq bare_root }
     ensures path { ComparesBy ⟦<SelectionPath as PartialEq>⟧.eq bare_path }

@@ -8,9 +8,11 @@ use graphql_nodes::operation_type::OperationType;
 use std::alloc::AllocError;
 use std::fmt;
 
-/// The definition that a selection stands in. `Display` is `query`, `query N` or `fragment F`, with the operation's keyword.
+/// The definition that a selection stands in. `Display` is `query`, `query N` or `fragment F`, with the
+/// operation's keyword.
 ///
-/// Equality is that of the texts of names. A clone is the original, with locations; its error is out of memory.
+/// Equality is that of the texts of names. A clone is the original, with locations; its error is out of
+/// memory.
 #[derive(Debug, Drop, PartialEq, Eq)]
 pub enum ExecutableDefinitionName {
     AnonymousOperation(OperationType),
@@ -18,10 +20,11 @@ pub enum ExecutableDefinitionName {
     Fragment(Name),
 }
 
-/// The definition that a selection stands in, and the response keys of the fields around it, from the outermost on. In a
-/// fault of a field its own key is the last.
+/// The definition that a selection stands in, and the response keys of the fields around it, from the
+/// outermost on. In a fault of a field its own key is the last.
 ///
-/// Equality is that of the texts of names. A clone is the original, with locations; its error is out of memory.
+/// Equality is that of the texts of names. A clone is the original, with locations; its error is out of
+/// memory.
 #[derive(Debug, PartialEq, Eq)]
 pub struct SelectionPath {
     pub root: ExecutableDefinitionName,

@@ -30,7 +30,8 @@ use graphql_nodes::node::Node;
 use graphql_nodes::source::{SourceMap, merge_sources};
 use std::alloc::{AllocError, Global};
 
-/// What a builder of documents holds until it fails: the kept operations and fragments, typed, the sources, and the faults.
+/// What a builder of documents holds until it fails: the kept operations and fragments, typed, the sources,
+/// and the faults.
 pub struct Tables {
     pub alloc: Global,
     pub sources: SourceMap,
@@ -77,7 +78,9 @@ impl Tables {
         node: &Node<OperationDefinition>,
         name: &Name,
     ) -> Result<(), AllocError>
-        ensures stands { OnOk result (node.now.value.name ≡ Some name.now → (errors : Bool) → TakesDefinition (option_copied schema.entry) (errors, definitions.OperationDefinition node.now) self.old self.new) }
+        ensures stands { OnOk result (node.now.value.name ≡ Some name.now → (errors : Bool)
+            → TakesDefinition (option_copied schema.entry) (errors, definitions.OperationDefinition node.now)
+            self.old self.new) }
         ensures sources { self.new.sources ≡ self.old.sources }
     {
         note_kept(&self.operations.anonymous, &mut self.faults)?;
@@ -98,7 +101,9 @@ impl Tables {
         schema: Option<&Schema>,
         node: &Node<OperationDefinition>,
     ) -> Result<(), AllocError>
-        ensures stands { OnOk result (node.now.value.name ≡ None → (errors : Bool) → TakesDefinition (option_copied schema.entry) (errors, definitions.OperationDefinition node.now) self.old self.new) }
+        ensures stands { OnOk result (node.now.value.name ≡ None → (errors : Bool)
+            → TakesDefinition (option_copied schema.entry) (errors, definitions.OperationDefinition node.now)
+            self.old self.new) }
         ensures sources { self.new.sources ≡ self.old.sources }
     {
         if let Some(kept) = &self.operations.anonymous {
@@ -133,7 +138,9 @@ impl Tables {
         schema: Option<&Schema>,
         node: &Node<OperationDefinition>,
     ) -> Result<(), AllocError>
-        ensures stands { OnOk result ((errors : Bool) → TakesDefinition (option_copied schema.entry) (errors, definitions.OperationDefinition node.now) self.old self.new) }
+        ensures stands { OnOk result ((errors : Bool)
+            → TakesDefinition (option_copied schema.entry) (errors, definitions.OperationDefinition node.now)
+            self.old self.new) }
         ensures sources { self.new.sources ≡ self.old.sources }
     {
         match &node.name {
@@ -149,7 +156,9 @@ impl Tables {
         schema: Option<&Schema>,
         node: &Node<FragmentDefinition>,
     ) -> Result<(), AllocError>
-        ensures stands { OnOk result ((errors : Bool) → TakesDefinition (option_copied schema.entry) (errors, definitions.FragmentDefinition node.now) self.old self.new) }
+        ensures stands { OnOk result ((errors : Bool)
+            → TakesDefinition (option_copied schema.entry) (errors, definitions.FragmentDefinition node.now)
+            self.old self.new) }
         ensures sources { self.new.sources ≡ self.old.sources }
     {
         put_fragment(
@@ -168,7 +177,11 @@ impl Tables {
         definition: &Definition,
         type_system_definitions_are_errors: bool,
     ) -> Result<(), AllocError>
-        ensures noted { OnOk result (self.new ≡ record self.old { faults = self.old.faults ++ type_system_faults type_system_definitions_are_errors definition.now }) }
+        ensures noted { OnOk result (self.new
+            ≡ record self.old {
+              faults = self.old.faults
+                  ++ type_system_faults type_system_definitions_are_errors definition.now;
+            }) }
         ensures sources { self.new.sources ≡ self.old.sources }
     {
         if !type_system_definitions_are_errors {
@@ -188,7 +201,11 @@ impl Tables {
         definition: &Definition,
         type_system_definitions_are_errors: bool,
     ) -> Result<(), AllocError>
-        ensures stands { OnOk result (TakesDefinition (option_copied schema.entry) (type_system_definitions_are_errors, definition.now) self.old self.new) }
+        ensures stands { OnOk result
+            (TakesDefinition (option_copied schema.entry) (
+              type_system_definitions_are_errors,
+              definition.now,
+            ) self.old self.new) }
         ensures sources { self.new.sources ≡ self.old.sources }
     {
         match definition {
@@ -205,7 +222,9 @@ impl Tables {
         definitions: &[Definition],
         type_system_definitions_are_errors: bool,
     ) -> Result<(), AllocError>
-        ensures stands { OnOk result (StandsWith (option_copied schema.entry) (document_list type_system_definitions_are_errors definitions.now) self.old self.new) }
+        ensures stands { OnOk result
+            (StandsWith (option_copied schema.entry)
+            (document_list type_system_definitions_are_errors definitions.now) self.old self.new) }
         ensures sources { self.new.sources ≡ self.old.sources }
         ensures wants { OnErr result (definitions.now ≢ []) }
     {
@@ -215,15 +234,17 @@ impl Tables {
         Ok(())
     }
 
-    /// Takes a document: its definitions, and then its sources. The error is out of memory, which a document without definitions
-    /// and sources doesn't meet, and after which nothing is said of the tables.
+    /// Takes a document: its definitions, and then its sources. The error is out of memory, which a document
+    /// without definitions and sources doesn't meet, and after which nothing is said of the tables.
     pub fn take_document(
         &mut self,
         schema: Option<&Schema>,
         document: &Document,
         type_system_definitions_are_errors: bool,
     ) -> Result<(), AllocError>
-        ensures stands { OnOk result (StandsWith (option_copied schema.entry) (document_list type_system_definitions_are_errors document.now.definitions) self.old self.new) }
+        ensures stands { OnOk result
+            (StandsWith (option_copied schema.entry)
+            (document_list type_system_definitions_are_errors document.now.definitions) self.old self.new) }
         ensures sources { OnOk result (self.new.sources ≡ merged self.old.sources document.now.sources) }
         ensures wants { OnErr result (document.now.definitions ≡ [] → document.now.sources ≢ []) }
     {
@@ -238,7 +259,11 @@ impl Tables {
 
     /// The document of these tables, and the faults.
     pub fn into_document(self) -> (ExecutableDocument, Faults)
-        ensures document { result.0 ≡ record { sources = self.sources; operations = self.operations; fragments = self.fragments } }
+        ensures document { result.0 ≡ record {
+          sources = self.sources;
+          operations = self.operations;
+          fragments = self.fragments;
+        } }
         ensures faults { result.1.items ≡ self.faults }
     {
         let Tables {

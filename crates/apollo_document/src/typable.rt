@@ -1,5 +1,5 @@
-//! Which selections are typable, and what is wrong with the others: GraphQL specification of October 2021, sections 2.5 to
-//! 2.8.
+//! Which selections are typable, and what is wrong with the others: GraphQL specification of October 2021,
+//! sections 2.5 to 2.8.
 ghost use Rattle.std.specs.Prelude.{◌≡◌, ◌++◌, [], false, Option, None, Some, IfOk, OnOk};
 ghost use Rattle.std.specs.Option.{option_copied};
 ghost use Rattle.graphql_nodes.specs.declared.source.SourceSpan.{SourceSpan};
@@ -36,7 +36,8 @@ fn unknown_field(alloc: Global, name: &Name) -> Result<Node<FieldDefinition>, Al
     Node::new(alloc, definition)
 }
 
-/// The definition of a field of this name in a type. That a type of the schema has none is noted. The error is out of memory.
+/// The definition of a field of this name in a type. That a type of the schema has none is noted. The error
+/// is out of memory.
 fn definition_in(
     alloc: Global,
     parent: &Parent,
@@ -44,8 +45,13 @@ fn definition_in(
     path: &SelectionPath,
     faults: &mut Items<Fault>,
 ) -> Result<Option<Node<FieldDefinition>>, AllocError>
-    ensures defined { IfOk result (λ definition. definition ≡ if_typable (λ d. d) (spec.definition_in (option_copied parent.now.schema) parent.now.ty.now name.now)) }
-    ensures faults { OnOk result (faults.new ≡ faults.old ++ below_or_wrong (λ _. []) None path.now (spec.definition_in (option_copied parent.now.schema) parent.now.ty.now name.now)) }
+    ensures defined { IfOk result (λ definition. definition
+        ≡ if_typable (λ d. d)
+        (spec.definition_in (option_copied parent.now.schema) parent.now.ty.now name.now)) }
+    ensures faults { OnOk result (faults.new
+        ≡ faults.old
+        ++ below_or_wrong (λ _. []) None path.now
+        (spec.definition_in (option_copied parent.now.schema) parent.now.ty.now name.now)) }
 {
     let Some(schema) = parent.schema else {
         return Ok(Some(unknown_field(alloc, name)?));
@@ -73,8 +79,12 @@ fn unless_leaf(
     path: &SelectionPath,
     faults: &mut Items<Fault>,
 ) -> Result<Option<Node<FieldDefinition>>, AllocError>
-    ensures kept { IfOk result (λ kept. kept ≡ if_typable (λ d. d) (spec.unless_leaf false definition (leaf_at schema.now definition))) }
-    ensures faults { OnOk result (faults.new ≡ faults.old ++ below_or_wrong (λ _. []) location path.now (spec.unless_leaf false definition (leaf_at schema.now definition))) }
+    ensures kept { IfOk result (λ kept. kept
+        ≡ if_typable (λ d. d) (spec.unless_leaf false definition (leaf_at schema.now definition))) }
+    ensures faults { OnOk result (faults.new
+        ≡ faults.old
+        ++ below_or_wrong (λ _. []) location path.now
+        (spec.unless_leaf false definition (leaf_at schema.now definition))) }
 {
     let ty = definition.ty.inner_named_type();
     let error = match schema.types.get(ty) {
@@ -92,7 +102,8 @@ fn unless_leaf(
     Ok(None)
 }
 
-/// The definition of a field that is typable in a type. What is wrong with another is noted. The error is out of memory.
+/// The definition of a field that is typable in a type. What is wrong with another is noted. The error is out
+/// of memory.
 pub(crate) fn typable_field(
     alloc: Global,
     parent: &Parent,
@@ -100,8 +111,13 @@ pub(crate) fn typable_field(
     path: &SelectionPath,
     faults: &mut Items<Fault>,
 ) -> Result<Option<Node<FieldDefinition>>, AllocError>
-    ensures typable { IfOk result (λ definition. definition ≡ if_typable (λ d. d) (field_judged (option_copied parent.now.schema) parent.now.ty.now node.now.value)) }
-    ensures faults { OnOk result (faults.new ≡ faults.old ++ below_or_wrong (λ _. []) node.now.location path.now (field_judged (option_copied parent.now.schema) parent.now.ty.now node.now.value)) }
+    ensures typable { IfOk result (λ definition. definition
+        ≡ if_typable (λ d. d)
+        (field_judged (option_copied parent.now.schema) parent.now.ty.now node.now.value)) }
+    ensures faults { OnOk result (faults.new
+        ≡ faults.old
+        ++ below_or_wrong (λ _. []) node.now.location path.now
+        (field_judged (option_copied parent.now.schema) parent.now.ty.now node.now.value)) }
 {
     let Some(definition) = definition_in(alloc, parent, &node.name, path, faults)? else {
         return Ok(None);
@@ -125,8 +141,8 @@ pub fn has_type(schema: Option<&Schema>, ty: &NamedType) -> bool
     }
 }
 
-/// The type that the selections of an inline fragment are from, if it is typable in a type: that of its condition, or without
-/// one the same. A condition that is no type is noted. The error is out of memory.
+/// The type that the selections of an inline fragment are from, if it is typable in a type: that of its
+/// condition, or without one the same. A condition that is no type is noted. The error is out of memory.
 pub(crate) fn typable_fragment<'a>(
     schema: Option<&Schema>,
     ty: &'a NamedType,
@@ -134,8 +150,14 @@ pub(crate) fn typable_fragment<'a>(
     path: &SelectionPath,
     faults: &mut Items<Fault>,
 ) -> Result<Option<&'a NamedType>, AllocError>
-    ensures typable { IfOk result (λ child. option_copied child ≡ if_typable (λ t. t) (spec.typable_fragment (option_copied schema.entry) ty.now fragment.now.type_condition)) }
-    ensures faults { OnOk result ((location : Option SourceSpan) → faults.new ≡ faults.old ++ below_or_wrong (λ _. []) location path.now (spec.typable_fragment (option_copied schema.entry) ty.now fragment.now.type_condition)) }
+    ensures typable { IfOk result (λ child. option_copied child
+        ≡ if_typable (λ t. t)
+        (spec.typable_fragment (option_copied schema.entry) ty.now fragment.now.type_condition)) }
+    ensures faults { OnOk result ((location : Option SourceSpan)
+        → faults.new
+        ≡ faults.old
+        ++ below_or_wrong (λ _. []) location path.now
+        (spec.typable_fragment (option_copied schema.entry) ty.now fragment.now.type_condition)) }
 {
     let Some(condition) = &fragment.type_condition else {
         return Ok(Some(ty));

@@ -1,5 +1,5 @@
--- What `==` compares of operations, fragments and documents: no location, and what stands under a name as a function of its
--- text. GraphQL specification of October 2021, sections 2.2, 2.3 and 2.8.
+-- What `==` compares of operations, fragments and documents: no location, and what stands under a name as a
+-- function of its text. GraphQL specification of October 2021, sections 2.2, 2.3 and 2.8.
 use Rattle.std.specs.Prelude.{ℕ, List, Option, map, option_map}
 use Rattle.graphql_nodes.specs.NodeView.{NodeView}
 use Rattle.graphql_nodes.specs.Comparing.{bare_name, bare_node, entries_by_text}

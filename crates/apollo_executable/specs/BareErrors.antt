@@ -1,5 +1,5 @@
--- What `==` compares of the errors of requests and of new fields, without locations: GraphQL specification of October 2021, sections
--- 2.5 and 6.1.
+-- What `==` compares of the errors of requests and of new fields, without locations: GraphQL specification of
+-- October 2021, sections 2.5 and 6.1.
 use Rattle.std.specs.Prelude.{Option, None, Some}
 use Rattle.graphql_nodes.specs.Comparing.{bare_name}
 use Rattle.graphql_nodes.specs.NameView.{NameView}

@@ -1,12 +1,14 @@
--- Typed selections without their locations. Those that differ in locations alone have one bare tree. GraphQL specification of
--- October 2021, sections 2.4 to 2.8.
+-- Typed selections without their locations. Those that differ in locations alone have one bare tree. GraphQL
+-- specification of October 2021, sections 2.4 to 2.8.
 use Rattle.std.specs.Prelude.{map, option_map}
 use Rattle.graphql_nodes.specs.Comparing.{bare_name, bare_node}
 use Rattle.graphql_ast.specs.Bare.{bare_argument, bare_directive_list}
 use Rattle.graphql_ast.specs.BareTypeSystem.{bare_field_definition}
 use Rattle.apollo_executable.specs.declared.selection.Selection.{Selection, fold-Selection, roll-Selection}
-use Rattle.apollo_executable.specs.declared.selection.Selection.TheFolds.{fold-Field, fold-InlineFragment, fold-SelectionSet}
-use Rattle.apollo_executable.specs.declared.selection.Selection.TheOpen.{Selection-F, Field-F, InlineFragment-F, SelectionSet-F}
+use Rattle.apollo_executable.specs.declared.selection.Selection.TheFolds.{fold-Field, fold-InlineFragment}
+use Rattle.apollo_executable.specs.declared.selection.Selection.TheFolds.{fold-SelectionSet}
+use Rattle.apollo_executable.specs.declared.selection.Selection.TheOpen.{Selection-F, Field-F}
+use Rattle.apollo_executable.specs.declared.selection.Selection.TheOpen.{InlineFragment-F, SelectionSet-F}
 use Rattle.apollo_executable.specs.declared.selection.Field.{Field, roll-Field}
 use Rattle.apollo_executable.specs.declared.selection.InlineFragment.{InlineFragment, roll-InlineFragment}
 use Rattle.apollo_executable.specs.declared.selection.SelectionSet.{SelectionSet, roll-SelectionSet}

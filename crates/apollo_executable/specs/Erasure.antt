@@ -1,5 +1,6 @@
--- The untyped trees of typed ones: the definitions of fields and the types of sets are left out, and the condition of a
--- fragment is the type of its set. All else stays, locations too. GraphQL specification of October 2021, sections 2.2 to 2.8.
+-- The untyped trees of typed ones: the definitions of fields and the types of sets are left out, and the
+-- condition of a fragment is the type of its set. All else stays, locations too. GraphQL specification of
+-- October 2021, sections 2.2 to 2.8.
 --
 -- **Erased.** A typed value is erased (`erased`, `erased_set`, `erased_operation`, ..) to the untyped one.
 -- That has no type of a set and no definition of a field, and all else the same: names, aliases, arguments,
@@ -19,8 +20,10 @@ use Rattle.graphql_ast.specs.declared.definition.Definition.{Definition}
 use Rattle.graphql_ast.specs.declared.definition.Definition.TheVariants as d
 use Rattle.graphql_ast.specs.declared.document.Document.{Document}
 use Rattle.apollo_executable.specs.declared.selection.Selection.{Selection, fold-Selection}
-use Rattle.apollo_executable.specs.declared.selection.Selection.TheOpen.{Selection-F, Field-F, InlineFragment-F, SelectionSet-F}
-use Rattle.apollo_executable.specs.declared.selection.Selection.TheFolds.{fold-Field, fold-InlineFragment, fold-SelectionSet}
+use Rattle.apollo_executable.specs.declared.selection.Selection.TheOpen.{Selection-F, Field-F}
+use Rattle.apollo_executable.specs.declared.selection.Selection.TheOpen.{InlineFragment-F, SelectionSet-F}
+use Rattle.apollo_executable.specs.declared.selection.Selection.TheFolds.{fold-Field, fold-InlineFragment}
+use Rattle.apollo_executable.specs.declared.selection.Selection.TheFolds.{fold-SelectionSet}
 use Rattle.apollo_executable.specs.declared.selection.Field.{Field}
 use Rattle.apollo_executable.specs.declared.selection.InlineFragment.{InlineFragment}
 use Rattle.apollo_executable.specs.declared.selection.FragmentSpread.{FragmentSpread}

@@ -12,7 +12,8 @@ use Rattle.apollo_executable.specs.Operations.{all_operations, the_only}
 use Rattle.apollo_executable.specs.declared.operation.Operation.{Operation}
 use Rattle.apollo_executable.specs.declared.operation_map.OperationMap.{OperationMap}
 use Rattle.apollo_executable.specs.declared.request_error.RequestError.{RequestError}
-use Rattle.apollo_executable.specs.declared.request_error.RequestError.TheVariants.{NoSuchOperation, Ambiguous, Memory}
+use Rattle.apollo_executable.specs.declared.request_error.RequestError.TheVariants.{NoSuchOperation}
+use Rattle.apollo_executable.specs.declared.request_error.RequestError.TheVariants.{Ambiguous, Memory}
 
 -- the operation of the name, or without a name the only one
 abbrev pub requested : OperationMap → Option NameView → Option (NodeView Operation)

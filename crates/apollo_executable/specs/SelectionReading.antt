@@ -1,5 +1,5 @@
--- What is read of typed selections, from the innermost ones out: GraphQL specification of October 2021, sections 2.4 to 2.8. Of
--- a field and of an inline fragment it is what is read of their sets.
+-- What is read of typed selections, from the innermost ones out: GraphQL specification of October 2021,
+-- sections 2.4 to 2.8. Of a field and of an inline fragment it is what is read of their sets.
 use Rattle.std.specs.Prelude.{List, map}
 use Rattle.graphql_nodes.specs.NameView.{NameView}
 use Rattle.apollo_executable.specs.declared.selection.Selection.{Selection, para-Selection}

@@ -15,8 +15,8 @@ pub type FragmentMap = Table<Name, Node<Fragment>>;
 
 /// The operations and fragments of a document, and the files that they come from.
 ///
-/// Documents are equal where their operations and fragments are, in any order: locations and sources are left out. A clone is
-/// the original, with both; its error is out of memory.
+/// Documents are equal where their operations and fragments are, in any order: locations and sources are left
+/// out. A clone is the original, with both; its error is out of memory.
 #[derive(Debug, Drop, Clone)]
 #[derive_where(PartialEq, Eq)]
 pub struct ExecutableDocument {
@@ -29,14 +29,16 @@ pub struct ExecutableDocument {
 impl ExecutableDocument {
     ghost use Rattle.apollo_executable.specs.EmptyDocument.{empty_document};
 
-    /// A document without operations, fragments and sources, whose tables hash by fixed keys. It takes no memory.
+    /// A document without operations, fragments and sources, whose tables hash by fixed keys. It takes no
+    /// memory.
     pub fn new(alloc: Global) -> ExecutableDocument
         ensures { result ≡ empty_document }
     {
         ExecutableDocument::with_keys(alloc, HashKeys::FIXED)
     }
 
-    /// The same, whose tables hash by these keys: those of a schema, for a document from strangers. It takes no memory.
+    /// The same, whose tables hash by these keys: those of a schema, for a document from strangers. It takes
+    /// no memory.
     pub fn with_keys(alloc: Global, keys: HashKeys) -> ExecutableDocument
         ensures { result ≡ empty_document }
     {

@@ -23,8 +23,9 @@ use graphql_nodes::node::Node;
 use std::alloc::{AllocError, Global};
 
 impl Field {
-    /// A field of this name and definition, without alias, arguments, directives and selections. Its set selects from the type
-    /// that the definition names, inside all lists. The error is out of memory, and drops the name and the definition.
+    /// A field of this name and definition, without alias, arguments, directives and selections. Its set
+    /// selects from the type that the definition names, inside all lists. The error is out of memory, and
+    /// drops the name and the definition.
     ///
     /// [`SelectionSet::new_field`] looks the definition up in a schema.
     pub fn new(
@@ -79,7 +80,8 @@ impl Field {
         Ok(self)
     }
 
-    /// The same field with one more argument at the end, without a location. The error is out of memory, and drops the field.
+    /// The same field with one more argument at the end, without a location. The error is out of memory, and
+    /// drops the field.
     pub fn with_argument(
         mut self,
         alloc: Global,
@@ -106,7 +108,8 @@ impl Field {
         Ok(self)
     }
 
-    /// The same field with one more selection at the end of its set. The error is out of memory, and drops the field.
+    /// The same field with one more selection at the end of its set. The error is out of memory, and drops
+    /// the field.
     pub fn with_selection(mut self, selection: Selection) -> Result<Field, AllocError>
         ensures { IfOk result (λ field. field
             ≡ record self {
@@ -118,7 +121,8 @@ impl Field {
         Ok(self)
     }
 
-    /// The same field with these selections at the end of its set. The error is out of memory, and drops the field.
+    /// The same field with these selections at the end of its set. The error is out of memory, and drops the
+    /// field.
     pub fn with_selections(mut self, selections: Vec<Selection>) -> Result<Field, AllocError>
         ensures { IfOk result (λ field. field
             ≡ record self {
@@ -154,12 +158,12 @@ impl Field {
         schema.types.get(self.ty().inner_named_type())
     }
 
-    /// The value of the argument of the name: the specified one, else the default one of the field's definition, else none
-    /// (sections 2.6 and 3.6.1). It takes no memory.
+    /// The value of the argument of the name: the specified one, else the default one of the field's
+    /// definition, else none (sections 2.6 and 3.6.1). It takes no memory.
     ///
     /// Where no value is specified, an argument that the definition lacks is
-    /// [`NoSuchArgument`](ArgumentByNameError::NoSuchArgument), and one of a non-null type without a default value is
-    /// [`RequiredArgumentNotSpecified`](ArgumentByNameError::RequiredArgumentNotSpecified).
+    /// [`NoSuchArgument`](ArgumentByNameError::NoSuchArgument), and one of a non-null type without a default
+    /// value is [`RequiredArgumentNotSpecified`](ArgumentByNameError::RequiredArgumentNotSpecified).
     pub fn argument_by_name(&self, name: &Name) -> Result<Option<&Node<Value>>, ArgumentByNameError>
         ensures { Answers (argument_value (specified_value self.now.arguments name.now)
             (defined_argument self.now.definition.value.arguments name.now)) result }

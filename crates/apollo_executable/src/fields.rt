@@ -54,7 +54,8 @@ impl<'a> Iterator for Fields<'a> {
 
     ghost remaining = { λ left. at_most (length left) };
 
-    /// The first field that is left, after which the rest is left. Once none is left it answers none, from then on too.
+    /// The first field that is left, after which the rest is left. Once none is left it answers none, from
+    /// then on too.
     fn next(&mut self) -> Option<&'a Node<Field>> {
         while let Some(selection) = self.selections.next() {
             if let Some(field) = selection.as_field() {

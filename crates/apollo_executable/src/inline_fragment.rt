@@ -15,8 +15,8 @@ use graphql_nodes::node::Node;
 use std::alloc::{AllocError, Global};
 
 impl InlineFragment {
-    /// An inline fragment on this type, without directives and selections. Its set selects from the same type. The error is
-    /// out of memory, and drops the name.
+    /// An inline fragment on this type, without directives and selections. Its set selects from the same
+    /// type. The error is out of memory, and drops the name.
     pub fn with_type_condition(
         alloc: Global,
         type_condition: NamedType,
@@ -31,8 +31,8 @@ impl InlineFragment {
         })
     }
 
-    /// An inline fragment without condition in a set that selects from this type, as its own set does, without directives and
-    /// selections. It takes no memory.
+    /// An inline fragment without condition in a set that selects from this type, as its own set does,
+    /// without directives and selections. It takes no memory.
     pub fn without_type_condition(
         alloc: Global,
         parent_selection_set_type: NamedType,
@@ -46,7 +46,8 @@ impl InlineFragment {
         }
     }
 
-    /// The same inline fragment with one more directive at the end. The error is out of memory, and drops the fragment.
+    /// The same inline fragment with one more directive at the end. The error is out of memory, and drops the
+    /// fragment.
     pub fn with_directive(
         mut self,
         directive: Node<Directive>,
@@ -58,7 +59,8 @@ impl InlineFragment {
         Ok(self)
     }
 
-    /// The same inline fragment with these directives at the end. The error is out of memory, and drops the fragment.
+    /// The same inline fragment with these directives at the end. The error is out of memory, and drops the
+    /// fragment.
     pub fn with_directives(
         mut self,
         directives: Vec<Node<Directive>>,
@@ -70,8 +72,8 @@ impl InlineFragment {
         Ok(self)
     }
 
-    /// The same inline fragment with one more selection at the end of its set. The error is out of memory, and drops the
-    /// fragment.
+    /// The same inline fragment with one more selection at the end of its set. The error is out of memory,
+    /// and drops the fragment.
     pub fn with_selection(mut self, selection: Selection) -> Result<InlineFragment, AllocError>
         ensures { IfOk result (λ inline. inline
             ≡ record self {
@@ -83,8 +85,8 @@ impl InlineFragment {
         Ok(self)
     }
 
-    /// The same inline fragment with these selections at the end of its set. The error is out of memory, and drops the
-    /// fragment.
+    /// The same inline fragment with these selections at the end of its set. The error is out of memory, and
+    /// drops the fragment.
     pub fn with_selections(
         mut self,
         selections: Vec<Selection>,

@@ -1,13 +1,15 @@
-//! What `==` answers at each type of this crate: whether the two are one with locations and sources left out, and operations
-//! and fragments in any order; and that clones are the originals.
+//! What `==` answers at each type of this crate: whether the two are one with locations and sources left out,
+//! and operations and fragments in any order; and that clones are the originals.
 //!
-//! Each law is a function that does nothing. A proof cites it by a call, and finds a clause for each type there.
-//! That equal values have equal hashes is part of each type's `Hash`.
+//! Each law is a function that does nothing. A proof cites it by a call, and finds a clause for each type
+//! there. That equal values have equal hashes is part of each type's `Hash`.
 ghost use Rattle.graphql_nodes.specs.Clones.{IsExact};
 ghost use Rattle.graphql_nodes.specs.Comparing.{ComparesBy};
-ghost use Rattle.apollo_executable.specs.BareSelections.{bare_selection, bare_field, bare_fragment_spread, bare_inline_fragment, bare_selection_set};
+ghost use Rattle.apollo_executable.specs.BareSelections.{bare_selection, bare_field, bare_fragment_spread};
+ghost use Rattle.apollo_executable.specs.BareSelections.{bare_inline_fragment, bare_selection_set};
 ghost use Rattle.apollo_executable.specs.BareErrors.{bare_new_field_error, bare_request_error};
-ghost use Rattle.apollo_executable.specs.BareDocuments.{bare_operation, bare_fragment, bare_operation_map, bare_document};
+ghost use Rattle.apollo_executable.specs.BareDocuments.{bare_operation, bare_fragment, bare_operation_map};
+ghost use Rattle.apollo_executable.specs.BareDocuments.{bare_document};
 
 pub mod calls_of_walks;
 pub mod fields_in;
@@ -22,8 +24,8 @@ use crate::selection::{Field, FragmentSpread, InlineFragment, Selection, Selecti
 use apollo_schema::laws::equality_of_lookups;
 use graphql_ast::laws as syntax;
 
-/// Typed selections are equal exactly where they are one without their locations: definitions of fields and types of sets
-/// count. GraphQL specification of October 2021, sections 2.4 to 2.8.
+/// Typed selections are equal exactly where they are one without their locations: definitions of fields and
+/// types of sets count. GraphQL specification of October 2021, sections 2.4 to 2.8.
 pub fn equality_of_selections()
     ensures selection { ComparesBy ⟦<Selection as PartialEq>⟧.eq bare_selection }
     ensures field { ComparesBy ⟦<Field as PartialEq>⟧.eq bare_field }
@@ -49,9 +51,9 @@ pub fn equality_of_documents()
     equality_of_selections();
 }
 
-/// Errors of requests are equal exactly where they are of one sort and their names have one text. Those of new fields are where
-/// their sorts and texts are the same, and their types are equal as `==` of types says: without locations and origins, and what
-/// stands under names in any order.
+/// Errors of requests are equal exactly where they are of one sort and their names have one text. Those of
+/// new fields are where their sorts and texts are the same, and their types are equal as `==` of types says:
+/// without locations and origins, and what stands under names in any order.
 pub fn equality_of_errors<'a>()
     ensures request_error { ComparesBy ⟦<RequestError<'a> as PartialEq>⟧.eq bare_request_error }
     ensures new_field_error { ComparesBy ⟦<NewFieldError<'a> as PartialEq>⟧.eq bare_new_field_error }

@@ -1,7 +1,8 @@
 //! Executable documents as typed trees: GraphQL specification of October 2021, section 2.
 //!
-//! A typed document is plain data, like the syntax tree: its fields are public, cloning it shares its nodes, and comparing
-//! it leaves locations out. Each selection set knows the type that it selects from, each field its definition.
+//! A typed document is plain data, like the syntax tree: its fields are public, cloning it shares its nodes,
+//! and comparing it leaves locations out. Each selection set knows the type that it selects from, each field
+//! its definition.
 //!
 //! Proved: walks field by field; which queries are introspection; the operation that a request names; typed
 //! values as syntax.

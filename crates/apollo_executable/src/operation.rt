@@ -1,6 +1,7 @@
 //! Operations and named fragments: GraphQL specification of October 2021, sections 2.3 and 2.8.
 ghost use Rattle.std.specs.Prelude.{◌≡◌, ◌↔◌, IsTrue};
-ghost use Rattle.graphql_nodes.specs.declared.operation_type.OperationType.TheVariants.{Query, Mutation, Subscription};
+ghost use Rattle.graphql_nodes.specs.declared.operation_type.OperationType.TheVariants.{Query, Mutation};
+ghost use Rattle.graphql_nodes.specs.declared.operation_type.OperationType.TheVariants.{Subscription};
 
 use crate::selection::SelectionSet;
 use graphql_ast::directive::DirectiveList;

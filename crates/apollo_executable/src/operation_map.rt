@@ -1,5 +1,6 @@
 //! The operations of a document: GraphQL specification of October 2021, sections 2.3 and 6.1.
-ghost use Rattle.std.specs.Prelude.{◌≡◌, ◌==◌, None, Some, length, IfOk, IfErr, OnOk, OnErr, IsSome, option_map};
+ghost use Rattle.std.specs.Prelude.{◌≡◌, ◌==◌, None, Some, length, IfOk, IfErr, OnOk, OnErr, IsSome};
+ghost use Rattle.std.specs.Prelude.{option_map};
 ghost use Rattle.std.specs.Borrow.{sem};
 ghost use Rattle.std.specs.Option.{option_copied, option_copied_mut};
 ghost use Rattle.apollo_executable.specs.Requests.{request_error};
@@ -13,10 +14,11 @@ use graphql_nodes::name::Name;
 use graphql_nodes::node::Node;
 use std::alloc::Global;
 
-/// The anonymous operation of a document, if there is one, and its named operations under their names, in order.
+/// The anonymous operation of a document, if there is one, and its named operations under their names, in
+/// order.
 ///
-/// Maps are equal where their anonymous operations are, and those under each name, in any order. A clone is the original, with
-/// locations; its error is out of memory.
+/// Maps are equal where their anonymous operations are, and those under each name, in any order. A clone is
+/// the original, with locations; its error is out of memory.
 #[derive(Debug, PartialEq, Eq, Clone)]
 pub struct OperationMap {
     pub anonymous: Option<Node<Operation>>,
@@ -43,7 +45,8 @@ fn refusal<'n>(name: Option<&'n Name>) -> RequestError<'n>
 }
 
 impl OperationMap {
-    ghost use Rattle.apollo_executable.specs.Operations.{all_operations, OperationsInOrder, no_operations, operation_called, with_operation, the_only};
+    ghost use Rattle.apollo_executable.specs.Operations.{all_operations, OperationsInOrder, no_operations};
+    ghost use Rattle.apollo_executable.specs.Operations.{operation_called, with_operation, the_only};
     ghost use Rattle.apollo_executable.specs.Requests.{requested, IsRefusal};
     ghost use Rattle.apollo_executable.specs.OperationLending.{LendsOperation, LendsNode};
 
@@ -54,7 +57,8 @@ impl OperationMap {
         OperationMap::with_keys(alloc, HashKeys::FIXED)
     }
 
-    /// No operation, in a map that hashes by these keys: those of a schema, for a document from strangers. It takes no memory.
+    /// No operation, in a map that hashes by these keys: those of a schema, for a document from strangers. It
+    /// takes no memory.
     pub fn with_keys(alloc: Global, keys: HashKeys) -> OperationMap
         ensures { result ≡ no_operations }
     {
@@ -64,8 +68,8 @@ impl OperationMap {
         }
     }
 
-    /// One operation, under its name if it has one, in a map that hashes by fixed keys. When memory runs out, which an anonymous
-    /// operation doesn't meet, the error is the operation.
+    /// One operation, under its name if it has one, in a map that hashes by fixed keys. When memory runs out,
+    /// which an anonymous operation doesn't meet, the error is the operation.
     pub fn from_one(
         alloc: Global,
         operation: Node<Operation>,
@@ -104,10 +108,12 @@ impl OperationMap {
         Operations::new(self)
     }
 
-    /// The operation that a request asks for (section 6.1): the one of the name, or without a name the only one of the document.
+    /// The operation that a request asks for (section 6.1): the one of the name, or without a name the only
+    /// one of the document.
     ///
     /// [`RequestError::NoSuchOperation`] says that there is none of the name; without a name the error is
-    /// [`RequestError::Ambiguous`], for no operation too. It takes no memory, so [`RequestError::Memory`] doesn't come.
+    /// [`RequestError::Ambiguous`], for no operation too. It takes no memory, so [`RequestError::Memory`]
+    /// doesn't come.
     pub fn get<'n>(&self, name: Option<&'n Name>) -> Result<&Node<Operation>, RequestError<'n>>
         ensures found { IfOk result (λ operation. requested self.now (option_copied name.entry)
             ≡ Some operation.now) }
@@ -140,11 +146,13 @@ impl OperationMap {
         self.iter().next()
     }
 
-    /// The operation that a request asks for, to write to, as [`get`](OperationMap::get) finds it. When the loan ends, it is what
-    /// was written: its location, its place in the map and the key that it stands under stay, and so do all other operations.
+    /// The operation that a request asks for, to write to, as [`get`](OperationMap::get) finds it. When the
+    /// loan ends, it is what was written: its location, its place in the map and the key that it stands under
+    /// stay, and so do all other operations.
     ///
-    /// An operation that is shared is copied first: [`RequestError::Memory`] is out of memory for that, and comes only where
-    /// `get` finds an operation. The other errors are those of `get`. After any error the map is as it was.
+    /// An operation that is shared is copied first: [`RequestError::Memory`] is out of memory for that, and
+    /// comes only where `get` finds an operation. The other errors are those of `get`. After any error the
+    /// map is as it was.
     pub fn get_mut<'n>(
         &mut self,
         name: Option<&'n Name>,
@@ -186,10 +194,12 @@ impl OperationMap {
         self.named.get_index_mut(0)
     }
 
-    /// Puts the operation under its name, or makes it the anonymous one if it has none. Answers the operation that stood there,
-    /// if one did. Under a name that is there it has that one's place, and under a new one it goes last.
+    /// Puts the operation under its name, or makes it the anonymous one if it has none. Answers the operation
+    /// that stood there, if one did. Under a name that is there it has that one's place, and under a new one
+    /// it goes last.
     ///
-    /// The error is out of memory: it is the operation, and the map is as it was. An anonymous operation takes no memory.
+    /// The error is out of memory: it is the operation, and the map is as it was. An anonymous operation
+    /// takes no memory.
     pub fn insert(
         &mut self,
         operation: Node<Operation>,

@@ -14,8 +14,8 @@ use indexmap::map::Values;
 use std::iter::FusedIterator;
 use std::marker::Model;
 
-/// The operations of a document: the anonymous one, if there is one, and then the named ones. Contracts see the list of those
-/// that are still to come.
+/// The operations of a document: the anonymous one, if there is one, and then the named ones. Contracts see
+/// the list of those that are still to come.
 #[derive(Drop)]
 pub struct Operations<'a> {
     anonymous: Option<&'a Node<Operation>>,
@@ -59,7 +59,8 @@ impl<'a> Iterator for Operations<'a> {
 
     ghost remaining = { λ left. at_most (length left) };
 
-    /// The first operation that is left, after which the rest is left. Once none is left it answers none, from then on too.
+    /// The first operation that is left, after which the rest is left. Once none is left it answers none,
+    /// from then on too.
     fn next(&mut self) -> Option<&'a Node<Operation>> {
         match self.anonymous.take() {
             Some(operation) => Some(operation),

@@ -4,8 +4,8 @@
 //! from, and a field its definition in the schema. All fields are public: any value may be made, whether a
 //! schema has such types and fields or not.
 //!
-//! Equality leaves out locations; definitions of fields and types of sets count. A clone is the original, with locations, and
-//! its error is out of memory.
+//! Equality leaves out locations; definitions of fields and types of sets count. A clone is the original,
+//! with locations, and its error is out of memory.
 ghost use Rattle.std.specs.Prelude.{◌≡◌};
 
 use graphql_ast::directive::{Argument, DirectiveList};

@@ -1,7 +1,8 @@
 //! Selections by their kinds: GraphQL specification of October 2021, section 2.4.
 ghost use Rattle.std.specs.Prelude.{◌≡◌, None, IfOk};
 ghost use Rattle.std.specs.Option.{option_copied};
-ghost use Rattle.apollo_executable.specs.SelectionParts.{as_field, as_fragment_spread, as_inline_fragment, directives_of};
+ghost use Rattle.apollo_executable.specs.SelectionParts.{as_field, as_fragment_spread, as_inline_fragment};
+ghost use Rattle.apollo_executable.specs.SelectionParts.{directives_of};
 ghost use Rattle.apollo_executable.specs.declared.selection.Selection as selections;
 
 use crate::selection::{Field, FragmentSpread, InlineFragment, Selection};
@@ -18,7 +19,8 @@ impl Selection {
         Ok(Selection::Field(Node::new(alloc, field)?))
     }
 
-    /// A selection of this inline fragment, without a location. The error is out of memory, and drops the fragment.
+    /// A selection of this inline fragment, without a location. The error is out of memory, and drops the
+    /// fragment.
     pub fn of_inline_fragment(
         alloc: Global,
         inline_fragment: InlineFragment,

@@ -1,6 +1,8 @@
 //! Selection sets: GraphQL specification of October 2021, section 2.4.
-ghost use Rattle.std.specs.Prelude.{◌≡◌, ◌==◌, [], ◌∷◌, ◌++◌, length, Some, IfOk, IfErr, OnOk, OnErr, filter_map};
-ghost use Rattle.apollo_executable.specs.NewSelections.{empty_set, new_field, new_inline_fragment, IsNewField, IsNewFieldRefusal};
+ghost use Rattle.std.specs.Prelude.{◌≡◌, ◌==◌, [], ◌∷◌, ◌++◌, length, Some, IfOk, IfErr, OnOk, OnErr};
+ghost use Rattle.std.specs.Prelude.{filter_map};
+ghost use Rattle.apollo_executable.specs.NewSelections.{empty_set, new_field, new_inline_fragment};
+ghost use Rattle.apollo_executable.specs.NewSelections.{IsNewField, IsNewFieldRefusal};
 ghost use Rattle.apollo_executable.specs.SelectionParts.{as_field, FieldsInOrder};
 
 use crate::fields::Fields;
@@ -29,7 +31,8 @@ impl SelectionSet {
         self.selections.is_empty()
     }
 
-    /// Adds a selection at the end. The error is out of memory: the set is as it was, and the selection is dropped.
+    /// Adds a selection at the end. The error is out of memory: the set is as it was, and the selection is
+    /// dropped.
     pub fn push(&mut self, selection: Selection) -> Result<(), AllocError>
         ensures ok { OnOk result (self.new
             ≡ record self.old { selections = self.old.selections ++ selection ∷ [] }) }
@@ -38,8 +41,8 @@ impl SelectionSet {
         self.selections.push(selection)
     }
 
-    /// Adds the selections at the end, in order. The error is out of memory: the set is as it was, and the selections are
-    /// dropped.
+    /// Adds the selections at the end, in order. The error is out of memory: the set is as it was, and the
+    /// selections are dropped.
     pub fn extend(&mut self, selections: Vec<Selection>) -> Result<(), AllocError>
         ensures ok { OnOk result (self.new
             ≡ record self.old { selections = self.old.selections ++ selections.items }) }
@@ -52,8 +55,9 @@ impl SelectionSet {
     /// the schema's [`type_field`](Schema::type_field) gives in the type of this set. Its own set selects
     /// from the type which that definition names, inside all lists.
     ///
-    /// [`NewFieldError::Lookup`] says that the schema has no such type, or the type no such field; [`NewFieldError::Memory`] is
-    /// out of memory, and comes only where the type has the field. Either drops the name.
+    /// [`NewFieldError::Lookup`] says that the schema has no such type, or the type no such field;
+    /// [`NewFieldError::Memory`] is out of memory, and comes only where the type has the field. Either drops
+    /// the name.
     pub fn new_field<'schema>(
         &self,
         alloc: Global,
@@ -68,8 +72,9 @@ impl SelectionSet {
         Ok(field)
     }
 
-    /// An inline fragment, to be added with [`push`](SelectionSet::push). Its set selects from the type of its condition, or
-    /// without one from that of this set. The error is out of memory, and drops the condition.
+    /// An inline fragment, to be added with [`push`](SelectionSet::push). Its set selects from the type of
+    /// its condition, or without one from that of this set. The error is out of memory, and drops the
+    /// condition.
     pub fn new_inline_fragment(
         &self,
         alloc: Global,
@@ -83,8 +88,8 @@ impl SelectionSet {
         }
     }
 
-    /// A spread of the fragment of this name, without directives, to be added with [`push`](SelectionSet::push). It takes no
-    /// memory.
+    /// A spread of the fragment of this name, without directives, to be added with
+    /// [`push`](SelectionSet::push). It takes no memory.
     pub fn new_fragment_spread(&self, alloc: Global, fragment_name: Name) -> FragmentSpread
         ensures { result ≡ record { fragment_name = fragment_name; directives = record { 0 = [] } } }
     {

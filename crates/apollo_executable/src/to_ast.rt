@@ -1,10 +1,12 @@
 //! Typed documents as syntax: GraphQL specification of October 2021, sections 2.2 to 2.8.
 //!
-//! The definitions of fields and the types of sets are left out, but the condition of a named fragment is the type of its
-//! set. All else stays, with every location.
+//! The definitions of fields and the types of sets are left out, but the condition of a named fragment is the
+//! type of its set. All else stays, with every location.
 ghost use Rattle.std.specs.Prelude.{◌≡◌, ◌≢◌, [], IfOk, OnErr};
 ghost use Rattle.graphql_ast.specs.declared.definition.Definition.TheVariants as definitions;
-ghost use Rattle.apollo_executable.specs.Erasure.{erased, erased_field, erased_inline_fragment, erased_spread, erased_set, erased_operation, erased_fragment, erased_definitions, erased_document};
+ghost use Rattle.apollo_executable.specs.Erasure.{erased, erased_field, erased_inline_fragment};
+ghost use Rattle.apollo_executable.specs.Erasure.{erased_spread, erased_set, erased_operation};
+ghost use Rattle.apollo_executable.specs.Erasure.{erased_fragment, erased_definitions, erased_document};
 
 use crate::document::ExecutableDocument;
 use crate::operation::{Fragment, Operation};
@@ -20,7 +22,8 @@ use graphql_nodes::source::SourceSpan;
 use std::alloc::{AllocError, Global};
 
 impl SelectionSet {
-    /// The selections as syntax, in order. The error is out of memory, which a set without selections doesn't meet.
+    /// The selections as syntax, in order. The error is out of memory, which a set without selections doesn't
+    /// meet.
     #[cycle(to_ast)]
     #[tactic(auto, using(crate::proofs::Erasing::set_erases))]
     pub fn to_ast(&self, alloc: Global) -> Result<Vec<ast::Selection>, AllocError>
@@ -153,8 +156,8 @@ impl Operation {
 }
 
 impl Fragment {
-    /// The fragment as a definition at this location, if one is given. Its condition is the type of its set. The error is out
-    /// of memory.
+    /// The fragment as a definition at this location, if one is given. Its condition is the type of its set.
+    /// The error is out of memory.
     pub fn to_ast(
         &self,
         alloc: Global,
@@ -176,9 +179,9 @@ impl Fragment {
 }
 
 impl ExecutableDocument {
-    /// The document as syntax, without its sources: the anonymous operation, the named operations and the fragments, in
-    /// order, each at the location of its node. The error is out of memory, which a document without operations and fragments
-    /// doesn't meet.
+    /// The document as syntax, without its sources: the anonymous operation, the named operations and the
+    /// fragments, in order, each at the location of its node. The error is out of memory, which a document
+    /// without operations and fragments doesn't meet.
     pub fn to_ast(&self, alloc: Global) -> Result<Document, AllocError>
         ensures written { IfOk result (λ written. written ≡ erased_document self.now) }
         ensures memory { OnErr result (erased_definitions self.now ≢ []) }

@@ -1,5 +1,5 @@
-//! Walks over the fields of a selection set, through inline fragments and named fragments: GraphQL specification of October
-//! 2021, sections 2.8 and 6.3.2.
+//! Walks over the fields of a selection set, through inline fragments and named fragments: GraphQL
+//! specification of October 2021, sections 2.8 and 6.3.2.
 //!
 //! A walk opens each fragment at the first spread of its name. It passes over spreads of names that are
 //! opened or that no fragment has. So it ends on documents whose fragments lead to one another, and gives

@@ -1,9 +1,10 @@
--- What declarations say of types and of the schema: GraphQL specification of October 2021, sections 3, 3.3, 3.4,
--- and 3.5 to 3.10.
+-- What declarations say of types and of the schema: GraphQL specification of October 2021, sections 3, 3.3,
+-- 3.4, and 3.5 to 3.10.
 use Rattle.std.specs.Prelude.{Bool, if◌then◌else◌}
 use Rattle.graphql_nodes.specs.declared.type_kind.TypeKind.{TypeKind}
 use Rattle.graphql_nodes.specs.declared.type_kind.TypeKind.TheVariants as k
-use Rattle.graphql_ast.specs.Declarations.{Declaration, OfType, OfSchema, OfDirective, OfOperation, OfFragment}
+use Rattle.graphql_ast.specs.Declarations.{Declaration, OfType, OfSchema, OfDirective, OfOperation}
+use Rattle.graphql_ast.specs.Declarations.{OfFragment}
 use Rattle.graphql_ast.specs.DeclarationsSeen.{type_seen, declaration_seen}
 use Rattle.graphql_ast.specs.Parts.{directive_list}
 use Rattle.graphql_ast.specs.declared.declaration.SchemaDeclaration.{SchemaDeclaration}
@@ -12,8 +13,10 @@ use Rattle.graphql_ast.specs.declared.declaration_ref.DeclarationRef.{Declaratio
 use Rattle.graphql_ast.specs.declared.declaration_ref.TypeDeclarationRef.{TypeDeclarationRef}
 use Rattle.graphql_ast.specs.declared.definition.Definition.TheVariants as ast
 use Rattle.graphql_ast.specs.declared.parts.Parts.{Parts}
-use Rattle.apollo_meaning.specs.Items.Parts.{TypeBody, TypePart, SchemaPart, part_at, ScalarBody, ObjectBody, InterfaceBody, UnionBody, EnumBody, InputObjectBody}
-use Rattle.apollo_meaning.specs.Items.ListItems.{ListItem, Defined, Extended, SchemaDefined, SchemaExtended, Other}
+use Rattle.apollo_meaning.specs.Items.Parts.{TypeBody, TypePart, SchemaPart, part_at, ScalarBody, ObjectBody}
+use Rattle.apollo_meaning.specs.Items.Parts.{InterfaceBody, UnionBody, EnumBody, InputObjectBody}
+use Rattle.apollo_meaning.specs.Items.ListItems.{ListItem, Defined, Extended, SchemaDefined, SchemaExtended}
+use Rattle.apollo_meaning.specs.Items.ListItems.{Other}
 
 -- what declarations of types of this kind hold besides directives
 abbrev pub body_of : TypeKind → Parts → TypeBody

@@ -24,11 +24,15 @@ abbrev pub with_numbers : ExtensionSource → List TypePart → List Sourced
 with_numbers ids es = map extension_part (numbered (next_number ids) es)
 
 -- what was made of some parts is made of these as well
-abbrev pub Joins : {P T : Type 0} → (P → List (ComponentOrigin × P) → T) → T → (P → List (ComponentOrigin × P)) → T → Type 0
-Joins {P} made old more new = (head : P) (done : List (ComponentOrigin × P)) → old ≡ made head done → new ≡ made head (done ++ more head)
+abbrev pub Joins : {P T : Type 0} → (P → List (ComponentOrigin × P) → T) → T
+    → (P → List (ComponentOrigin × P)) → T → Type 0
+Joins {P} made old more new = (head : P) (done : List (ComponentOrigin × P)) → old ≡ made head done
+    → new ≡ made head (done ++ more head)
 
--- a schema definition that was made of some parts is made of one as well that has these directives and these roots
-abbrev pub JoinsSchemaPart : SchemaDefinition → ComponentOrigin → List (NodeView Directive) → List Root → SchemaDefinition → Type 0
+-- a schema definition that was made of some parts is made of one as well that has these directives and these
+-- roots
+abbrev pub JoinsSchemaPart : SchemaDefinition → ComponentOrigin → List (NodeView Directive) → List Root
+    → SchemaDefinition → Type 0
 JoinsSchemaPart old origin directives roots new = (head part : SchemaPart) (done : List SourcedSchema)
     → part.directives ≡ directives → part.roots ≡ roots
     → old ≡ schema_definition_of head done → new ≡ schema_definition_of head (done ++ (origin, part) ∷ [])
@@ -36,19 +40,23 @@ JoinsSchemaPart old origin directives roots new = (head part : SchemaPart) (done
 -- to the faults are added those of a part that has these roots, found with the parts of the schema definition
 abbrev pub FindsRoots : SchemaDefinition → List Root → List Fault → List Fault → Type 0
 FindsRoots old roots before after = (head part : SchemaPart) (done : List SourcedSchema)
-    → part.roots ≡ roots → old ≡ schema_definition_of head done → after ≡ before ++ schema_faults (map (λ s. s.1) done) part
+    → part.roots ≡ roots → old ≡ schema_definition_of head done
+    → after ≡ before ++ schema_faults (map (λ s. s.1) done) part
 
 -- to the faults are added those that are found with the parts that something was made of
-abbrev pub Finds : {P T : Type 0} → (P → List (ComponentOrigin × P) → T) → T → (P → List P → List Fault) → List Fault → List Fault → Type 0
+abbrev pub Finds : {P T : Type 0} → (P → List (ComponentOrigin × P) → T) → T → (P → List P → List Fault)
+    → List Fault → List Fault → Type 0
 Finds {P} made old faults before after = (head : P) (done : List (ComponentOrigin × P))
     → old ≡ made head done → after ≡ before ++ faults head (map (λ s. s.1) done)
 
 -- what was made of some parts is made of one more as well
-abbrev pub JoinsOne : {T : Type 0} → (TypePart → List Sourced → T) → T → ComponentOrigin → TypePart → T → Type 0
+abbrev pub JoinsOne : {T : Type 0} → (TypePart → List Sourced → T) → T → ComponentOrigin → TypePart → T
+    → Type 0
 JoinsOne made old origin part new = Joins made old (λ _. (origin, part) ∷ []) new
 
 -- to the faults are added those of the components that this part drops
-abbrev pub FindsOne : {T : Type 0} → (TypePart → List Sourced → T) → T → TypePart → List Fault → List Fault → Type 0
+abbrev pub FindsOne : {T : Type 0} → (TypePart → List Sourced → T) → T → TypePart → List Fault → List Fault
+    → Type 0
 FindsOne made old part before after = Finds made old (λ _ parts. part_faults parts part) before after
 
 -- a type that was made of some parts is made as well of those of these extensions that have its kind
@@ -61,14 +69,16 @@ how_many kind es = length (of_kind kind es)
 
 -- to the faults are added those of these extensions, where they join the type one after another
 abbrev pub FindsJoining : ExtendedType → List TypePart → List Fault → List Fault → Type 0
-FindsJoining old es before after = Finds type_from old (λ head parts. joining_faults head parts es) before after
+FindsJoining old es before after =
+    Finds type_from old (λ head parts. joining_faults head parts es) before after
 
 -- what was made of a list is made of it with these at its end
 abbrev pub Lengthens : {X T : Type 0} → (List X → T) → T → List X → T → Type 0
 Lengthens {X} made old more new = (xs : List X) → old ≡ made xs → new ≡ made (xs ++ more)
 
 -- to the faults are added those that are found with the list that something was made of
-abbrev pub FindsIn : {X T : Type 0} → (List X → T) → T → (List X → List Fault) → List Fault → List Fault → Type 0
+abbrev pub FindsIn : {X T : Type 0} → (List X → T) → T → (List X → List Fault) → List Fault → List Fault
+    → Type 0
 FindsIn {X} made old faults before after = (xs : List X) → old ≡ made xs → after ≡ before ++ faults xs
 
 -- P of the first definition of a name, where this type was made by it

@@ -1,19 +1,25 @@
--- The type that parts make, by the kind of their head: GraphQL specification of October 2021, sections 3.4.3, and 3.5 to 3.10.
+-- The type that parts make, by the kind of their head: GraphQL specification of October 2021, sections 3.4.3,
+-- and 3.5 to 3.10.
 use Rattle.std.specs.Prelude.{◌≡◌, List, refl}
 use Rattle.std.proofs.Common.{sym, subst}
 use Rattle.graphql_nodes.specs.NodeView.{NodeView}
 use Rattle.apollo_types.specs.declared.extended_type.ExtendedType.{ExtendedType}
-use Rattle.apollo_types.specs.declared.extended_type.ExtendedType.TheVariants.{Scalar, Object, Interface, Union, Enum, InputObject}
-use Rattle.apollo_meaning.specs.Items.Parts.{TypePart, TypeBody, ScalarBody, ObjectBody, InterfaceBody, UnionBody, EnumBody, InputObjectBody}
+use Rattle.apollo_types.specs.declared.extended_type.ExtendedType.TheVariants.{Scalar, Object, Interface}
+use Rattle.apollo_types.specs.declared.extended_type.ExtendedType.TheVariants.{Union, Enum, InputObject}
+use Rattle.apollo_meaning.specs.Items.Parts.{TypePart, TypeBody, ScalarBody, ObjectBody, InterfaceBody}
+use Rattle.apollo_meaning.specs.Items.Parts.{UnionBody, EnumBody, InputObjectBody}
 use Rattle.apollo_meaning.specs.Types.Components.{Sourced}
-use Rattle.apollo_meaning.specs.Types.Meaning.{scalar_of, object_of, interface_of, union_of, enum_of, input_object_of, type_of_kind, type_from}
+use Rattle.apollo_meaning.specs.Types.Meaning.{scalar_of, object_of, interface_of, union_of, enum_of}
+use Rattle.apollo_meaning.specs.Types.Meaning.{input_object_of, type_of_kind, type_from}
 
 -- a node of one kind is what parts make, and others make such a node as well
-pub record IsOf {T : Type 0} (make : NodeView T → ExtendedType) (of : TypePart → List Sourced → T) (b : TypeBody) (head : TypePart) (done : List Sourced) (n : NodeView T) : Type 0 where
+pub record IsOf {T : Type 0} (make : NodeView T → ExtendedType) (of : TypePart → List Sourced
+    → T) (b : TypeBody) (head : TypePart) (done : List Sourced) (n : NodeView T) : Type 0 where
   -- the node has the value that the parts make, and the location of their head
   pub node : n ≡ record { value = of head done; location = head.location }
   -- with any other parts the head makes a node of the same kind
-  pub more : (parts : List Sourced) → type_of_kind b head parts ≡ make (record { value = of head parts; location = head.location })
+  pub more : (parts : List Sourced)
+      → type_of_kind b head parts ≡ make (record { value = of head parts; location = head.location })
 
 -- a type is what parts make, by its kind
 abbrev pub IsOfParts : TypeBody → TypePart → List Sourced → ExtendedType → Type 0
@@ -25,7 +31,8 @@ IsOfParts b head done (Enum n) = IsOf Enum enum_of b head done n
 IsOfParts b head done (InputObject n) = IsOf InputObject input_object_of b head done n
 
 -- what parts make is of the kind of their head
-of_parts : (b : TypeBody) (head : TypePart) (done : List Sourced) → IsOfParts b head done (type_of_kind b head done)
+of_parts : (b : TypeBody) (head : TypePart) (done : List Sourced)
+    → IsOfParts b head done (type_of_kind b head done)
 of_parts ScalarBody head done = record { node = refl; more = λ parts. refl }
 of_parts (ObjectBody interfaces fields) head done = record { node = refl; more = λ parts. refl }
 of_parts (InterfaceBody interfaces fields) head done = record { node = refl; more = λ parts. refl }
@@ -34,5 +41,6 @@ of_parts (EnumBody values) head done = record { node = refl; more = λ parts. re
 of_parts (InputObjectBody fields) head done = record { node = refl; more = λ parts. refl }
 
 -- so is a type that is what they make: each `impl` takes its case
-pub made_of : (head : TypePart) (done : List Sourced) (t : ExtendedType) → t ≡ type_from head done → IsOfParts head.body head done t
+pub made_of : (head : TypePart) (done : List Sourced) (t : ExtendedType) → t ≡ type_from head done
+    → IsOfParts head.body head done t
 made_of head done t h = subst (IsOfParts head.body head done) (sym h) (of_parts head.body head done)

@@ -5,7 +5,8 @@ use Rattle.std.specs.List.{find}
 use Rattle.std.specs.Option.{option_map, option_map_or, option_or}
 use Rattle.graphql_nodes.specs.OperationTexts.{operation_text}
 use Rattle.graphql_nodes.specs.declared.operation_type.OperationType.{OperationType}
-use Rattle.graphql_nodes.specs.declared.operation_type.OperationType.TheVariants.{Query, Mutation, Subscription}
+use Rattle.graphql_nodes.specs.declared.operation_type.OperationType.TheVariants.{Query, Mutation}
+use Rattle.graphql_nodes.specs.declared.operation_type.OperationType.TheVariants.{Subscription}
 use Rattle.apollo_component.specs.EachAfter.{each_after}
 use Rattle.apollo_component.specs.declared.component.ComponentName.{ComponentName}
 use Rattle.apollo_component.specs.declared.extension.ComponentOrigin.{ComponentOrigin}
@@ -46,7 +47,8 @@ put_root Subscription c d = record d { subscription = option_or d.subscription (
 
 -- a root that is dropped for this one
 abbrev pub dropped_root : Root → ComponentName → Fault
-dropped_root r kept = (r.location, errors.DuplicateRootOperation kept.name.location (operation_text r.value.0))
+dropped_root r kept =
+    (r.location, errors.DuplicateRootOperation kept.name.location (operation_text r.value.0))
 
 -- the fault of a root where its operation has this one
 abbrev pub held_fault : Option ComponentName → Root → List Fault
@@ -54,4 +56,5 @@ held_fault held r = option_map_or (λ kept. dropped_root r kept ∷ []) held []
 
 -- the faults of roots of an origin with these before them, in order
 abbrev pub held_faults : List NamedRoot → ComponentOrigin → List Root → List Fault
-held_faults rs o = each_after (λ done x. held_fault (first_named x.value.0 (rs ++ map (root_with_origin o) done)) x) []
+held_faults rs o =
+    each_after (λ done x. held_fault (first_named x.value.0 (rs ++ map (root_with_origin o) done)) x) []

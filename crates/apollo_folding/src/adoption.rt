@@ -1,9 +1,10 @@
-//! What a build completes a list with: types that are extended only, where they are adopted, and the definition of the
-//! schema that is implied. GraphQL specification of October 2021, sections 3.3.1 and 3.4.3.
+//! What a build completes a list with: types that are extended only, where they are adopted, and the
+//! definition of the schema that is implied. GraphQL specification of October 2021, sections 3.3.1 and 3.4.3.
 ghost use Rattle.std.specs.Prelude.{◌≡◌, ◌==◌, ◌&&◌, if◌then◌else◌, [], ◌++◌, length, map, not, IfOk, OnOk};
 ghost use Rattle.std.specs.List.{flat_map, list_any};
 ghost use Rattle.graphql_nodes.specs.Tables.{values_of};
-ghost use Rattle.apollo_meaning.specs.Items.ListItems.{schema_item, Defined, item_of, items_of, extended_parts};
+ghost use Rattle.apollo_meaning.specs.Items.ListItems.{schema_item, Defined, item_of, items_of};
+ghost use Rattle.apollo_meaning.specs.Items.ListItems.{extended_parts};
 ghost use Rattle.apollo_meaning.specs.Items.Parts.{schema_extension_part, roots_in};
 ghost use Rattle.apollo_meaning.specs.Completion.Adoption.{adopted_part, adopted_by};
 ghost use Rattle.apollo_meaning.specs.Completion.ImpliedSchema.{schema_for};
@@ -26,7 +27,8 @@ use graphql_nodes::node::Node;
 use graphql_nodes::operation_type::OperationType;
 use std::alloc::{AllocError, Global};
 
-/// The empty definition of the kind of an extension, with its name and at its location. The error is out of memory.
+/// The empty definition of the kind of an extension, with its name and at its location. The error is out of
+/// memory.
 fn empty_definition(
     alloc: Global,
     extension: &TypeDeclarationRef<'_>,
@@ -50,7 +52,8 @@ fn adopt_first(
     extensions: &[Definition],
     adopted: &mut Items<Definition>,
 ) -> Result<(), AllocError>
-    ensures { OnOk result (items_of adopted.new ≡ items_of adopted.old ++ adopted_by (extended_parts extensions.now)) }
+    ensures { OnOk result (items_of adopted.new
+        ≡ items_of adopted.old ++ adopted_by (extended_parts extensions.now)) }
 {
     for definition in extensions {
         if let Some(extension) = extension_of(definition) {
@@ -61,13 +64,14 @@ fn adopt_first(
     Ok(())
 }
 
-/// The empty definitions of the names under which extensions wait, in order: of the kind of the first of these, with its name and
-/// at its location (section 3.4.3). The error is out of memory.
+/// The empty definitions of the names under which extensions wait, in order: of the kind of the first of
+/// these, with its name and at its location (section 3.4.3). The error is out of memory.
 pub fn adopted_definitions(
     alloc: Global,
     waiting: &Table<Name, Items<Definition>>,
 ) -> Result<Items<Definition>, AllocError>
-    ensures { IfOk result (λ adopted. items_of adopted ≡ flat_map (λ held. adopted_by (extended_parts held)) (values_of waiting.now)) }
+    ensures { IfOk result (λ adopted. items_of adopted
+        ≡ flat_map (λ held. adopted_by (extended_parts held)) (values_of waiting.now)) }
 {
     let mut adopted = Items::new(alloc);
     for extensions in waiting.values() {
@@ -118,15 +122,17 @@ fn names_root(extensions: &[Node<SchemaExtension>]) -> bool
     false
 }
 
-/// The roots of the schema definition that is implied: the implicit ones, unless these extensions are adopted and name a
-/// root.
+/// The roots of the schema definition that is implied: the implicit ones, unless these extensions are adopted
+/// and name a root.
 fn implied_roots(
     alloc: Global,
     extensions: &[Node<SchemaExtension>],
     types: &Table<NamedType, ExtendedType>,
     adopts: bool,
 ) -> Result<Items<Node<(OperationType, NamedType)>>, AllocError>
-    ensures { IfOk result (λ roots. roots ≡ (if adopts && list_any (λ e. not (length e.value.root_operations == 0)) extensions.now then [] else held_roots types.now)) }
+    ensures { IfOk result (λ roots. roots
+        ≡ (if adopts && list_any (λ e. not (length e.value.root_operations == 0)) extensions.now then []
+        else held_roots types.now)) }
 {
     if adopts && names_root(extensions) {
         return Ok(Items::new(alloc));
@@ -135,19 +141,20 @@ fn implied_roots(
     Ok(roots)
 }
 
-/// The schema definition that is implied where none stands, for these extensions of the schema and these types, without a
-/// location. Its roots are the implicit ones: for query, mutation and subscription the default name, where that is an object
-/// type's (section 3.3.1).
+/// The schema definition that is implied where none stands, for these extensions of the schema and these
+/// types, without a location. Its roots are the implicit ones: for query, mutation and subscription the
+/// default name, where that is an object type's (section 3.3.1).
 ///
-/// With adoption there always is one, which has no root if an extension names one. Without adoption there is none if there is no
-/// implicit root. The error is out of memory.
+/// With adoption there always is one, which has no root if an extension names one. Without adoption there is
+/// none if there is no implicit root. The error is out of memory.
 pub fn implied_definition(
     alloc: Global,
     extensions: &[Node<SchemaExtension>],
     types: &Table<NamedType, ExtendedType>,
     adopts: bool,
 ) -> Result<Option<Node<ast::SchemaDefinition>>, AllocError>
-    ensures { IfOk result (λ implied. schema_item implied ≡ schema_for adopts (roots_in (map schema_extension_part extensions.now)) (held_roots types.now)) }
+    ensures { IfOk result (λ implied. schema_item implied
+        ≡ schema_for adopts (roots_in (map schema_extension_part extensions.now)) (held_roots types.now)) }
 {
     let root_operations = implied_roots(alloc, extensions, types, adopts)?;
     if !adopts && root_operations.is_empty() {

@@ -13,15 +13,18 @@ use std::alloc::AllocError;
 
 /// Takes a directive definition: GraphQL specification of October 2021, section 3.13.
 ///
-/// The first of a name goes last. One whose name has a built-in definition replaces that, in its place. A further one of a name
-/// that isn't built-in is dropped, and its fault added at the end. The error is out of memory.
+/// The first of a name goes last. One whose name has a built-in definition replaces that, in its place. A
+/// further one of a name that isn't built-in is dropped, and its fault added at the end. The error is out of
+/// memory.
 pub fn define_directive(
     table: &mut Table<Name, Node<DirectiveDefinition>>,
     node: &Node<DirectiveDefinition>,
     faults: &mut Items<Fault>,
 ) -> Result<(), AllocError>
-    ensures defined { OnOk result ((ds : Directives) → AreDirectivesOf ds table.old → AreDirectivesOf (ds ++ node.now ∷ []) table.new) }
-    ensures faults { OnOk result ((ds : Directives) → AreDirectivesOf ds table.old → faults.new ≡ faults.old ++ directive_faults ds node.now) }
+    ensures defined { OnOk result ((ds : Directives) → AreDirectivesOf ds table.old
+        → AreDirectivesOf (ds ++ node.now ∷ []) table.new) }
+    ensures faults { OnOk result ((ds : Directives) → AreDirectivesOf ds table.old
+        → faults.new ≡ faults.old ++ directive_faults ds node.now) }
 {
     let Some(previous) = table.get_mut(&node.name) else {
         table.insert(node.name.clone()?, node.clone()?)?;

@@ -44,7 +44,8 @@ fn type_from_ast(
     head: &TypeDeclarationRef<'_>,
     faults: &mut Items<Fault>,
 ) -> Result<ExtendedType, AllocError>
-    ensures made { IfOk result (λ ty. let d = part_seen head.now in ty ≡ type_from d ((origins.Definition, d) ∷ [])) }
+    ensures made { IfOk result (λ ty. let d = part_seen head.now in
+        ty ≡ type_from d ((origins.Definition, d) ∷ [])) }
     ensures faults { OnOk result (faults.new ≡ faults.old ++ part_faults [] (part_seen head.now)) }
 {
     match head.kind {
@@ -69,7 +70,8 @@ fn type_from_ast(
 
 /// The fault of an extension of another kind than the type.
 fn kind_mismatch(ty: &ExtendedType, part: &TypeDeclarationRef<'_>) -> Result<Fault, AllocError>
-    ensures { IfOk result (λ fault. (head : TypePart) (done : List Sourced) → ty.now ≡ type_from head done → fault ≡ kind_mismatch head (part_seen part.now)) }
+    ensures { IfOk result (λ fault. (head : TypePart) (done : List Sourced) → ty.now ≡ type_from head done
+        → fault ≡ kind_mismatch head (part_seen part.now)) }
 {
     let error = BuildError::TypeExtensionKindMismatch {
         name: part.name.clone()?,
@@ -80,10 +82,12 @@ fn kind_mismatch(ty: &ExtendedType, part: &TypeDeclarationRef<'_>) -> Result<Fau
     Ok((part.name.location(), error))
 }
 
-/// Folds an extension in under the source's next identity, if it has the type's kind (section 3.4.3): what is there already is
-/// left out, and its faults added at the end. One of another kind is a fault, and leaves the type and the source as they were.
+/// Folds an extension in under the source's next identity, if it has the type's kind (section 3.4.3): what is
+/// there already is left out, and its faults added at the end. One of another kind is a fault, and leaves the
+/// type and the source as they were.
 ///
-/// `Memory` is out of memory. `ExtensionIds` comes only where the extension has the type's kind, and the source no number left.
+/// `Memory` is out of memory. `ExtensionIds` comes only where the extension has the type's kind, and the
+/// source no number left.
 pub fn extend_type(
     ty: &mut ExtendedType,
     extension: &TypeDeclarationRef<'_>,
@@ -93,8 +97,10 @@ pub fn extend_type(
     ensures folded { OnOk result (Extends ty.old ids.old (part_seen extension.now ∷ []) ty.new) }
     ensures faults { OnOk result (FindsJoining ty.old (part_seen extension.now ∷ []) faults.old faults.new) }
     ensures kind { OnOk result (type_kind ty.new ≡ type_kind ty.old) }
-    ensures next { OnOk result (ids.new ≡ after ids.old (how_many (type_kind ty.old) (part_seen extension.now ∷ []))) }
-    ensures refused { IfErr result (λ error. RefusedAs error (SpentWith ids.old (how_many (type_kind ty.old) (part_seen extension.now ∷ [])))) }
+    ensures next { OnOk result (ids.new
+        ≡ after ids.old (how_many (type_kind ty.old) (part_seen extension.now ∷ []))) }
+    ensures refused { IfErr result (λ error.
+        RefusedAs error (SpentWith ids.old (how_many (type_kind ty.old) (part_seen extension.now ∷ [])))) }
 {
     match (&mut *ty, extension.kind) {
         (ExtendedType::Scalar(node), TypeKind::Scalar) => extend_node(node, extension, ids, faults),
@@ -122,10 +128,14 @@ fn extend_by(
     faults: &mut Items<Fault>,
 ) -> Result<(), BuilderError>
     ensures folded { OnOk result (Extends ty.old ids.old (extended_parts (definition.now ∷ [])) ty.new) }
-    ensures faults { OnOk result (FindsJoining ty.old (extended_parts (definition.now ∷ [])) faults.old faults.new) }
+    ensures faults { OnOk result
+        (FindsJoining ty.old (extended_parts (definition.now ∷ [])) faults.old faults.new) }
     ensures kind { OnOk result (type_kind ty.new ≡ type_kind ty.old) }
-    ensures next { OnOk result (ids.new ≡ after ids.old (how_many (type_kind ty.old) (extended_parts (definition.now ∷ [])))) }
-    ensures refused { IfErr result (λ error. RefusedAs error (SpentWith ids.old (how_many (type_kind ty.old) (extended_parts (definition.now ∷ []))))) }
+    ensures next { OnOk result (ids.new
+        ≡ after ids.old (how_many (type_kind ty.old) (extended_parts (definition.now ∷ [])))) }
+    ensures refused { IfErr result (λ error.
+        RefusedAs error
+        (SpentWith ids.old (how_many (type_kind ty.old) (extended_parts (definition.now ∷ []))))) }
 {
     match extension_of(definition) {
         Some(extension) => extend_type(ty, &extension, ids, faults),
@@ -142,8 +152,10 @@ fn extend_by_all(
 ) -> Result<(), BuilderError>
     ensures folded { OnOk result (Extends ty.old ids.old (extended_parts extensions.now) ty.new) }
     ensures faults { OnOk result (FindsJoining ty.old (extended_parts extensions.now) faults.old faults.new) }
-    ensures next { OnOk result (ids.new ≡ after ids.old (how_many (type_kind ty.old) (extended_parts extensions.now))) }
-    ensures refused { IfErr result (λ error. RefusedAs error (SpentWith ids.old (how_many (type_kind ty.old) (extended_parts extensions.now)))) }
+    ensures next { OnOk result (ids.new
+        ≡ after ids.old (how_many (type_kind ty.old) (extended_parts extensions.now))) }
+    ensures refused { IfErr result (λ error.
+        RefusedAs error (SpentWith ids.old (how_many (type_kind ty.old) (extended_parts extensions.now)))) }
 {
     for extension in extensions {
         extend_by(ty, extension, ids, faults)?;
@@ -151,11 +163,11 @@ fn extend_by_all(
     Ok(())
 }
 
-/// The type of a definition with these extensions folded in, in order, as [`extend_type`] does. Its tables hash by these keys.
-/// The faults of the definition are added at the end, and then those of the extensions.
+/// The type of a definition with these extensions folded in, in order, as [`extend_type`] does. Its tables
+/// hash by these keys. The faults of the definition are added at the end, and then those of the extensions.
 ///
-/// `Memory` is out of memory. `ExtensionIds` comes only where the source has fewer numbers left than there are extensions of the
-/// definition's kind.
+/// `Memory` is out of memory. `ExtensionIds` comes only where the source has fewer numbers left than there
+/// are extensions of the definition's kind.
 pub fn begin_type(
     alloc: Global,
     keys: HashKeys,
@@ -164,10 +176,19 @@ pub fn begin_type(
     ids: &mut ExtensionSource,
     faults: &mut Items<Fault>,
 ) -> Result<ExtendedType, BuilderError>
-    ensures made { IfOk result (λ ty. (b : Bool) → ty ≡ type_begun (next_number ids.old) (record (part_seen head.now) { ignorable = b }) (extended_parts extensions.now)) }
-    ensures faults { OnOk result ((b : Bool) → faults.new ≡ faults.old ++ type_begun_faults (record (part_seen head.now) { ignorable = b }) (extended_parts extensions.now)) }
-    ensures next { OnOk result (ids.new ≡ after ids.old (how_many (kind_of (part_seen head.now)) (extended_parts extensions.now))) }
-    ensures refused { IfErr result (λ error. RefusedAs error (SpentWith ids.old (how_many (kind_of (part_seen head.now)) (extended_parts extensions.now)))) }
+    ensures made { IfOk result (λ ty. (b : Bool)
+        → ty ≡ type_begun (next_number ids.old) (record (part_seen head.now) { ignorable = b })
+        (extended_parts extensions.now)) }
+    ensures faults { OnOk result ((b : Bool)
+        → faults.new
+        ≡ faults.old
+        ++ type_begun_faults (record (part_seen head.now) { ignorable = b })
+        (extended_parts extensions.now)) }
+    ensures next { OnOk result (ids.new
+        ≡ after ids.old (how_many (kind_of (part_seen head.now)) (extended_parts extensions.now))) }
+    ensures refused { IfErr result (λ error.
+        RefusedAs error
+        (SpentWith ids.old (how_many (kind_of (part_seen head.now)) (extended_parts extensions.now)))) }
 {
     let mut ty = type_from_ast(alloc, keys, head, faults)?;
     extend_by_all(&mut ty, extensions, ids, faults)?;

@@ -40,13 +40,14 @@ fn note_orphans_of(extensions: &[Definition], faults: &mut Items<Fault>) -> Resu
     Ok(())
 }
 
-/// Adds the fault of each extension of a type that still waits (section 3.4.3) at the end: name by name, and of one name in
-/// order. The error is out of memory.
+/// Adds the fault of each extension of a type that still waits (section 3.4.3) at the end: name by name, and
+/// of one name in order. The error is out of memory.
 pub fn note_orphans(
     waiting: &Table<Name, Items<Definition>>,
     faults: &mut Items<Fault>,
 ) -> Result<(), AllocError>
-    ensures { OnOk result (faults.new ≡ faults.old ++ map orphan (flat_map extended_parts (values_of waiting.now))) }
+    ensures { OnOk result (faults.new
+        ≡ faults.old ++ map orphan (flat_map extended_parts (values_of waiting.now))) }
 {
     for extensions in waiting.values() {
         note_orphans_of(extensions.as_slice(), faults)?;
@@ -54,13 +55,14 @@ pub fn note_orphans(
     Ok(())
 }
 
-/// Adds the fault of each of these extensions of a schema that has no definition (section 3.3.2) at the end, in order. The error
-/// is out of memory.
+/// Adds the fault of each of these extensions of a schema that has no definition (section 3.3.2) at the end,
+/// in order. The error is out of memory.
 pub fn note_schema_orphans(
     extensions: &[Node<SchemaExtension>],
     faults: &mut Items<Fault>,
 ) -> Result<(), AllocError>
-    ensures { OnOk result (faults.new ≡ faults.old ++ map schema_orphan (map schema_extension_part extensions.now)) }
+    ensures { OnOk result (faults.new
+        ≡ faults.old ++ map schema_orphan (map schema_extension_part extensions.now)) }
 {
     for extension in extensions {
         faults.push((extension.location(), BuildError::OrphanSchemaExtension))?;

@@ -2,7 +2,8 @@
 ghost use Rattle.apollo_folding.specs.Joins.{ForFirst};
 ghost use Rattle.std.specs.Prelude.{◌≡◌, ◌++◌, OnOk, IfOk};
 ghost use Rattle.apollo_folding.specs.DeclaredParts.{part_seen};
-ghost use Rattle.apollo_meaning.specs.Faults.TypeFaults.{redefinition, built_in_redefinition, further_definition};
+ghost use Rattle.apollo_meaning.specs.Faults.TypeFaults.{redefinition, built_in_redefinition};
+ghost use Rattle.apollo_meaning.specs.Faults.TypeFaults.{further_definition};
 
 use apollo_meaning::build_error::{BuildError, Fault};
 use apollo_types::extended_type::ExtendedType;
@@ -16,7 +17,8 @@ fn redefinition(
     previous: &ExtendedType,
     further: &TypeDeclarationRef<'_>,
 ) -> Result<Fault, AllocError>
-    ensures { IfOk result (λ fault. ForFirst previous.now (λ d. fault ≡ redefinition d (part_seen further.now))) }
+    ensures { IfOk result (λ fault.
+        ForFirst previous.now (λ d. fault ≡ redefinition d (part_seen further.now))) }
 {
     let error = BuildError::TypeDefinitionCollision {
         previous_location: previous.name().location(),
@@ -30,7 +32,8 @@ fn built_in_redefinition(
     previous: &ExtendedType,
     further: &TypeDeclarationRef<'_>,
 ) -> Result<Fault, AllocError>
-    ensures { IfOk result (λ fault. ForFirst previous.now (λ d. fault ≡ built_in_redefinition d (part_seen further.now))) }
+    ensures { IfOk result (λ fault.
+        ForFirst previous.now (λ d. fault ≡ built_in_redefinition d (part_seen further.now))) }
 {
     if further.kind == TypeKind::Scalar {
         return Ok((further.location, BuildError::BuiltInScalarTypeRedefinition));
@@ -39,15 +42,16 @@ fn built_in_redefinition(
     Ok(fault)
 }
 
-/// Adds the fault of a further definition of a type's name at the end, unless the type is built-in and such definitions are
-/// ignored: then nothing is added. The error is out of memory.
+/// Adds the fault of a further definition of a type's name at the end, unless the type is built-in and such
+/// definitions are ignored: then nothing is added. The error is out of memory.
 pub fn note_redefinition(
     previous: &ExtendedType,
     further: &TypeDeclarationRef<'_>,
     ignores: bool,
     faults: &mut Items<Fault>,
 ) -> Result<(), AllocError>
-    ensures { OnOk result (ForFirst previous.now (λ d. faults.new ≡ faults.old ++ further_definition d (record (part_seen further.now) { ignorable = ignores }))) }
+    ensures { OnOk result (ForFirst previous.now (λ d. faults.new
+        ≡ faults.old ++ further_definition d (record (part_seen further.now) { ignorable = ignores }))) }
 {
     if !previous.is_built_in() {
         faults.push(redefinition(previous, further)?)?;

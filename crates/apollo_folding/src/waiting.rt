@@ -1,5 +1,6 @@
 //! Extensions that wait for the definition of their name.
-ghost use Rattle.std.specs.Prelude.{◌≡◌, None, ℕ, ◌+◌, List, [], ◌∷◌, ◌++◌, is_some, OnOk, Some, if◌then◌else◌};
+ghost use Rattle.std.specs.Prelude.{◌≡◌, None, ℕ, ◌+◌, List, [], ◌∷◌, ◌++◌, is_some, OnOk, Some};
+ghost use Rattle.std.specs.Prelude.{if◌then◌else◌};
 ghost use Rattle.graphql_nodes.specs.Tables.{keys_of, lookup};
 ghost use Rattle.apollo_meaning.specs.Items.ListItems.{held_under, item_of, items_of, items_held};
 ghost use Rattle.graphql_nodes.specs.SameText.{same, by_text};
@@ -11,7 +12,8 @@ use graphql_nodes::name::Name;
 use std::alloc::{AllocError, Global};
 use std::mem;
 
-/// Takes out what waits under a name, in order, and leaves the name with nothing under it. It takes no memory.
+/// Takes out what waits under a name, in order, and leaves the name with nothing under it. It takes no
+/// memory.
 pub fn take_waiting(
     alloc: Global,
     waiting: &mut Table<Name, Items<Definition>>,
@@ -19,7 +21,8 @@ pub fn take_waiting(
 ) -> Items<Definition>
     ensures taken { items_of result ≡ items_held (lookup (by_text name.now.text) waiting.old) }
     ensures names { keys_of waiting.new ≡ keys_of waiting.old }
-    ensures left { (n : List ℕ) → held_under n waiting.new ≡ (if same n name.now.text then [] else held_under n waiting.old) }
+    ensures left { (n : List ℕ)
+        → held_under n waiting.new ≡ (if same n name.now.text then [] else held_under n waiting.old) }
 {
     match waiting.get_mut(name) {
         Some(extensions) => mem::replace(extensions, Items::new(alloc)),
@@ -27,16 +30,21 @@ pub fn take_waiting(
     }
 }
 
-/// Lets a copy of an extension wait for the definition of this name, behind those that wait for it. A new name goes last. The
-/// error is out of memory.
+/// Lets a copy of an extension wait for the definition of this name, behind those that wait for it. A new
+/// name goes last. The error is out of memory.
 pub fn add_waiting(
     alloc: Global,
     waiting: &mut Table<Name, Items<Definition>>,
     name: &Name,
     extension: &Definition,
 ) -> Result<(), AllocError>
-    ensures waits { OnOk result ((n : List ℕ) → held_under n waiting.new ≡ (if same n name.now.text then held_under n waiting.old ++ item_of extension.now ∷ [] else held_under n waiting.old)) }
-    ensures names { OnOk result (keys_of waiting.new ≡ (if is_some (lookup (by_text name.now.text) waiting.old) then keys_of waiting.old else keys_of waiting.old ++ name.now ∷ [])) }
+    ensures waits { OnOk result ((n : List ℕ)
+        → held_under n waiting.new
+        ≡ (if same n name.now.text then held_under n waiting.old ++ item_of extension.now ∷ []
+        else held_under n waiting.old)) }
+    ensures names { OnOk result (keys_of waiting.new
+        ≡ (if is_some (lookup (by_text name.now.text) waiting.old) then keys_of waiting.old
+        else keys_of waiting.old ++ name.now ∷ [])) }
 {
     if let Some(extensions) = waiting.get_mut(name) {
         extensions.push(extension.clone()?)?;

@@ -1,12 +1,13 @@
--- Nodes in the file of built-in definitions, with no description and no directive: GraphQL specification of October
--- 2021, sections 3.5, 3.13 and 4.2.
+-- Nodes in the file of built-in definitions, with no description and no directive: GraphQL specification of
+-- October 2021, sections 3.5, 3.13 and 4.2.
 use Rattle.std.specs.Prelude.{ℕ, List, [], ◌∷◌, Option, None, Some, false, option_map}
 use Rattle.graphql_nodes.specs.NameView.{NameView}
 use Rattle.graphql_nodes.specs.NodeView.{NodeView}
 use Rattle.graphql_nodes.specs.declared.source.SourceSpan.{SourceSpan}
 use Rattle.graphql_ast.specs.declared.directive.DirectiveList.{DirectiveList}
 use Rattle.graphql_nodes.specs.declared.directive_location.DirectiveLocation.{DirectiveLocation}
-use Rattle.graphql_ast.specs.declared.type_reference.Type.{«Type» as TypeReference, Named, NonNullNamed, «List» as PlainList, NonNullList}
+use Rattle.graphql_ast.specs.declared.type_reference.Type.{«Type» as TypeReference, Named, NonNullNamed}
+use Rattle.graphql_ast.specs.declared.type_reference.Type.{«List» as PlainList, NonNullList}
 use Rattle.graphql_ast.specs.declared.value.Value.{Value}
 use Rattle.graphql_ast.specs.declared.type_system.FieldDefinition.{FieldDefinition}
 use Rattle.graphql_ast.specs.declared.type_system.InputValueDefinition.{InputValueDefinition}
@@ -48,11 +49,25 @@ non_null_list_of inner = NonNullList inner
 
 -- the definition of an argument, with its default value if it has one
 abbrev pub argument : List ℕ → TypeReference → Option Value → NodeView InputValueDefinition
-argument text ty default = node (record { description = None; name = name text; ty = node ty; default_value = option_map node default; directives = no_directives })
+argument text ty default =
+    node (record {
+      description = None;
+      name = name text;
+      ty = node ty;
+      default_value = option_map node default;
+      directives = no_directives;
+    })
 
 -- the definition of a field, with its arguments
 abbrev pub field : List ℕ → List (NodeView InputValueDefinition) → TypeReference → NodeView FieldDefinition
-field text arguments ty = node (record { description = None; name = name text; arguments = arguments; ty = ty; directives = no_directives })
+field text arguments ty =
+    node (record {
+      description = None;
+      name = name text;
+      arguments = arguments;
+      ty = ty;
+      directives = no_directives;
+    })
 
 -- the definition of an enum value
 abbrev pub enum_value : List ℕ → NodeView EnumValueDefinition
@@ -60,16 +75,36 @@ enum_value text = node (record { description = None; value = name text; directiv
 
 -- the definition of a scalar type
 abbrev pub scalar : List ℕ → Definition
-scalar text = ast.ScalarTypeDefinition (node (record { description = None; name = name text; directives = no_directives }))
+scalar text =
+    ast.ScalarTypeDefinition
+    (node (record { description = None; name = name text; directives = no_directives }))
 
 -- the definition of an object type with these fields, which implements no interface
 abbrev pub object : List ℕ → List (NodeView FieldDefinition) → Definition
-object text fields = ast.ObjectTypeDefinition (node (record { description = None; name = name text; implements_interfaces = []; directives = no_directives; fields = fields }))
+object text fields =
+    ast.ObjectTypeDefinition
+    (node (record {
+      description = None;
+      name = name text;
+      implements_interfaces = [];
+      directives = no_directives;
+      fields = fields;
+    }))
 
 -- the definition of an enum type with these values
 abbrev pub enumeration : List ℕ → List (NodeView EnumValueDefinition) → Definition
-enumeration text values = ast.EnumTypeDefinition (node (record { description = None; name = name text; directives = no_directives; values = values }))
+enumeration text values =
+    ast.EnumTypeDefinition
+    (node (record { description = None; name = name text; directives = no_directives; values = values }))
 
 -- the definition of a directive that isn't repeatable, with one argument, for these directive locations
 abbrev pub directive : List ℕ → NodeView InputValueDefinition → List DirectiveLocation → Definition
-directive text argument locations = ast.DirectiveDefinition (node (record { description = None; name = name text; arguments = argument ∷ []; repeatable = false; locations = locations }))
+directive text argument locations =
+    ast.DirectiveDefinition
+    (node (record {
+      description = None;
+      name = name text;
+      arguments = argument ∷ [];
+      repeatable = false;
+      locations = locations;
+    }))

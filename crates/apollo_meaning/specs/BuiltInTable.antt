@@ -44,7 +44,8 @@ include_deprecated = nodes.argument (codes "includeDeprecated") (named_type "Boo
 
 -- the scalar types `Int`, `Float`, `String`, `Boolean` and `ID`
 abbrev pub built_in_scalars : List Definition
-built_in_scalars = map (λ text. nodes.scalar (codes text)) ("Int" ∷ "Float" ∷ "String" ∷ "Boolean" ∷ "ID" ∷ [])
+built_in_scalars =
+    map (λ text. nodes.scalar (codes text)) ("Int" ∷ "Float" ∷ "String" ∷ "Boolean" ∷ "ID" ∷ [])
 
 -- `directive @skip(if: Boolean!) on FIELD | FRAGMENT_SPREAD | INLINE_FRAGMENT`
 abbrev pub skip_directive : Definition
@@ -147,14 +148,17 @@ directive_type = nodes.object (codes "__Directive") (
 -- `__DirectiveLocation`: what a directive may be applied to
 abbrev pub directive_location_type : Definition
 directive_location_type = nodes.enumeration (codes "__DirectiveLocation") (map value (
-    "QUERY" ∷ "MUTATION" ∷ "SUBSCRIPTION" ∷ "FIELD" ∷ "FRAGMENT_DEFINITION" ∷ "FRAGMENT_SPREAD" ∷ "INLINE_FRAGMENT"
-    ∷ "VARIABLE_DEFINITION" ∷ "SCHEMA" ∷ "SCALAR" ∷ "OBJECT" ∷ "FIELD_DEFINITION" ∷ "ARGUMENT_DEFINITION" ∷ "INTERFACE"
+    "QUERY" ∷ "MUTATION" ∷ "SUBSCRIPTION" ∷ "FIELD" ∷ "FRAGMENT_DEFINITION" ∷ "FRAGMENT_SPREAD"
+    ∷ "INLINE_FRAGMENT"
+    ∷ "VARIABLE_DEFINITION" ∷ "SCHEMA" ∷ "SCALAR" ∷ "OBJECT" ∷ "FIELD_DEFINITION" ∷ "ARGUMENT_DEFINITION"
+    ∷ "INTERFACE"
     ∷ "UNION" ∷ "ENUM" ∷ "ENUM_VALUE" ∷ "INPUT_OBJECT" ∷ "INPUT_FIELD_DEFINITION" ∷ []))
 
 -- the types of introspection, whose names begin with `__`
 abbrev pub introspection_types : List Definition
 introspection_types =
-    schema_type ∷ type_type ∷ type_kind_type ∷ field_type ∷ input_value_type ∷ enum_value_type ∷ directive_type
+    schema_type ∷ type_type ∷ type_kind_type ∷ field_type ∷ input_value_type ∷ enum_value_type
+    ∷ directive_type
     ∷ directive_location_type ∷ []
 
 -- the built-in definitions: scalar types, directives and the types of introspection

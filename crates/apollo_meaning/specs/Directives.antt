@@ -43,14 +43,16 @@ is_handed_in d = not (is_built_in d.location)
 
 -- the definition that a name means: the first that is not marked built-in; where there is none, the last one
 abbrev pub directive_of : Directives → List ℕ → Option (NodeView DirectiveDefinition)
-directive_of ds n = option_or (find (λ d. has_text n d && is_handed_in d) ds) (last_or None (filter (has_text n) ds))
+directive_of ds n =
+    option_or (find (λ d. has_text n d && is_handed_in d) ds) (last_or None (filter (has_text n) ds))
 
 -- the names, as their first definitions write them, in the order of those
 abbrev pub directive_names : Directives → List NameView
 directive_names ds = map (λ d. d.value.name) (first_of_each (λ a b. same_text a.value.name b.value.name) ds)
 
 -- this table holds what the names of these definitions mean, in the order of first definition
-pub record AreDirectivesOf (ds : Directives) (table : List (NameView × NodeView DirectiveDefinition)) : Type 0 where
+pub record AreDirectivesOf (ds : Directives) (table : List (NameView × NodeView DirectiveDefinition)) :
+    Type 0 where
   -- the names that are defined, in order
   pub names : keys_of table ≡ directive_names ds
   -- under each name the definition that it means, and under each other text none

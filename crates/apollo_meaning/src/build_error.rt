@@ -5,14 +5,15 @@ use graphql_nodes::name::Name;
 use graphql_nodes::source::SourceSpan;
 use thiserror::Error;
 
-/// What is wrong with a definition, an extension or a component that a build doesn't use: GraphQL specification of
-/// October 2021, section 3. A name of the kept thing has the location of that.
+/// What is wrong with a definition, an extension or a component that a build doesn't use: GraphQL
+/// specification of October 2021, section 3. A name of the kept thing has the location of that.
 ///
-/// Of a type the first definition is kept, and of its components the first of each name: those of the definition come first,
-/// and then those of the extensions of its kind, in order. Of the schema the first definition is kept, and of its roots the first
-/// of each operation.
+/// Of a type the first definition is kept, and of its components the first of each name: those of the
+/// definition come first, and then those of the extensions of its kind, in order. Of the schema the first
+/// definition is kept, and of its roots the first of each operation.
 ///
-/// Errors are equal where their fields are: names by their texts, and `previous_location` and `def_location` too.
+/// Errors are equal where their fields are: names by their texts, and `previous_location` and `def_location`
+/// too.
 #[derive(Debug, Drop, Clone, PartialEq, Eq, Error)]
 pub enum BuildError {
     /// An operation or a fragment, at its node, with what it is, as `an operation definition` (section 3).
@@ -25,30 +26,30 @@ pub enum BuildError {
     SchemaDefinitionCollision {
         previous_location: Option<SourceSpan>,
     },
-    /// A definition of a directive where another one of its name stands before, which is not built-in: at its name, with the
-    /// location of the name of the first such one (section 3.13).
+    /// A definition of a directive where another one of its name stands before, which is not built-in: at its
+    /// name, with the location of the name of the first such one (section 3.13).
     #[error("the directive `@{name}` is defined multiple times in the schema")]
     DirectiveDefinitionCollision {
         previous_location: Option<SourceSpan>,
         name: Name,
     },
-    /// A further definition of a type's name, at its name, with the location of the first one's name (section 3.3). Where the
-    /// first one is built-in, it may be ignored, or be of the next sort.
+    /// A further definition of a type's name, at its name, with the location of the first one's name (section
+    /// 3.3). Where the first one is built-in, it may be ignored, or be of the next sort.
     #[error("the type `{name}` is defined multiple times in the schema")]
     TypeDefinitionCollision {
         previous_location: Option<SourceSpan>,
         name: Name,
     },
-    /// A further definition of a type's name that is of a scalar type, where the first one is built-in: at its node (section
-    /// 3.5). It may be ignored.
+    /// A further definition of a type's name that is of a scalar type, where the first one is built-in: at
+    /// its node (section 3.5). It may be ignored.
     #[error("built-in scalar definitions must be omitted")]
     BuiltInScalarTypeRedefinition,
-    /// An extension of the schema where no schema definition is given or implied, at its node (section 3.3.2). Where extensions
-    /// are adopted this doesn't come.
+    /// An extension of the schema where no schema definition is given or implied, at its node (section
+    /// 3.3.2). Where extensions are adopted this doesn't come.
     #[error("schema extension without a schema definition")]
     OrphanSchemaExtension,
-    /// An extension of a type's name that no definition has, at its name (section 3.4.3). Where extensions are adopted this
-    /// doesn't come.
+    /// An extension of a type's name that no definition has, at its name (section 3.4.3). Where extensions
+    /// are adopted this doesn't come.
     #[error("type extension for undefined type `{name}`")]
     OrphanTypeExtension {
         name: Name,
@@ -70,8 +71,8 @@ pub enum BuildError {
         previous_location: Option<SourceSpan>,
         operation_type: StaticText,
     },
-    /// An interface that an object type lists already: at its name, with the name that is kept, and the type's name as it stands
-    /// beside the further one (section 3.6). So it is with the six errors below.
+    /// An interface that an object type lists already: at its name, with the name that is kept, and the
+    /// type's name as it stands beside the further one (section 3.6). So it is with the six errors below.
     #[error("object type `{type_name}` implements interface `{name_at_previous_location}` more than once")]
     DuplicateImplementsInterfaceInObject {
         name_at_previous_location: Name,

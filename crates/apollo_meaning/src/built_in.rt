@@ -20,7 +20,8 @@ fn add_scalars(
     definitions: &mut Items<Definition>,
     texts: &[&str],
 ) -> Result<(), AllocError>
-    ensures { OnOk result (definitions.new ≡ definitions.old ++ map (λ text. nodes.scalar text.now) texts.now) }
+    ensures { OnOk result (definitions.new
+        ≡ definitions.old ++ map (λ text. nodes.scalar text.now) texts.now) }
 {
     for text in texts {
         definitions.push(scalar(alloc, text)?)?;
@@ -255,8 +256,8 @@ fn add_introspection_types(
 /// `ID` (section 3.5); the directives `@skip`, `@include`, `@deprecated` and `@specifiedBy` (section 3.13);
 /// and the types of introspection (section 4.2).
 ///
-/// Each node and name is in file number 0, [`FileId::BUILT_IN`](graphql_nodes::source::FileId::BUILT_IN). None has a description.
-/// The error is out of memory.
+/// Each node and name is in file number 0, [`FileId::BUILT_IN`](graphql_nodes::source::FileId::BUILT_IN).
+/// None has a description. The error is out of memory.
 #[tactic(auto, unfolding(crate::specs::BuiltInTable::built_in_definitions))]
 pub fn built_in_definitions(alloc: Global) -> Result<Items<Definition>, AllocError>
     ensures { IfOk result (λ definitions. definitions ≡ table.built_in_definitions) }

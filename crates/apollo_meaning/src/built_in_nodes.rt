@@ -1,4 +1,5 @@
-//! Nodes in the file of built-in definitions, with no description and no directive. Each error is out of memory.
+//! Nodes in the file of built-in definitions, with no description and no directive. Each error is out of
+//! memory.
 ghost use Rattle.std.specs.Prelude.{◌≡◌, ◌∷◌, [], map, option_map, IfOk};
 ghost use Rattle.apollo_meaning.specs.BuiltInNodes as nodes;
 ghost use Rattle.apollo_meaning.specs.BuiltInRows.{row_type, row_field};
@@ -217,7 +218,8 @@ fn enum_values(
 
 /// An enum type with these values.
 pub fn enumeration(alloc: Global, text: &str, values: &[&str]) -> Result<Definition, AllocError>
-    ensures { IfOk result (λ made. made ≡ nodes.enumeration text.now (map (λ value. nodes.enum_value value.now) values.now)) }
+    ensures { IfOk result (λ made. made
+        ≡ nodes.enumeration text.now (map (λ value. nodes.enum_value value.now) values.now)) }
 {
     let values = enum_values(alloc, values)?;
     let definition = EnumTypeDefinition {

@@ -1,5 +1,5 @@
-//! What a list of definitions means: its types, its directive definitions, its schema definition and its faults. GraphQL
-//! specification of October 2021, section 3.
+//! What a list of definitions means: its types, its directive definitions, its schema definition and its
+//! faults. GraphQL specification of October 2021, section 3.
 //!
 //! The meaning stands in `specs/`. Here are the faults as values, and the laws of the definitions.
 //!

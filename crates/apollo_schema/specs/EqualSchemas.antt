@@ -1,5 +1,6 @@
--- Schemas that are equal: GraphQL specification of October 2021, section 3. Their definitions are equal, and they have
--- equal types and directive definitions under each name, in any order. Locations, origins and sources are left out.
+-- Schemas that are equal: GraphQL specification of October 2021, section 3. Their definitions are equal, and
+-- they have equal types and directive definitions under each name, in any order. Locations, origins and
+-- sources are left out.
 --
 -- **Equal schemas.** Two schemas are equal (`AreEqualSchemas`) if what is compared of them is the same
 -- (`bare_schema`): the schema definition, and the types and directive definitions as *bare tables*. So under
@@ -9,7 +10,8 @@ use Rattle.std.specs.Prelude.{◌≡◌, ℕ, List, Option}
 use Rattle.graphql_nodes.specs.Comparing.{entries_by_text}
 use Rattle.graphql_ast.specs.BareTypeSystem.{bare_directive_definition}
 use Rattle.graphql_ast.specs.declared.type_system.DirectiveDefinition.{DirectiveDefinition}
-use Rattle.apollo_types.specs.BareTypes.{BareType, BareSchemaDefinition, bare_extended_type, bare_schema_definition}
+use Rattle.apollo_types.specs.BareTypes.{BareType, BareSchemaDefinition, bare_extended_type}
+use Rattle.apollo_types.specs.BareTypes.{bare_schema_definition}
 use Rattle.apollo_schema.specs.declared.schema.Schema.{Schema}
 
 -- what `==` compares of a schema: its definition, and what stands under each name

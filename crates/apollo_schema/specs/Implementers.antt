@@ -1,5 +1,5 @@
--- The types that implement interfaces, over the types of any schema value alone: GraphQL specification of October 2021,
--- sections 3.6 and 3.7.
+-- The types that implement interfaces, over the types of any schema value alone: GraphQL specification of
+-- October 2021, sections 3.6 and 3.7.
 --
 -- **Implementers.** The implementers of a name (`implementers_of`) are the keys of the object types, and the
 -- keys of the interface types, that declare it. They are in the order of the types, each once. The
@@ -31,7 +31,8 @@ declaring kind types i = first_of_each same_text (keys_of (filter (λ e. kind e.
 
 -- the object types and the interface types that declare an interface: no type does through another
 abbrev pub implementers_of : Types → NameView → Implementers
-implementers_of types i = record { objects = declaring is_object types i; interfaces = declaring is_interface types i }
+implementers_of types i =
+    record { objects = declaring is_object types i; interfaces = declaring is_interface types i }
 
 -- under each name that is declared, the types that declare it
 abbrev pub implementers_map : Types → List (NameView × Implementers)

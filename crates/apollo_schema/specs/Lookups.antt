@@ -1,5 +1,5 @@
--- What lookups in a schema answer, over the maps of any schema value alone: GraphQL specification of October 2021, sections
--- 2, 3.6 to 3.8, 4.1 and 4.2.
+-- What lookups in a schema answer, over the maps of any schema value alone: GraphQL specification of October
+-- 2021, sections 2, 3.6 to 3.8, 4.1 and 4.2.
 --
 -- **Type of a name.** The one that stands under the name's text, whatever name the type has itself.
 --
@@ -34,10 +34,12 @@ use Rattle.apollo_types.specs.declared.union_type.UnionType.{UnionType}
 use Rattle.apollo_types.specs.declared.enum_type.EnumType.{EnumType}
 use Rattle.apollo_types.specs.declared.input_object_type.InputObjectType.{InputObjectType}
 use Rattle.apollo_types.specs.declared.extended_type.ExtendedType.{ExtendedType}
-use Rattle.apollo_types.specs.declared.extended_type.ExtendedType.TheVariants.{Scalar, Object, Interface, Union, Enum, InputObject}
+use Rattle.apollo_types.specs.declared.extended_type.ExtendedType.TheVariants.{Scalar, Object, Interface}
+use Rattle.apollo_types.specs.declared.extended_type.ExtendedType.TheVariants.{Union, Enum, InputObject}
 use Rattle.apollo_schema.specs.MetaFields.{typename_field, schema_field, type_by_name_field}
 use Rattle.apollo_schema.specs.declared.field_lookup_error.FieldLookupError.{FieldLookupError}
-use Rattle.apollo_schema.specs.declared.field_lookup_error.FieldLookupError.TheVariants.{NoSuchType, NoSuchField}
+use Rattle.apollo_schema.specs.declared.field_lookup_error.FieldLookupError.TheVariants.{NoSuchType}
+use Rattle.apollo_schema.specs.declared.field_lookup_error.FieldLookupError.TheVariants.{NoSuchField}
 use Rattle.apollo_schema.specs.declared.schema.Schema.{Schema}
 
 -- the types of a schema, under their names
@@ -96,12 +98,15 @@ declared_field _ f = None
 
 -- the name is that of the root type of queries
 abbrev pub is_query_root : Schema → NameView → Bool
-is_query_root s t = option_map_or (λ root. same_text t root.name) (root_of s.schema_definition.value Query) false
+is_query_root s t =
+    option_map_or (λ root. same_text t root.name) (root_of s.schema_definition.value Query) false
 
--- the fields that the type of this name has without declaring them: an object, interface or union has `__typename`, and the root
--- type of queries has two, whatever its kind
+-- the fields that the type of this name has without declaring them: an object, interface or union has
+-- `__typename`, and the root type of queries has two, whatever its kind
 abbrev pub meta_fields : Schema → NameView → ExtendedType → List (Component FieldDefinition)
-meta_fields s t type = (if is_composite type then typename_field ∷ [] else []) ++ (if is_query_root s t then schema_field ∷ type_by_name_field ∷ [] else [])
+meta_fields s t type =
+    (if is_composite type then typename_field ∷ [] else []) ++ (if is_query_root s t
+    then schema_field ∷ type_by_name_field ∷ [] else [])
 
 -- the field of this name that the type of this name has without declaring it
 abbrev pub meta_field : Schema → NameView → ExtendedType → NameView → Option (Component FieldDefinition)
@@ -118,7 +123,8 @@ field_at s t f = option_map_or (field_of_type s t f) (type_at s.types t) None
 -- the error says whether there is a type of this name: if so, with its key and the type
 abbrev pub IsMissingIn : Types → NameView → FieldLookupError → Type 0
 IsMissingIn types t NoSuchType = type_at types t ≡ None
-IsMissingIn types t (NoSuchField key type) = (lookup_key (same_text t) types ≡ Some key.now) × (type_at types t ≡ Some type.now)
+IsMissingIn types t (NoSuchField key type) = (lookup_key (same_text t) types ≡ Some key.now)
+    × (type_at types t ≡ Some type.now)
 
 -- the name is among these
 abbrev pub is_listed : NameView → List ComponentName → Bool

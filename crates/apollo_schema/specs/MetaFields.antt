@@ -1,5 +1,5 @@
--- The fields that types have without declaring them: GraphQL specification of October 2021, sections 4.1 and 4.2. They have
--- no description and no directive, and have no location.
+-- The fields that types have without declaring them: GraphQL specification of October 2021, sections 4.1 and
+-- 4.2. They have no description and no directive, and have no location.
 --
 -- **Meta-fields.** `__typename: String!`, `__schema: __Schema!` and `__type(name: String!): __Type`,
 -- without descriptions and directives, of the origin "definition" and without locations. A type has
@@ -19,15 +19,29 @@ abbrev pub plain_node : {T : Type 0} → T → NodeView T
 plain_node value = record { value = value; location = None }
 
 -- a field with these arguments and this type, which comes from a definition
-abbrev pub plain_field : List ℕ → List (NodeView InputValueDefinition) → TypeReference → Component FieldDefinition
+abbrev pub plain_field : List ℕ → List (NodeView InputValueDefinition) → TypeReference
+    → Component FieldDefinition
 plain_field text arguments ty = record {
   origin = Definition;
-  node = plain_node (record { description = None; name = plain_name text; arguments = arguments; ty = ty; directives = record { 0 = [] } });
+  node = plain_node (record {
+    description = None;
+    name = plain_name text;
+    arguments = arguments;
+    ty = ty;
+    directives = record { 0 = [] };
+  });
 }
 
 -- the definition of an argument of this name and type, without a default value
 abbrev pub plain_argument : List ℕ → TypeReference → NodeView InputValueDefinition
-plain_argument text ty = plain_node (record { description = None; name = plain_name text; ty = plain_node ty; default_value = None; directives = record { 0 = [] } })
+plain_argument text ty =
+    plain_node (record {
+      description = None;
+      name = plain_name text;
+      ty = plain_node ty;
+      default_value = None;
+      directives = record { 0 = [] };
+    })
 
 -- `__typename: String!`
 abbrev pub typename_field : Component FieldDefinition

@@ -17,9 +17,13 @@ with_implementer true name m = record m { objects = insert_key same_text m.objec
 with_implementer false name m = record m { interfaces = insert_key same_text m.interfaces name }
 
 -- the table with the name noted under one interface
-abbrev pub noted : Bool → NameView → List (NameView × Implementers) → ComponentName → List (NameView × Implementers)
-noted is_object name map i = insert_entry same_text map i.name (with_implementer is_object name (unwrap_or (lookup (same_text i.name) map) no_implementers))
+abbrev pub noted : Bool → NameView → List (NameView × Implementers) → ComponentName
+    → List (NameView × Implementers)
+noted is_object name map i =
+    insert_entry same_text map i.name
+    (with_implementer is_object name (unwrap_or (lookup (same_text i.name) map) no_implementers))
 
 -- the table with the name noted under several interfaces, one after another
-abbrev pub noted_under : Bool → NameView → List (NameView × Implementers) → List ComponentName → List (NameView × Implementers)
+abbrev pub noted_under : Bool → NameView → List (NameView × Implementers) → List ComponentName
+    → List (NameView × Implementers)
 noted_under is_object name map interfaces = fold (noted is_object name) map interfaces

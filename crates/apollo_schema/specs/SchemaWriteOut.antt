@@ -25,11 +25,13 @@ write_directives ds = map ast.DirectiveDefinition (filter is_handed_in ds)
 abbrev pub write_held_type : ExtendedType → List Definition
 write_held_type t = if is_built_in (type_location t) then drop 1 (write_type t) else write_type t
 
--- the schema definition's part: the definition where it has a root of its own and says more than is implied, and always its
--- extensions
+-- the schema definition's part: the definition where it has a root of its own and says more than is implied,
+-- and always its extensions
 abbrev pub write_held_schema_definition : Schema → List Definition
-write_held_schema_definition s = write_schema_definition s.schema_definition.value s.schema_definition.location s.types
+write_held_schema_definition s =
+    write_schema_definition s.schema_definition.value s.schema_definition.location s.types
 
 -- the schema definition's part, then the directive definitions, and then the types, each in order
 abbrev pub write_schema : Schema → List Definition
-write_schema s = write_held_schema_definition s ++ write_directives (values_of s.directive_definitions) ++ flat_map write_held_type (values_of s.types)
+write_schema s = write_held_schema_definition s ++ write_directives (values_of s.directive_definitions)
+    ++ flat_map write_held_type (values_of s.types)

@@ -46,7 +46,8 @@ pub record Ends (start : ℕ) (implied xs : List ListItem) (t : Tables) : Type 0
   -- what was found before; the extensions of types without a definition; what is found at the implied items;
   -- and the extensions of the schema without a definition
   pub faults : t.faults
-      ≡ found xs ++ (map orphan (flat_map (orphans_of xs) (extended_names xs)) ++ (each_after found_at xs implied ++ map schema_orphan (schema_orphans (xs ++ implied))))
+      ≡ found xs ++ (map orphan (flat_map (orphans_of xs) (extended_names xs))
+      ++ (each_after found_at xs implied ++ map schema_orphan (schema_orphans (xs ++ implied))))
   -- the number after that of the last extension that is folded
   pub next : t.ids ≡ source_at (start + length (folded (xs ++ implied)))
 

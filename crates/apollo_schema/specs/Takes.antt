@@ -11,11 +11,13 @@ use Rattle.apollo_meaning.specs.Steps.Prefixes.{folded}
 
 -- the tables of a list are those of another list after the step
 abbrev pub Becomes : Tables → (List ListItem → List ListItem) → Tables → Type 0
-Becomes old another new = (start : ℕ) (xs : List ListItem) → Stands start xs old → Stands start (another xs) new
+Becomes old another new = (start : ℕ) (xs : List ListItem) → Stands start xs old
+    → Stands start (another xs) new
 
 -- the numbers don't suffice for the list after the step
 abbrev pub SpentOn : Tables → (List ListItem → List ListItem) → Type 0
-SpentOn old another = (start : ℕ) (xs : List ListItem) → Stands start xs old → 2 ^ 64 ≤ start + length (folded (another xs))
+SpentOn old another = (start : ℕ) (xs : List ListItem) → Stands start xs old
+    → 2 ^ 64 ≤ start + length (folded (another xs))
 
 -- the tables take these items at the end of their list
 abbrev pub Takes : Tables → List ListItem → Tables → Type 0
@@ -31,12 +33,14 @@ ForLists t P = (start : ℕ) (xs : List Added) → Stands start (added_items xs)
 
 -- P holds of each list whose completed form the tables hold
 abbrev pub ForCompleted : Tables → (ℕ → Bool → List Added → Type 0) → Type 0
-ForCompleted t P = (start : ℕ) (adopts : Bool) (xs : List Added) → Completes start adopts (added_items xs) t → P start adopts xs
+ForCompleted t P = (start : ℕ) (adopts : Bool) (xs : List Added) → Completes start adopts (added_items xs) t
+    → P start adopts xs
 
 -- the tables with this definition of the schema, and the extensions that waited for it folded in
 abbrev pub with_schema : Tables → SchemaPart → Tables
 with_schema t s = record t {
-  schema_definition = Some (schema_begun (next_number t.ids) s (map schema_extension_part t.schema_extensions));
+  schema_definition =
+      Some (schema_begun (next_number t.ids) s (map schema_extension_part t.schema_extensions));
   schema_extensions = [];
   ids = source_at (next_number t.ids + length t.schema_extensions);
   faults = t.faults ++ schema_begun_faults s (map schema_extension_part t.schema_extensions);

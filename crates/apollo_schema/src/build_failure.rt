@@ -1,4 +1,5 @@
-//! What a build answers where it has no schema without faults: GraphQL specification of October 2021, section 3.
+//! What a build answers where it has no schema without faults: GraphQL specification of October 2021, section
+//! 3.
 
 use crate::schema::Schema;
 use apollo_meaning::build_error::Faults;
@@ -7,8 +8,8 @@ use std::alloc::AllocError;
 use std::fmt::{self, Write};
 use thiserror::Error;
 
-/// What could be built, and the faults, of which there is at least one. `{:?}` prints the faults alone, and so does
-/// `{}`: the sentence of each, in order, on a line of its own.
+/// What could be built, and the faults, of which there is at least one. `{:?}` prints the faults alone, and
+/// so does `{}`: the sentence of each, in order, on a line of its own.
 #[derive(Drop)]
 #[derive_where(Debug)]
 pub struct WithErrors<T> {
@@ -17,8 +18,8 @@ pub struct WithErrors<T> {
     pub errors: Faults,
 }
 
-/// A copy has a copy of what could be built, and the same faults in the same order, with their locations. The error is out of
-/// memory.
+/// A copy has a copy of what could be built, and the same faults in the same order, with their locations. The
+/// error is out of memory.
 impl<T: Clone + Drop> Clone for WithErrors<T> {
     ghost use Rattle.std.specs.Prelude.{◌≡◌};
 
@@ -44,8 +45,8 @@ impl<T> fmt::Display for WithErrors<T> {
     }
 }
 
-/// Why a build answers no schema without faults. `{}` is the sentences of the faults, one a line, or why nothing could be
-/// built.
+/// Why a build answers no schema without faults. `{}` is the sentences of the faults, one a line, or why
+/// nothing could be built.
 #[derive(Debug, Drop, Error)]
 pub enum BuildFailure {
     /// What was added has faults: these, and the schema that could be built, with its sources.

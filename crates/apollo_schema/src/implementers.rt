@@ -12,8 +12,8 @@ use indexmap::set::Iter;
 use std::alloc::{AllocError, Global};
 use std::iter::FusedIterator;
 
-/// The names of the object types and of the interface types that declare an interface. Equality leaves out the order of names,
-/// and their locations.
+/// The names of the object types and of the interface types that declare an interface. Equality leaves out
+/// the order of names, and their locations.
 #[derive(PartialEq, Eq)]
 pub struct Implementers {
     pub objects: KeySet<Name>,
@@ -96,7 +96,8 @@ impl<'a> Iterator for ImplementersIter<'a> {
 
     ghost remaining = { item_count names_left };
 
-    /// The first name that is left, after which the rest is left. Once none is left it answers none, from then on too.
+    /// The first name that is left, after which the rest is left. Once none is left it answers none, from
+    /// then on too.
     fn next(&mut self) -> Option<&'a Name> {
         match self.objects.next() {
             Some(name) => Some(name),

@@ -1,8 +1,10 @@
-//! The fields that types have without declaring them: GraphQL specification of October 2021, sections 4.1 and 4.2.
+//! The fields that types have without declaring them: GraphQL specification of October 2021, sections 4.1 and
+//! 4.2.
 ghost use Rattle.std.specs.Prelude.{◌≡◌, IfOk, codes};
 ghost use Rattle.graphql_nodes.specs.NameView.{plain_name};
 ghost use Rattle.graphql_ast.specs.declared.type_reference.Type.{NonNullNamed};
-ghost use Rattle.apollo_schema.specs.MetaFields.{plain_argument, plain_field, typename_field, schema_field, type_by_name_field};
+ghost use Rattle.apollo_schema.specs.MetaFields.{plain_argument, plain_field, typename_field, schema_field};
+ghost use Rattle.apollo_schema.specs.MetaFields.{type_by_name_field};
 
 use apollo_component::component::Component;
 use graphql_ast::directive::DirectiveList;
@@ -14,8 +16,8 @@ use graphql_nodes::node::Node;
 use std::alloc::{AllocError, Global};
 use std::marker::Model;
 
-/// The definitions of the meta-fields, which are the same in each schema. Contracts see nothing of them but what the calls
-/// answer.
+/// The definitions of the meta-fields, which are the same in each schema. Contracts see nothing of them but
+/// what the calls answer.
 pub struct MetaFields {
     typename: Component<FieldDefinition>,
     schema: Component<FieldDefinition>,
@@ -40,7 +42,8 @@ impl Model for MetaFields {
 
     ghost view = { λ _. tt };
 
-    ghost invariant = { λ m. (m.typename ≡ typename_field) × (m.schema ≡ schema_field) × (m.type_by_name ≡ type_by_name_field) };
+    ghost invariant = { λ m. (m.typename ≡ typename_field) × (m.schema ≡ schema_field)
+        × (m.type_by_name ≡ type_by_name_field) };
 }
 
 /// The type of this name without null.
@@ -52,7 +55,8 @@ fn non_null(alloc: Global, text: &str) -> Result<Type, AllocError>
 
 /// The argument `name: String!`.
 fn name_argument(alloc: Global) -> Result<Node<InputValueDefinition>, AllocError>
-    ensures { IfOk result (λ made. made ≡ plain_argument (codes "name") (NonNullNamed (plain_name (codes "String")))) }
+    ensures { IfOk result (λ made. made
+        ≡ plain_argument (codes "name") (NonNullNamed (plain_name (codes "String")))) }
 {
     let argument = InputValueDefinition {
         description: None,

@@ -54,8 +54,8 @@ impl<'a> Iterator for OrphanNames<'a> {
 
     ghost remaining = { item_count names_left };
 
-    /// The first name that is left, as its first extension has it, after which the rest is left. Once none is left it answers
-    /// none, from then on too.
+    /// The first name that is left, as its first extension has it, after which the rest is left. Once none is
+    /// left it answers none, from then on too.
     fn next(&mut self) -> Option<&'a Name> {
         match &mut self.entries {
             Some(entries) => next_held(entries),

@@ -27,8 +27,9 @@ use std::alloc::{AllocError, Global};
 
 /// A schema: its definition, and its types and directive definitions under their names, by first definition.
 ///
-/// Schemas are equal where their definitions are, and their types and directive definitions in any order: locations, origins
-/// and sources are left out. A clone is the original, with all of these, and shares the nodes.
+/// Schemas are equal where their definitions are, and their types and directive definitions in any order:
+/// locations, origins and sources are left out. A clone is the original, with all of these, and shares the
+/// nodes.
 #[derive(Drop, Clone)]
 #[derive_where(Debug, PartialEq, Eq)]
 pub struct Schema {
@@ -46,7 +47,8 @@ impl Schema {
     ghost use Rattle.apollo_schema.specs.SchemaWriteOut.{write_schema};
     ghost use Rattle.apollo_schema.specs.BuilderStands.{building_from};
 
-    /// A builder of the built-in definitions alone, as [`SchemaBuilder::new`] makes it. The error is out of memory.
+    /// A builder of the built-in definitions alone, as [`SchemaBuilder::new`] makes it. The error is out of
+    /// memory.
     pub fn builder(alloc: Global) -> Result<SchemaBuilder, AllocError>
         ensures { IfOk result (λ builder. builder ≡ building_from 0) }
     {
@@ -61,7 +63,8 @@ impl Schema {
         match SchemaBuilder::new(alloc)?.build() {
             Ok(schema) => Ok(schema),
             Err(BuildFailure::Memory) => Err(AllocError),
-            // The built-in definitions have no faults, there are no extensions, and nothing was refused before.
+            // The built-in definitions have no faults, there are no extensions, and nothing was refused
+            // before.
             Err(BuildFailure::Faults(_)) => unreachable!(),
             Err(BuildFailure::ExtensionIds) => unreachable!(),
             Err(BuildFailure::Failed) => unreachable!(),
@@ -76,7 +79,14 @@ impl Schema {
         directive_definitions: Table<Name, Node<DirectiveDefinition>>,
         types: Table<NamedType, ExtendedType>,
     ) -> Result<Schema, AllocError>
-        ensures { IfOk result (λ schema. schema ≡ record { sources = sources; schema_definition = schema_definition; directive_definitions = directive_definitions; types = types; meta_fields = tt }) }
+        ensures { IfOk result (λ schema. schema
+            ≡ record {
+              sources = sources;
+              schema_definition = schema_definition;
+              directive_definitions = directive_definitions;
+              types = types;
+              meta_fields = tt;
+            }) }
     {
         Ok(Schema {
             sources,
@@ -89,7 +99,8 @@ impl Schema {
 
     /// The name of the root of this operation type, if the schema has one (section 3.3.1).
     pub fn root_operation(&self, operation_type: OperationType) -> Option<&NamedType>
-        ensures { option_copied result ≡ option_map (λ c. c.name) (root_of self.now.schema_definition.value operation_type) }
+        ensures { option_copied result
+            ≡ option_map (λ c. c.name) (root_of self.now.schema_definition.value operation_type) }
     {
         match self.schema_definition.root_operation(operation_type) {
             Some(root) => Some(&root.name),
@@ -101,9 +112,9 @@ impl Schema {
     /// directive definitions, in order. Then comes each type, in order, as its definition and its extensions.
     ///
     /// The schema definition is left out where it would be implied, or has no root of its own, as
-    /// [`SchemaDefinition::to_ast`] says: its description and its own directives are not written then. Its extensions are always
-    /// there. Built-in definitions of types and directives are left out, but not the extensions of those types. The error is out
-    /// of memory.
+    /// [`SchemaDefinition::to_ast`] says: its description and its own directives are not written then. Its
+    /// extensions are always there. Built-in definitions of types and directives are left out, but not the
+    /// extensions of those types. The error is out of memory.
     pub fn to_ast(&self, alloc: Global) -> Result<Vec<Definition>, AllocError>
         ensures { IfOk result (λ written. written.items ≡ write_schema self.now) }
     {

@@ -1,5 +1,5 @@
-//! The schema builder: documents go in, in any number and order of definitions, and a schema comes out. GraphQL specification of
-//! October 2021, section 3.
+//! The schema builder: documents go in, in any number and order of definitions, and a schema comes out.
+//! GraphQL specification of October 2021, section 3.
 ghost use Rattle.std.specs.Prelude.{◌≡◌, ◌↔◌, ◌≤◌, [], true, Err, OnOk, OnErr, IfOk, IfErr};
 ghost use Rattle.apollo_component.specs.Extensions.{next_number};
 ghost use Rattle.apollo_meaning.specs.Completion.OrphanNames.{orphan_names};
@@ -24,13 +24,13 @@ use graphql_nodes::collections::hash_keys::HashKeys;
 use std::alloc::{AllocError, Global};
 use std::marker::Model;
 
-/// A builder of a schema: GraphQL specification of October 2021, section 3. Documents go in, in any number, and their
-/// definitions and extensions in any order.
+/// A builder of a schema: GraphQL specification of October 2021, section 3. Documents go in, in any number,
+/// and their definitions and extensions in any order.
 ///
-/// The built-in definitions stand before the first document. The first definition of a type's name stays, and each later
-/// one is at fault, unless redefinitions of built-in types are ignored. Of a directive's name the first definition counts that
-/// isn't built-in, which replaces a built-in one. The first definition of the schema stays, too. An extension before
-/// its definition waits for it.
+/// The built-in definitions stand before the first document. The first definition of a type's name stays, and
+/// each later one is at fault, unless redefinitions of built-in types are ignored. Of a directive's name the
+/// first definition counts that isn't built-in, which replaces a built-in one. The first definition of the
+/// schema stays, too. An extension before its definition waits for it.
 ///
 /// After a refusal the builder holds nothing more than its source, which then stands where it stood before
 /// the refused call. Each later `add_ast` or `build` answers `Failed`.
@@ -80,16 +80,16 @@ impl Model for SchemaBuilder {
 }
 
 impl SchemaBuilder {
-    /// A builder of the built-in definitions alone, without sources and without either option, whose first extension has the
-    /// number 0. The error is out of memory.
+    /// A builder of the built-in definitions alone, without sources and without either option, whose first
+    /// extension has the number 0. The error is out of memory.
     pub fn new(alloc: Global) -> Result<SchemaBuilder, AllocError>
         ensures { IfOk result (λ builder. builder ≡ building_from 0) }
     {
         SchemaBuilder::with_source(alloc, ExtensionSource::new())
     }
 
-    /// The same, drawing the numbers of extensions from this source: the first one is the source's next number. The error is out
-    /// of memory, and drops the source.
+    /// The same, drawing the numbers of extensions from this source: the first one is the source's next
+    /// number. The error is out of memory, and drops the source.
     pub fn with_source(alloc: Global, source: ExtensionSource) -> Result<SchemaBuilder, AllocError>
         ensures { IfOk result (λ builder. builder ≡ building_from (next_number source)) }
     {
@@ -105,8 +105,8 @@ impl SchemaBuilder {
         SchemaBuilder::with_source_and_keys(alloc, ExtensionSource::new(), keys)
     }
 
-    /// The same as [`with_keys`](SchemaBuilder::with_keys), drawing the numbers of extensions from this source. The error is
-    /// out of memory, and drops the source.
+    /// The same as [`with_keys`](SchemaBuilder::with_keys), drawing the numbers of extensions from this
+    /// source. The error is out of memory, and drops the source.
     pub fn with_source_and_keys(
         alloc: Global,
         source: ExtensionSource,
@@ -125,10 +125,10 @@ impl SchemaBuilder {
         })
     }
 
-    /// The builder, which adopts at `build` what is extended only: each type that has extensions and no definition is
-    /// taken as defined, empty, at its first extension; and the schema is taken as defined, without a location, with the default
-    /// roots unless an extension names a root (sections 3.3.2 and 3.4.3). All else stays: what was added, the other option, and
-    /// whether a call was refused.
+    /// The builder, which adopts at `build` what is extended only: each type that has extensions and no
+    /// definition is taken as defined, empty, at its first extension; and the schema is taken as defined,
+    /// without a location, with the default roots unless an extension names a root (sections 3.3.2 and
+    /// 3.4.3). All else stays: what was added, the other option, and whether a call was refused.
     pub fn adopt_orphan_extensions(self) -> SchemaBuilder
         ensures { result ≡ record self { adopts = true } }
     {
@@ -137,8 +137,9 @@ impl SchemaBuilder {
         builder
     }
 
-    /// The builder, which ignores from now on each further definition of a name whose type is built-in: it is dropped without a
-    /// fault. All else stays: what was added, the other option, and whether a call was refused.
+    /// The builder, which ignores from now on each further definition of a name whose type is built-in: it is
+    /// dropped without a fault. All else stays: what was added, the other option, and whether a call was
+    /// refused.
     pub fn ignore_builtin_redefinitions(self) -> SchemaBuilder
         ensures { result ≡ record self { ignores = true } }
     {
@@ -147,13 +148,14 @@ impl SchemaBuilder {
         builder
     }
 
-    /// Adds the definitions of a document, in order, and its sources: of two files of one number the later stays. The options
-    /// and the first number stay, whatever the answer.
+    /// Adds the definitions of a document, in order, and its sources: of two files of one number the later
+    /// stays. The options and the first number stay, whatever the answer.
     ///
-    /// `Memory`: memory ran out. `ExtensionIds` comes only where the extensions that are folded so far, this document's
-    /// included, pass the largest number, and `Ok` only where they don't. `Failed` comes exactly after a refusal, and changes
-    /// nothing. A document without definitions and sources meets `Failed` alone. With another error all that was added is
-    /// dropped, sources too, and the source of numbers stands where it stood before the call.
+    /// `Memory`: memory ran out. `ExtensionIds` comes only where the extensions that are folded so far, this
+    /// document's included, pass the largest number, and `Ok` only where they don't. `Failed` comes exactly
+    /// after a refusal, and changes nothing. A document without definitions and sources meets `Failed` alone.
+    /// With another error all that was added is dropped, sources too, and the source of numbers stands where
+    /// it stood before the call.
     pub fn add_ast(&mut self, document: &Document) -> Result<(), BuilderError>
         ensures added { OnOk result (self.new ≡ with_document document.now self.old) }
         ensures refused { OnErr result (self.new ≡ refused self.old) }
@@ -189,11 +191,12 @@ impl SchemaBuilder {
     /// extensions are folded in after those roots. With adoption there are no default roots where an
     /// extension names a root. The schema's sources are those of the documents, merged.
     ///
-    /// `Faults`, with what could be built, sources included, comes exactly where what was added has faults: first those found as
-    /// definitions are added, in that order; then extensions of types without a definition; then what is found at an implied
-    /// definition of the schema, and extensions of the schema without one. `Memory` is out of memory; `ExtensionIds` comes only
-    /// where the extensions folded pass the largest number, and a schema, with faults or without, only where they don't; `Failed`
-    /// comes exactly after a refusal. With these three errors all that was added is dropped.
+    /// `Faults`, with what could be built, sources included, comes exactly where what was added has faults:
+    /// first those found as definitions are added, in that order; then extensions of types without a
+    /// definition; then what is found at an implied definition of the schema, and extensions of the schema
+    /// without one. `Memory` is out of memory; `ExtensionIds` comes only where the extensions folded pass the
+    /// largest number, and a schema, with faults or without, only where they don't; `Failed` comes exactly
+    /// after a refusal. With these three errors all that was added is dropped.
     pub fn build(self) -> Result<Schema, BuildFailure>
         ensures built { IfOk result (IsBuiltOf self) }
         ensures faults { IfErr result (λ failure. IfFaults failure (IsFoundIn self)) }
@@ -205,9 +208,10 @@ impl SchemaBuilder {
         built
     }
 
-    /// What [`build`](SchemaBuilder::build) answers, and the source of numbers, never below the builder's first number:
-    /// after a schema, or faults, it is at that number plus the extensions that were folded; after `Memory` or
-    /// `ExtensionIds` it stands where it stood before the call; with `Failed` it is the one that was left.
+    /// What [`build`](SchemaBuilder::build) answers, and the source of numbers, never below the builder's
+    /// first number: after a schema, or faults, it is at that number plus the extensions that were folded;
+    /// after `Memory` or `ExtensionIds` it stands where it stood before the call; with `Failed` it is the one
+    /// that was left.
     pub fn build_with_source(self) -> (Result<Schema, BuildFailure>, ExtensionSource)
         ensures built { IfOk result.0 (IsBuiltOf self) }
         ensures faults { IfErr result.0 (λ failure. IfFaults failure (IsFoundIn self)) }
@@ -231,10 +235,11 @@ impl SchemaBuilder {
         }
     }
 
-    /// The names that are extended and not defined so far, in order of first extension, each as its first extension has
-    /// it: none is the name of a type that is defined so far, and extensions of types alone wait under each (the law
-    /// [`orphan_names_are_extended_and_not_defined`](crate::laws::orphan_names_are_extended_and_not_defined)). After a
-    /// refusal there is none.
+    /// The names that are extended and not defined so far, in order of first extension, each as its first
+    /// extension has it: none is the name of a type that is defined so far, and extensions of types alone
+    /// wait under each (the law
+    /// [`orphan_names_are_extended_and_not_defined`](crate::laws::orphan_names_are_extended_and_not_defined)).
+    /// After a refusal there is none.
     pub fn iter_orphan_extension_types(&self) -> OrphanNames<'_>
         ensures { names_left result ≡ orphan_names (added_items (list_of self.now)) }
     {
@@ -245,8 +250,8 @@ impl SchemaBuilder {
     }
 }
 
-/// A copy stands for what the original stands for, with its options and sources, and draws the numbers that the original draws. A
-/// copy of a builder that has failed has failed. The error is out of memory.
+/// A copy stands for what the original stands for, with its options and sources, and draws the numbers that
+/// the original draws. A copy of a builder that has failed has failed. The error is out of memory.
 impl Clone for SchemaBuilder {
     ghost is_clone = { λ a b. b ≡ a };
 

@@ -1,5 +1,6 @@
 //! What a builder holds.
-ghost use Rattle.std.specs.Prelude.{◌≡◌, ◌≢◌, false, None, ◌+◌, ◌^◌, ◌≤◌, [], ◌∷◌, ◌++◌, length, OnOk, OnErr, IfOk, IfErr, Some};
+ghost use Rattle.std.specs.Prelude.{◌≡◌, ◌≢◌, false, None, ◌+◌, ◌^◌, ◌≤◌, [], ◌∷◌, ◌++◌, length, OnOk, OnErr};
+ghost use Rattle.std.specs.Prelude.{IfOk, IfErr, Some};
 ghost use Rattle.graphql_nodes.specs.Tables.{insert_entry};
 ghost use Rattle.graphql_nodes.specs.SameText.{same_text};
 ghost use Rattle.graphql_ast.specs.Definitions.{definition_location};
@@ -8,7 +9,8 @@ ghost use Rattle.graphql_ast.specs.declared.declaration_ref.DeclarationRef.TheVa
 ghost use Rattle.apollo_component.specs.Extensions.{next_number};
 ghost use Rattle.apollo_meaning.specs.declared.build_error.BuildError.TheVariants as errors;
 ghost use Rattle.apollo_meaning.specs.Items.Parts.{schema_definition_part, schema_extension_part};
-ghost use Rattle.apollo_meaning.specs.Items.ListItems.{Extended, SchemaDefined, SchemaExtended, added, added_item, added_items, item_of};
+ghost use Rattle.apollo_meaning.specs.Items.ListItems.{Extended, SchemaDefined, SchemaExtended, added};
+ghost use Rattle.apollo_meaning.specs.Items.ListItems.{added_item, added_items, item_of};
 ghost use Rattle.apollo_meaning.specs.BuiltInTable.{built_in_definitions};
 ghost use Rattle.apollo_folding.specs.DeclaredParts.{item_seen, part_seen, definition_seen};
 ghost use Rattle.apollo_folding.specs.Refusals.{RefusedAs};
@@ -20,7 +22,6 @@ mod completion;
 mod copy;
 mod extended_only;
 
-use apollo_meaning::built_in::built_in_definitions;
 use apollo_component::extension::ExtensionSource;
 use apollo_folding::builder_error::BuilderError;
 use apollo_folding::directive_definition::define_directive;
@@ -29,6 +30,7 @@ use apollo_folding::from_ast::{begin_type, extend_type};
 use apollo_folding::redefinition::note_redefinition;
 use apollo_folding::waiting::{add_waiting, take_waiting};
 use apollo_meaning::build_error::{BuildError, Fault};
+use apollo_meaning::built_in::built_in_definitions;
 use apollo_types::extended_type::ExtendedType;
 use apollo_types::schema_definition::SchemaDefinition;
 use graphql_ast::declaration_ref::{DeclarationRef, TypeDeclarationRef};
@@ -46,8 +48,8 @@ use graphql_nodes::source::{SourceMap, merge_sources};
 use std::alloc::{AllocError, Global};
 use std::mem;
 
-/// What a builder holds until it fails. An extension before its definition waits under its name; a name that is
-/// defined keeps an empty list, so that taking its extensions out moves no other.
+/// What a builder holds until it fails. An extension before its definition waits under its name; a name that
+/// is defined keeps an empty list, so that taking its extensions out moves no other.
 pub struct Tables {
     alloc: Global,
     sources: SourceMap,
@@ -108,13 +110,15 @@ impl Tables {
         }
     }
 
-    /// Tables of the built-in definitions, which hash by these keys, as do those of their types. The error is out of memory.
+    /// Tables of the built-in definitions, which hash by these keys, as do those of their types. The error is
+    /// out of memory.
     pub fn with_built_ins(
         alloc: Global,
         keys: HashKeys,
         ids: ExtensionSource,
     ) -> Result<Tables, AllocError>
-        ensures stands { IfOk result (Stands (next_number ids) (added_items (added false built_in_definitions))) }
+        ensures stands { IfOk result
+            (Stands (next_number ids) (added_items (added false built_in_definitions))) }
         ensures sources { IfOk result (λ tables. tables.sources ≡ []) }
     {
         let mut tables = Tables::new(alloc, keys, ids);
@@ -132,14 +136,16 @@ impl Tables {
         self.ids.next_number()
     }
 
-    /// Takes the definition of a type, under this setting of whether redefinitions of built-in types are ignored.
+    /// Takes the definition of a type, under this setting of whether redefinitions of built-in types are
+    /// ignored.
     fn define(
         &mut self,
         definition: &TypeDeclarationRef<'_>,
         ignores: bool,
     ) -> Result<(), BuilderError>
         ensures stands { OnOk result (Takes self.old (definition_seen ignores definition.now ∷ []) self.new) }
-        ensures refused { IfErr result (λ error. RefusedAs error (SpentBy self.old (definition_seen ignores definition.now ∷ []))) }
+        ensures refused { IfErr result (λ error.
+            RefusedAs error (SpentBy self.old (definition_seen ignores definition.now ∷ []))) }
         ensures sources { self.new.sources ≡ self.old.sources }
     {
         if let Some(previous) = self.types.get(definition.name) {
@@ -165,8 +171,10 @@ impl Tables {
         extension: &TypeDeclarationRef<'_>,
         definition: &Definition,
     ) -> Result<(), BuilderError>
-        ensures stands { OnOk result (item_of definition.now ≡ Extended (part_seen extension.now) → Takes self.old (Extended (part_seen extension.now) ∷ []) self.new) }
-        ensures refused { IfErr result (λ error. RefusedAs error (SpentBy self.old (Extended (part_seen extension.now) ∷ []))) }
+        ensures stands { OnOk result (item_of definition.now ≡ Extended (part_seen extension.now)
+            → Takes self.old (Extended (part_seen extension.now) ∷ []) self.new) }
+        ensures refused { IfErr result (λ error.
+            RefusedAs error (SpentBy self.old (Extended (part_seen extension.now) ∷ []))) }
         ensures sources { self.new.sources ≡ self.old.sources }
     {
         let Some(ty) = self.types.get_mut(extension.name) else {
@@ -186,7 +194,8 @@ impl Tables {
     ) -> Result<(), BuilderError>
         ensures stands { OnOk result (item_of definition.now ≡ item_seen (seen.Type declaration.now)
             → Takes self.old (added_item (ignores, definition.now) ∷ []) self.new) }
-        ensures refused { IfErr result (λ error. item_of definition.now ≡ item_seen (seen.Type declaration.now)
+        ensures refused { IfErr result (λ error. item_of definition.now
+            ≡ item_seen (seen.Type declaration.now)
             → RefusedAs error (SpentBy self.old (added_item (ignores, definition.now) ∷ []))) }
         ensures sources { self.new.sources ≡ self.old.sources }
     {
@@ -199,7 +208,8 @@ impl Tables {
     /// Puts a definition of the schema, with the extensions that wait for it folded in.
     fn put_schema(&mut self, node: &Node<ast::SchemaDefinition>) -> Result<(), BuilderError>
         ensures put { OnOk result (self.new ≡ with_schema self.old (schema_definition_part node.now)) }
-        ensures refused { IfErr result (λ error. RefusedAs error (2 ^ 64 ≤ next_number self.old.ids + length self.old.schema_extensions)) }
+        ensures refused { IfErr result (λ error.
+            RefusedAs error (2 ^ 64 ≤ next_number self.old.ids + length self.old.schema_extensions)) }
         ensures sources { self.new.sources ≡ self.old.sources }
     {
         let extensions = mem::replace(&mut self.schema_extensions, Items::new(self.alloc));
@@ -216,8 +226,10 @@ impl Tables {
 
     /// Takes a definition of the schema.
     fn define_schema(&mut self, node: &Node<ast::SchemaDefinition>) -> Result<(), BuilderError>
-        ensures stands { OnOk result (Takes self.old (SchemaDefined (schema_definition_part node.now) ∷ []) self.new) }
-        ensures refused { IfErr result (λ error. RefusedAs error (SpentBy self.old (SchemaDefined (schema_definition_part node.now) ∷ []))) }
+        ensures stands { OnOk result
+            (Takes self.old (SchemaDefined (schema_definition_part node.now) ∷ []) self.new) }
+        ensures refused { IfErr result (λ error.
+            RefusedAs error (SpentBy self.old (SchemaDefined (schema_definition_part node.now) ∷ []))) }
         ensures sources { self.new.sources ≡ self.old.sources }
     {
         if let Some(previous) = &self.schema_definition {
@@ -233,8 +245,10 @@ impl Tables {
 
     /// Takes an extension of the schema.
     fn extend_schema(&mut self, node: &Node<SchemaExtension>) -> Result<(), BuilderError>
-        ensures stands { OnOk result (Takes self.old (SchemaExtended (schema_extension_part node.now) ∷ []) self.new) }
-        ensures refused { IfErr result (λ error. RefusedAs error (SpentBy self.old (SchemaExtended (schema_extension_part node.now) ∷ []))) }
+        ensures stands { OnOk result
+            (Takes self.old (SchemaExtended (schema_extension_part node.now) ∷ []) self.new) }
+        ensures refused { IfErr result (λ error.
+            RefusedAs error (SpentBy self.old (SchemaExtended (schema_extension_part node.now) ∷ []))) }
         ensures sources { self.new.sources ≡ self.old.sources }
     {
         let Some(definition) = &mut self.schema_definition else {
@@ -247,7 +261,14 @@ impl Tables {
 
     /// Notes a definition that does not belong into a schema.
     fn note_executable(&mut self, definition: &Definition) -> Result<(), AllocError>
-        ensures noted { OnOk result (self.new ≡ record self.old { faults = self.old.faults ++ (definition_location definition.now, errors.ExecutableDefinition (definition_text definition.now)) ∷ [] }) }
+        ensures noted { OnOk result (self.new
+            ≡ record self.old {
+              faults = self.old.faults
+                  ++ (
+                    definition_location definition.now,
+                    errors.ExecutableDefinition (definition_text definition.now),
+                  ) ∷ [];
+            }) }
         ensures sources { self.new.sources ≡ self.old.sources }
     {
         let error = BuildError::ExecutableDefinition {
@@ -259,7 +280,8 @@ impl Tables {
     /// Takes a definition, under this setting of whether redefinitions of built-in types are ignored.
     fn take_one(&mut self, definition: &Definition, ignores: bool) -> Result<(), BuilderError>
         ensures stands { OnOk result (Takes self.old (added_item (ignores, definition.now) ∷ []) self.new) }
-        ensures refused { IfErr result (λ error. RefusedAs error (SpentBy self.old (added_item (ignores, definition.now) ∷ []))) }
+        ensures refused { IfErr result (λ error.
+            RefusedAs error (SpentBy self.old (added_item (ignores, definition.now) ∷ []))) }
         ensures sources { self.new.sources ≡ self.old.sources }
     {
         if let DeclarationRef::Type(declaration) = DeclarationRef::of(definition) {
@@ -279,7 +301,8 @@ impl Tables {
     /// Takes definitions in order, under this setting of whether redefinitions of built-in types are ignored.
     fn take(&mut self, definitions: &[Definition], ignores: bool) -> Result<(), BuilderError>
         ensures stands { OnOk result (Takes self.old (added_items (added ignores definitions.now)) self.new) }
-        ensures refused { IfErr result (λ error. RefusedAs error (SpentBy self.old (added_items (added ignores definitions.now)))) }
+        ensures refused { IfErr result (λ error.
+            RefusedAs error (SpentBy self.old (added_items (added ignores definitions.now)))) }
         ensures sources { self.new.sources ≡ self.old.sources }
         ensures wants { OnErr result (definitions.now ≢ []) }
     {
@@ -289,12 +312,14 @@ impl Tables {
         Ok(())
     }
 
-    /// Takes a document: its definitions, and then its sources. `Memory` is out of memory; `ExtensionIds` comes only where the
-    /// numbers don't suffice for its extensions. Neither comes of a document without definitions and sources. After either
-    /// nothing is said of the tables.
+    /// Takes a document: its definitions, and then its sources. `Memory` is out of memory; `ExtensionIds`
+    /// comes only where the numbers don't suffice for its extensions. Neither comes of a document without
+    /// definitions and sources. After either nothing is said of the tables.
     pub fn take_document(&mut self, document: &Document, ignores: bool) -> Result<(), BuilderError>
-        ensures stands { OnOk result (Takes self.old (added_items (added ignores document.now.definitions)) self.new) }
-        ensures refused { IfErr result (λ error. RefusedAs error (SpentBy self.old (added_items (added ignores document.now.definitions)))) }
+        ensures stands { OnOk result
+            (Takes self.old (added_items (added ignores document.now.definitions)) self.new) }
+        ensures refused { IfErr result (λ error.
+            RefusedAs error (SpentBy self.old (added_items (added ignores document.now.definitions)))) }
         ensures sources { OnOk result (self.new.sources ≡ merged self.old.sources document.now.sources) }
         ensures wants { OnErr result (document.now.definitions ≡ [] → document.now.sources ≢ []) }
     {

@@ -11,12 +11,14 @@ use graphql_nodes::name::Name;
 use graphql_nodes::node::Node;
 use std::alloc::{AllocError, Global};
 
-/// Adds the directive definitions at the end, in order, without the built-in ones. The error is out of memory.
+/// Adds the directive definitions at the end, in order, without the built-in ones. The error is out of
+/// memory.
 pub(crate) fn write_directives(
     definitions: &Table<Name, Node<DirectiveDefinition>>,
     written: &mut Vec<Definition>,
 ) -> Result<(), AllocError>
-    ensures { OnOk result (written.new.items ≡ written.old.items ++ write_directives (values_of definitions.now)) }
+    ensures { OnOk result (written.new.items
+        ≡ written.old.items ++ write_directives (values_of definitions.now)) }
 {
     for node in definitions.values() {
         if !node.is_built_in() {
@@ -26,8 +28,8 @@ pub(crate) fn write_directives(
     Ok(())
 }
 
-/// Adds a type at the end: its definition, unless that is a built-in one, and then its extensions. The error is out of
-/// memory.
+/// Adds a type at the end: its definition, unless that is a built-in one, and then its extensions. The error
+/// is out of memory.
 pub(crate) fn write_type(
     alloc: Global,
     ty: &ExtendedType,

@@ -1,9 +1,11 @@
--- What `==` compares of types and of a schema's definition: no location and no origin, directives in order, and what stands
--- under a name as a function of its text. GraphQL specification of October 2021, sections 3.3 to 3.10.
+-- What `==` compares of types and of a schema's definition: no location and no origin, directives in order,
+-- and what stands under a name as a function of its text. GraphQL specification of October 2021, sections 3.3
+-- to 3.10.
 use Rattle.std.specs.Prelude.{ℕ, Bool, List, Option, option_map}
 use Rattle.graphql_nodes.specs.NameView.{NameView}
 use Rattle.graphql_nodes.specs.Comparing.{bare_name, entries_by_text, members_by_text}
-use Rattle.graphql_ast.specs.BareTypeSystem.{bare_field_definition, bare_enum_value_definition, bare_input_value_definition}
+use Rattle.graphql_ast.specs.BareTypeSystem.{bare_field_definition, bare_enum_value_definition}
+use Rattle.graphql_ast.specs.BareTypeSystem.{bare_input_value_definition}
 use Rattle.graphql_ast.specs.declared.directive.Directive.{Directive}
 use Rattle.graphql_ast.specs.declared.type_system.FieldDefinition.{FieldDefinition}
 use Rattle.graphql_ast.specs.declared.type_system.EnumValueDefinition.{EnumValueDefinition}
@@ -88,7 +90,11 @@ pub record BareSchemaDefinition : Type 0 where
 
 -- what `==` compares of a scalar type
 abbrev pub bare_scalar : ScalarType → BareScalar
-bare_scalar t = record { description = option_map bare_name t.description; name = bare_name t.name; directives = bare_directives t.directives }
+bare_scalar t = record {
+  description = option_map bare_name t.description;
+  name = bare_name t.name;
+  directives = bare_directives t.directives;
+}
 
 -- what `==` compares of an object type
 abbrev pub bare_object : ObjectType → BareObject

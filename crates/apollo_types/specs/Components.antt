@@ -1,5 +1,5 @@
--- The components of types and of a schema's definition, each with its origin, in order: GraphQL specification of October
--- 2021, sections 3.3 and 3.5 to 3.10.
+-- The components of types and of a schema's definition, each with its origin, in order: GraphQL specification
+-- of October 2021, sections 3.3 and 3.5 to 3.10.
 --
 -- **Origins.** The origins of the components of a type or schema definition stand in the order of the
 -- components. Each component counts, so one origin may come more than once.
@@ -26,7 +26,8 @@ use Rattle.apollo_types.specs.SchemaRoots.{deref_root}
 use Rattle.apollo_types.specs.declared.components.ComponentRef.{ComponentRef}
 use Rattle.apollo_types.specs.declared.components.ComponentRef.TheVariants as refs
 use Rattle.apollo_types.specs.declared.components.Rest.{Rest}
-use Rattle.apollo_types.specs.declared.components.Rest.TheVariants.{Nothing, Names, Fields, EnumValues, InputFields, Roots}
+use Rattle.apollo_types.specs.declared.components.Rest.TheVariants.{Nothing, Names, Fields, EnumValues}
+use Rattle.apollo_types.specs.declared.components.Rest.TheVariants.{InputFields, Roots}
 
 -- a directive as a component, with its origin
 abbrev pub of_directive : Component Directive → SourcedPart

@@ -7,7 +7,8 @@
 -- - it would be implied: there is no description, no directive and no extension, and each operation has
 --   just the root that it would have without a schema definition. That is the type of the default name
 --   where the schema has an object type of this name, and else none.
-use Rattle.std.specs.Prelude.{ℕ, List, ◌++◌, map, length, Option, None, Some, option_map, is_none, nat_eq, Bool, false, not, ◌&&◌, ◌==◌, if◌then◌else◌}
+use Rattle.std.specs.Prelude.{ℕ, List, ◌++◌, map, length, Option, None, Some, option_map, is_none, nat_eq}
+use Rattle.std.specs.Prelude.{Bool, false, not, ◌&&◌, ◌==◌, if◌then◌else◌}
 use Rattle.std.specs.List.{list_any, list_all}
 use Rattle.std.specs.Option.{option_eq}
 use Rattle.std.specs.Cmp.Lexicographic.{pointwise}
@@ -46,20 +47,27 @@ is_some_object (Some t) = is_object t
 
 -- the text of that default name, where an object type stands under it
 abbrev pub implied_name : List (NameView × ExtendedType) → OperationType → Option (List ℕ)
-implied_name types op = if is_some_object (lookup (same_text (default_name op)) types) then Some (default_type_text op) else None
+implied_name types op = if is_some_object (lookup (same_text (default_name op)) types)
+    then Some (default_type_text op) else None
 
 -- the root of the operation type is just the one that no schema definition would have to name
 abbrev pub has_implied_root : List (NameView × ExtendedType) → SchemaDefinition → OperationType → Bool
-has_implied_root types s op = option_eq (pointwise nat_eq) (option_map (λ n. n.name.text) (root_of s op)) (implied_name types op)
+has_implied_root types s op =
+    option_eq (pointwise nat_eq) (option_map (λ n. n.name.text) (root_of s op)) (implied_name types op)
 
--- there is nothing but roots of the definition, and they are those that no schema definition would have to name
+-- there is nothing but roots of the definition, and they are those that no schema definition would have to
+-- name
 abbrev pub is_implied : List (NameView × ExtendedType) → SchemaDefinition → Bool
-is_implied types s = is_none s.description && (length s.directives.0 == 0) && (length (identities (origins_in (schema_components s))) == 0) && list_all (has_implied_root types s) operation_types
+is_implied types s = is_none s.description && (length s.directives.0 == 0)
+    && (length (identities (origins_in (schema_components s))) == 0)
+    && list_all (has_implied_root types s) operation_types
 
 -- the definition is written: it has a root of its own, and says more than is implied
 abbrev pub is_written : List (NameView × ExtendedType) → SchemaDefinition → Bool
 is_written types s = has_own_root s && not (is_implied types s)
 
 -- the definition, if it is written, then an extension for each identity
-abbrev pub write_schema_definition : SchemaDefinition → Option SourceSpan → List (NameView × ExtendedType) → List Definition
-write_schema_definition s location types = written_schema (is_written types s) s.description (by_origin (schema_components s)) location
+abbrev pub write_schema_definition : SchemaDefinition → Option SourceSpan → List (NameView × ExtendedType)
+    → List Definition
+write_schema_definition s location types =
+    written_schema (is_written types s) s.description (by_origin (schema_components s)) location

@@ -2,13 +2,21 @@
 use Rattle.std.specs.Prelude.{List, [], ◌∷◌, filter_map, Option, None, option_map}
 use Rattle.std.specs.Borrow.{Bor}
 use Rattle.graphql_nodes.specs.declared.operation_type.OperationType.{OperationType}
-use Rattle.graphql_nodes.specs.declared.operation_type.OperationType.TheVariants.{Query, Mutation, Subscription}
+use Rattle.graphql_nodes.specs.declared.operation_type.OperationType.TheVariants.{Query, Mutation}
+use Rattle.graphql_nodes.specs.declared.operation_type.OperationType.TheVariants.{Subscription}
 use Rattle.apollo_component.specs.declared.component.ComponentName.{ComponentName}
 use Rattle.apollo_types.specs.declared.schema_definition.SchemaDefinition.{SchemaDefinition}
 
 -- the schema definition without description, directives and roots
 abbrev pub no_schema_definition : SchemaDefinition
-no_schema_definition = record { description = None; directives = record { 0 = [] }; query = None; mutation = None; subscription = None }
+no_schema_definition =
+    record {
+      description = None;
+      directives = record { 0 = [] };
+      query = None;
+      mutation = None;
+      subscription = None;
+    }
 
 -- the operation types, in the order of the roots
 abbrev pub operation_types : List OperationType

@@ -1,4 +1,5 @@
--- A type as one of each kind, and what its kind allows: GraphQL specification of October 2021, sections 3.4 and 3.4.2.
+-- A type as one of each kind, and what its kind allows: GraphQL specification of October 2021, sections 3.4
+-- and 3.4.2.
 use Rattle.std.specs.Prelude.{Option, None, Some, is_some, Bool, not, ◌||◌}
 use Rattle.apollo_types.specs.declared.scalar_type.ScalarType.{ScalarType}
 use Rattle.apollo_types.specs.declared.object_type.ObjectType.{ObjectType}
@@ -7,7 +8,8 @@ use Rattle.apollo_types.specs.declared.union_type.UnionType.{UnionType}
 use Rattle.apollo_types.specs.declared.enum_type.EnumType.{EnumType}
 use Rattle.apollo_types.specs.declared.input_object_type.InputObjectType.{InputObjectType}
 use Rattle.apollo_types.specs.declared.extended_type.ExtendedType.{ExtendedType}
-use Rattle.apollo_types.specs.declared.extended_type.ExtendedType.TheVariants.{Scalar, Object, Interface, Union, Enum, InputObject}
+use Rattle.apollo_types.specs.declared.extended_type.ExtendedType.TheVariants.{Scalar, Object, Interface}
+use Rattle.apollo_types.specs.declared.extended_type.ExtendedType.TheVariants.{Union, Enum, InputObject}
 
 -- the type, if it is a scalar type
 abbrev pub as_scalar : ExtendedType → Option ScalarType

@@ -22,7 +22,8 @@ use Rattle.apollo_types.specs.declared.union_type.UnionType.{UnionType}
 use Rattle.apollo_types.specs.declared.enum_type.EnumType.{EnumType}
 use Rattle.apollo_types.specs.declared.input_object_type.InputObjectType.{InputObjectType}
 use Rattle.apollo_types.specs.declared.extended_type.ExtendedType.{ExtendedType}
-use Rattle.apollo_types.specs.declared.extended_type.ExtendedType.TheVariants.{Scalar, Object, Interface, Union, Enum, InputObject}
+use Rattle.apollo_types.specs.declared.extended_type.ExtendedType.TheVariants.{Scalar, Object, Interface}
+use Rattle.apollo_types.specs.declared.extended_type.ExtendedType.TheVariants.{Union, Enum, InputObject}
 use Rattle.apollo_types.specs.declared.write_out.Head.{Head}
 
 -- the kind of a type
@@ -76,11 +77,13 @@ scalar_components t = map of_directive t.directives.0
 
 -- the components of an object type: directives, interfaces, fields
 abbrev pub object_components : ObjectType → List SourcedPart
-object_components t = (map of_directive t.directives.0 ++ map of_name t.implements_interfaces) ++ map of_field (values_of t.fields)
+object_components t = (map of_directive t.directives.0 ++ map of_name t.implements_interfaces)
+    ++ map of_field (values_of t.fields)
 
 -- the components of an interface type: directives, interfaces, fields
 abbrev pub interface_components : InterfaceType → List SourcedPart
-interface_components t = (map of_directive t.directives.0 ++ map of_name t.implements_interfaces) ++ map of_field (values_of t.fields)
+interface_components t = (map of_directive t.directives.0 ++ map of_name t.implements_interfaces)
+    ++ map of_field (values_of t.fields)
 
 -- the components of a union type: directives, members
 abbrev pub union_components : UnionType → List SourcedPart
@@ -103,10 +106,14 @@ type_components (Union n) = union_components n.value
 type_components (Enum n) = enum_components n.value
 type_components (InputObject n) = input_object_components n.value
 
--- a type with this head and these components: its definition, at this location, then an extension for each identity
+-- a type with this head and these components: its definition, at this location, then an extension for each
+-- identity
 abbrev pub headed_type : Head → List SourcedPart → Option SourceSpan → List Definition
-headed_type head components location = written_type head.kind (option_copied head.description) head.name.now (by_origin components) location
+headed_type head components location =
+    written_type head.kind (option_copied head.description) head.name.now (by_origin components) location
 
 -- the definition of a type of any kind, where the type stands, then its extensions
 abbrev pub write_type : ExtendedType → List Definition
-write_type t = written_type (type_kind t) (type_description t) (type_name t) (by_origin (type_components t)) (type_location t)
+write_type t =
+    written_type (type_kind t) (type_description t) (type_name t) (by_origin (type_components t))
+    (type_location t)

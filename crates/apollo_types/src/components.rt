@@ -4,7 +4,8 @@ ghost use Rattle.std.specs.Iterator.{UpTo, at_most};
 ghost use Rattle.std.specs.Iterator.SizeHint.{IsWithinCount, IsExactHint};
 ghost use Rattle.std.specs.Map.Iter.{TakesFirst};
 ghost use Rattle.apollo_component.specs.WriteOut.{SourcedPart, by_origin};
-ghost use Rattle.apollo_types.specs.Components.{of_directive, of_field, of_value, of_input_field, of_root, component_seen, rest_components, ComponentsInOrder};
+ghost use Rattle.apollo_types.specs.Components.{of_directive, of_field, of_value, of_input_field, of_root};
+ghost use Rattle.apollo_types.specs.Components.{component_seen, rest_components, ComponentsInOrder};
 
 use crate::root_operations::RootOperations;
 use apollo_component::component::{Component, ComponentName};
@@ -94,9 +95,11 @@ impl<'a> Rest<'a> {
         }
     }
 
-    /// Adds each component that is left, in order. The error is out of memory, after which nothing is said of the parts.
+    /// Adds each component that is left, in order. The error is out of memory, after which nothing is said of
+    /// the parts.
     fn add_to(self, alloc: Global, parts: &mut PartsByOrigin) -> Result<(), AllocError>
-        ensures { OnOk result ((cs : List SourcedPart) → parts.old ≡ by_origin cs → parts.new ≡ by_origin (cs ++ rest_components self.entry)) }
+        ensures { OnOk result ((cs : List SourcedPart) → parts.old ≡ by_origin cs
+            → parts.new ≡ by_origin (cs ++ rest_components self.entry)) }
     {
         match self {
             Rest::Nothing => {}
@@ -116,7 +119,8 @@ fn add_roots(
     roots: RootOperations<'_>,
     parts: &mut PartsByOrigin,
 ) -> Result<(), AllocError>
-    ensures { OnOk result ((cs : List SourcedPart) → parts.old ≡ by_origin cs → parts.new ≡ by_origin (cs ++ map of_root roots.entry)) }
+    ensures { OnOk result ((cs : List SourcedPart) → parts.old ≡ by_origin cs
+        → parts.new ≡ by_origin (cs ++ map of_root roots.entry)) }
 {
     for (operation_type, root) in roots {
         let name = root.name.clone()?;
@@ -126,8 +130,8 @@ fn add_roots(
     Ok(())
 }
 
-/// The components of a type or of a schema's definition, in order: directives, then names that it lists, then what stands
-/// under names, or roots. Contracts see the list of those that are still to come.
+/// The components of a type or of a schema's definition, in order: directives, then names that it lists, then
+/// what stands under names, or roots. Contracts see the list of those that are still to come.
 #[derive(Drop)]
 pub struct Components<'a> {
     directives: Iter<'a, Component<Directive>>,
@@ -148,7 +152,8 @@ impl<'a> Model for Components<'a> {
 
     ghost coded = { coded_list (coded× origin.the_row.coded part.the_row.coded) };
 
-    ghost view = { λ it. (map of_directive (iter_rest it.directives) ++ rest_components it.names) ++ rest_components it.values };
+    ghost view = { λ it. (map of_directive (iter_rest it.directives) ++ rest_components it.names)
+        ++ rest_components it.values };
 }
 
 impl<'a> Components<'a> {
@@ -158,7 +163,8 @@ impl<'a> Components<'a> {
         names: Rest<'a>,
         values: Rest<'a>,
     ) -> Components<'a>
-        ensures rest { result ≡ (map of_directive directives.now.0 ++ rest_components names.entry) ++ rest_components values.entry }
+        ensures rest { result ≡ (map of_directive directives.now.0 ++ rest_components names.entry)
+            ++ rest_components values.entry }
         ensures runs { ComponentsInOrder }
     {
         Components {
@@ -187,7 +193,8 @@ impl<'a> Iterator for Components<'a> {
 
     ghost remaining = { λ left. at_most (length left) };
 
-    /// The first component that is left, after which the rest is left. Once none is left it answers none, from then on too.
+    /// The first component that is left, after which the rest is left. Once none is left it answers none,
+    /// from then on too.
     fn next(&mut self) -> Option<ComponentRef<'a>> {
         if let Some(directive) = self.directives.next() {
             return Some(ComponentRef::Directive(directive));

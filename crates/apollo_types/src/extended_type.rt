@@ -51,8 +51,12 @@ impl Clone for ExtendedType {
 
 impl ExtendedType {
     ghost use Rattle.graphql_nodes.specs.BuiltIn.{is_built_in};
-    ghost use Rattle.apollo_types.specs.TypeKinds.{as_scalar, as_object, as_interface, as_union, as_enum, as_input_object, is_scalar, is_object, is_interface, is_union, is_enum, is_input_object, is_leaf, is_composite, is_input_type, is_output_type};
-    ghost use Rattle.apollo_types.specs.TypeWriteOut.{write_type, type_kind, type_name, type_location, type_directives, type_description};
+    ghost use Rattle.apollo_types.specs.TypeKinds.{as_scalar, as_object, as_interface, as_union, as_enum};
+    ghost use Rattle.apollo_types.specs.TypeKinds.{as_input_object, is_scalar, is_object, is_interface};
+    ghost use Rattle.apollo_types.specs.TypeKinds.{is_union, is_enum, is_input_object, is_leaf, is_composite};
+    ghost use Rattle.apollo_types.specs.TypeKinds.{is_input_type, is_output_type};
+    ghost use Rattle.apollo_types.specs.TypeWriteOut.{write_type, type_kind, type_name, type_location};
+    ghost use Rattle.apollo_types.specs.TypeWriteOut.{type_directives, type_description};
     ghost use Rattle.apollo_component.specs.Beginnings.{Begins};
 
     /// The kind of the type.
@@ -171,7 +175,8 @@ impl ExtendedType {
         }
     }
 
-    /// Whether it is a leaf type: a scalar or enum type. Only fields of other types have selections of their own (section 5.3.3).
+    /// Whether it is a leaf type: a scalar or enum type. Only fields of other types have selections of their
+    /// own (section 5.3.3).
     pub fn is_leaf(&self) -> bool
         ensures { result ≡ is_leaf self.now }
     {
@@ -195,7 +200,8 @@ impl ExtendedType {
         self.is_leaf() || self.is_input_object()
     }
 
-    /// Whether an output can be of the type: it is a scalar, object, interface, union or enum type (section 3.4.2).
+    /// Whether an output can be of the type: it is a scalar, object, interface, union or enum type (section
+    /// 3.4.2).
     pub fn is_output_type(&self) -> bool
         ensures { result ≡ is_output_type self.now }
     {
@@ -285,8 +291,8 @@ impl ExtendedType {
         }
     }
 
-    /// The type as syntax: its definition, at the type's location, then its extensions, as `to_ast` of its kind writes them. The
-    /// error is out of memory.
+    /// The type as syntax: its definition, at the type's location, then its extensions, as `to_ast` of its
+    /// kind writes them. The error is out of memory.
     pub fn to_ast(&self, alloc: Global) -> Result<Vec<Definition>, AllocError>
         ensures { IfOk result (λ written. written.items ≡ write_type self.now) }
     {
@@ -295,8 +301,8 @@ impl ExtendedType {
         Ok(written)
     }
 
-    /// Adds the type as syntax at the end, as [`to_ast`](ExtendedType::to_ast) answers it. The error is out of memory, after
-    /// which `written` begins with what it held, and may have more.
+    /// Adds the type as syntax at the end, as [`to_ast`](ExtendedType::to_ast) answers it. The error is out
+    /// of memory, after which `written` begins with what it held, and may have more.
     pub fn write_to(&self, alloc: Global, written: &mut Vec<Definition>) -> Result<(), AllocError>
         ensures added { OnOk result (written.new.items ≡ written.old.items ++ write_type self.now) }
         ensures kept { Begins written.old.items written.new.items }
@@ -316,7 +322,8 @@ impl Extensible for ExtendedType {
 
     ghost sourced = { type_components };
 
-    /// The components: directives, then interfaces, then fields; or directives, then members, values or input fields.
+    /// The components: directives, then interfaces, then fields; or directives, then members, values or input
+    /// fields.
     fn components(&self) -> Components<'_> {
         match self {
             ExtendedType::Scalar(node) => node.components(),

@@ -10,8 +10,8 @@ use apollo_component::extension::ExtensionId;
 use graphql_nodes::collections::key_set::KeySet;
 use std::alloc::{AllocError, Global};
 
-/// What extensions add to: a type, of one kind or of any, or a schema's definition. It is made of components, each of the
-/// definition or of one of its extensions.
+/// What extensions add to: a type, of one kind or of any, or a schema's definition. It is made of components,
+/// each of the definition or of one of its extensions.
 pub trait Extensible {
     ghost use Rattle.std.specs.Prelude.{List};
     ghost use Rattle.apollo_component.specs.WriteOut.{SourcedPart};
@@ -19,13 +19,14 @@ pub trait Extensible {
     /// The components, in order.
     ghost sourced: { Self → List SourcedPart };
 
-    /// The components, in order: directives, then interfaces and fields, or members, values, input fields or roots.
+    /// The components, in order: directives, then interfaces and fields, or members, values, input fields or
+    /// roots.
     fn components(&self) -> Components<'_>
         ensures rest { result ≡ sourced self.now }
         ensures runs { ComponentsInOrder };
 
-    /// The origins of the components, in their order: those of directives, then of interfaces and fields, or of members, values,
-    /// input fields, or the roots of query, mutation and subscription.
+    /// The origins of the components, in their order: those of directives, then of interfaces and fields, or
+    /// of members, values, input fields, or the roots of query, mutation and subscription.
     final fn iter_origins(&self) -> Origins<'_>
         ensures rest { result ≡ origins_in (sourced self.now) }
         ensures runs { OriginsInOrder }

@@ -17,7 +17,8 @@ use std::alloc::AllocError;
 
 /// An object type, with what its extensions add (section 3.6).
 ///
-/// Equality leaves out locations and origins, and the order of interfaces and fields. Directives are compared in order.
+/// Equality leaves out locations and origins, and the order of interfaces and fields. Directives are compared
+/// in order.
 #[derive(Debug, PartialEq, Eq)]
 pub struct ObjectType {
     pub description: Option<NodeStr>,

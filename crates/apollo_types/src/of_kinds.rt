@@ -1,6 +1,8 @@
 //! Types of any kind, made of a type of one kind: GraphQL specification of October 2021, section 3.4.
 ghost use Rattle.std.specs.Prelude.{◌≡◌, IfOk, None};
-ghost use Rattle.apollo_types.specs.declared.extended_type.ExtendedType.TheVariants.{Scalar, Object, Interface, Union, Enum, InputObject};
+ghost use Rattle.apollo_types.specs.declared.extended_type.ExtendedType.TheVariants.{Scalar, Object};
+ghost use Rattle.apollo_types.specs.declared.extended_type.ExtendedType.TheVariants.{Interface, Union, Enum};
+ghost use Rattle.apollo_types.specs.declared.extended_type.ExtendedType.TheVariants.{InputObject};
 
 use crate::enum_type::EnumType;
 use crate::extended_type::ExtendedType;

@@ -1,5 +1,5 @@
-//! The origins of the components of a type or of a schema's definition: GraphQL specification of October 2021, sections 3.3.2
-//! and 3.4.3.
+//! The origins of the components of a type or of a schema's definition: GraphQL specification of October
+//! 2021, sections 3.3.2 and 3.4.3.
 ghost use Rattle.std.specs.Prelude.{◌≡◌, length, IfSome};
 ghost use Rattle.std.specs.Iterator.{UpTo, at_most};
 ghost use Rattle.std.specs.Iterator.SizeHint.{IsWithinCount, IsExactHint};
@@ -12,8 +12,9 @@ use apollo_component::extension::ComponentOrigin;
 use std::iter::FusedIterator;
 use std::marker::Model;
 
-/// The origins of the components of a type or of a schema's definition, in order: those of directives, then of names that
-/// it lists, then of what stands under names, or of roots. Contracts see the list of those that are still to come.
+/// The origins of the components of a type or of a schema's definition, in order: those of directives, then
+/// of names that it lists, then of what stands under names, or of roots. Contracts see the list of those that
+/// are still to come.
 #[derive(Drop)]
 pub struct Origins<'a> {
     components: Components<'a>,
@@ -50,7 +51,8 @@ impl<'a> Iterator for Origins<'a> {
 
     ghost remaining = { λ left. at_most (length left) };
 
-    /// The first origin that is left, after which the rest is left. Once none is left it answers none, from then on too.
+    /// The first origin that is left, after which the rest is left. Once none is left it answers none, from
+    /// then on too.
     fn next(&mut self) -> Option<&'a ComponentOrigin> {
         Some(self.components.next()?.origin())
     }

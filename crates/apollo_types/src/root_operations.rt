@@ -13,8 +13,8 @@ use std::iter::FusedIterator;
 use std::marker::Model;
 use std::slice::Iter;
 
-/// The roots of a schema's definition, each beside its operation type: query, mutation, subscription. Contracts see the
-/// list of those that are still to come.
+/// The roots of a schema's definition, each beside its operation type: query, mutation, subscription.
+/// Contracts see the list of those that are still to come.
 #[derive(Drop)]
 pub struct RootOperations<'a> {
     definition: &'a SchemaDefinition,
@@ -54,7 +54,8 @@ impl<'a> Iterator for RootOperations<'a> {
 
     ghost remaining = { λ left. at_most (length left) };
 
-    /// The first root that is left, after which the rest is left. Once none is left it answers none, from then on too.
+    /// The first root that is left, after which the rest is left. Once none is left it answers none, from
+    /// then on too.
     fn next(&mut self) -> Option<(OperationType, &'a ComponentName)> {
         while let Some(operation_type) = self.operation_types.next() {
             if let Some(root) = self.definition.root_operation(*operation_type) {

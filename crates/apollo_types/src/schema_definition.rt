@@ -6,7 +6,9 @@ ghost use Rattle.graphql_nodes.specs.SameText.{same_text};
 ghost use Rattle.graphql_nodes.specs.Tables.{lookup};
 ghost use Rattle.apollo_types.specs.Components.{RootsInOrder};
 ghost use Rattle.apollo_types.specs.SchemaRoots.{no_schema_definition, operation_types, root_of, named_roots};
-ghost use Rattle.apollo_types.specs.SchemaDefinitionWriteOut.{schema_components, is_some_object, has_own_root, has_implied_root, is_implied, is_written, write_schema_definition};
+ghost use Rattle.apollo_types.specs.SchemaDefinitionWriteOut.{schema_components, is_some_object};
+ghost use Rattle.apollo_types.specs.SchemaDefinitionWriteOut.{has_own_root, has_implied_root, is_implied};
+ghost use Rattle.apollo_types.specs.SchemaDefinitionWriteOut.{is_written, write_schema_definition};
 
 use crate::components::{Components, Rest};
 use crate::extended_type::ExtendedType;
@@ -30,9 +32,9 @@ pub(crate) const OPERATION_TYPES: [OperationType; 3] = [
     OperationType::Subscription,
 ];
 
-/// The definition of a schema, and its extensions (section 3.3): the root of each operation type, which is to be the name of
-/// an object type (section 3.3.1), and may be any name. Equality leaves out locations and origins, but directives are compared
-/// in order.
+/// The definition of a schema, and its extensions (section 3.3): the root of each operation type, which is to
+/// be the name of an object type (section 3.3.1), and may be any name. Equality leaves out locations and
+/// origins, but directives are compared in order.
 #[derive(Debug, PartialEq, Eq)]
 pub struct SchemaDefinition {
     pub description: Option<NodeStr>,
@@ -107,11 +109,12 @@ impl SchemaDefinition {
     /// that identity's components and location. The directives are in order, and the roots in the order
     /// query, mutation, subscription. A root has the location of its name.
     ///
-    /// The schema definition is left out where none of its roots is the definition's, and where it says nothing: it has
-    /// no description, no directive and no extension, and each operation type has just the root that it would have
-    /// without a schema definition. That is the type of the default name (`Query`, `Mutation` or `Subscription`) where
-    /// `types` has an object type of this name, and else none. Where it has no root of its own, its description and its own
-    /// directives are not written. The extensions are always there.
+    /// The schema definition is left out where none of its roots is the definition's, and where it says
+    /// nothing: it has no description, no directive and no extension, and each operation type has just the
+    /// root that it would have without a schema definition. That is the type of the default name (`Query`,
+    /// `Mutation` or `Subscription`) where `types` has an object type of this name, and else none. Where it
+    /// has no root of its own, its description and its own directives are not written. The extensions are
+    /// always there.
     ///
     /// The error is out of memory.
     pub fn to_ast(
@@ -120,7 +123,8 @@ impl SchemaDefinition {
         location: Option<SourceSpan>,
         types: &Table<NamedType, ExtendedType>,
     ) -> Result<Vec<Definition>, AllocError>
-        ensures { IfOk result (λ written. written.items ≡ write_schema_definition self.now location types.now) }
+        ensures { IfOk result (λ written. written.items
+            ≡ write_schema_definition self.now location types.now) }
     {
         let is_written = self.is_written(alloc, types)?;
         let parts = self.components().by_origin(alloc)?;

@@ -30,16 +30,17 @@ pub trait TypeOfKind: Extensible {
         ensures description { option_copied result.description ≡ description self.now }
         ensures name { result.name.now ≡ name self.now };
 
-    /// The type as syntax: its definition, at this location, with the components of the definition, then an extension
-    /// for each identity of [`extensions`](Extensible::extensions), with that identity's components and location. Each
-    /// list is in the type's own order. The error is out of memory.
+    /// The type as syntax: its definition, at this location, with the components of the definition, then an
+    /// extension for each identity of [`extensions`](Extensible::extensions), with that identity's components
+    /// and location. Each list is in the type's own order. The error is out of memory.
     final fn to_ast(
         &self,
         alloc: Global,
         location: Option<SourceSpan>,
     ) -> Result<Vec<Definition>, AllocError>
         ensures { IfOk result (λ written. written.items
-            ≡ written_type kind (description self.now) (name self.now) (by_origin (Self.sourced self.now)) location) }
+            ≡ written_type kind (description self.now) (name self.now) (by_origin (Self.sourced self.now))
+            location) }
     {
         type_as_syntax(alloc, self.head(), self.components(), location)
     }

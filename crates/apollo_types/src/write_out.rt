@@ -19,7 +19,8 @@ use std::alloc::{AllocError, Global};
 
 /// Adds the identity of an origin, if it is an extension and new. The error is out of memory.
 fn add_origin(ids: &mut KeySet<ExtensionId>, origin: ComponentOrigin) -> Result<(), AllocError>
-    ensures { OnOk result ((os : List Origin) → ids.old ≡ identities os → ids.new ≡ identities (os ++ origin ∷ [])) }
+    ensures { OnOk result ((os : List Origin) → ids.old ≡ identities os
+        → ids.new ≡ identities (os ++ origin ∷ [])) }
 {
     if let ComponentOrigin::Extension(id) = origin {
         add_key(ids, id)?;
@@ -49,8 +50,8 @@ pub struct Head<'a> {
     pub(crate) name: &'a Name,
 }
 
-/// Adds the type with this head that these components make as syntax at the end: its definition, at this location, then its
-/// extensions. The error is out of memory, after which `written` begins with what it held.
+/// Adds the type with this head that these components make as syntax at the end: its definition, at this
+/// location, then its extensions. The error is out of memory, after which `written` begins with what it held.
 pub(crate) fn add_type(
     alloc: Global,
     head: Head<'_>,
@@ -58,7 +59,8 @@ pub(crate) fn add_type(
     location: Option<SourceSpan>,
     written: &mut Vec<Definition>,
 ) -> Result<(), AllocError>
-    ensures added { OnOk result (written.new.items ≡ written.old.items ++ headed_type head.entry components.entry location) }
+    ensures added { OnOk result (written.new.items
+        ≡ written.old.items ++ headed_type head.entry components.entry location) }
     ensures kept { Begins written.old.items written.new.items }
 {
     let parts = components.by_origin(alloc)?;
@@ -66,7 +68,8 @@ pub(crate) fn add_type(
     parts.write_type(alloc, head.kind, copy, head.name, location, written)
 }
 
-/// The type with this head that these components make as syntax, as [`add_type`] adds it. The error is out of memory.
+/// The type with this head that these components make as syntax, as [`add_type`] adds it. The error is out of
+/// memory.
 pub(crate) fn type_as_syntax(
     alloc: Global,
     head: Head<'_>,

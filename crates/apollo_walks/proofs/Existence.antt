@@ -1,4 +1,5 @@
--- There is an order of all selections: each fragment is opened once, so a walk is never deeper than there are fragments.
+-- There is an order of all selections: each fragment is opened once, so a walk is never deeper than there are
+-- fragments.
 use Rattle.std.proofs.Common.{◌≡◌, inl, inr, ℕ, zero, suc, ◌+◌, ◌<◌, ◌≤◌, Bool, true, false, ◌||◌, cond, List, [], ◌∷◌, Option, None, Some, refl, sym, ap, ◌∙◌, arith}
 use Rattle.graphql_nodes.specs.SameText.{same}
 use Rattle.graphql_nodes.proofs.Texts.{same-true}

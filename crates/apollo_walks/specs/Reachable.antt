@@ -1,5 +1,5 @@
--- The fragments that selections lead to, and the fields that are reached: GraphQL specification of October 2021, sections 2.8
--- and 6.3.2.
+-- The fragments that selections lead to, and the fields that are reached: GraphQL specification of October
+-- 2021, sections 2.8 and 6.3.2.
 --
 -- **Reachable.** The reachable names, to which selections lead, are the least set that has these: the names
 -- of fragments which are spread there; and, with each fragment in it, those which are spread in that
@@ -8,7 +8,8 @@
 -- fragment that is reachable. **N** (`selections_in_reach`) is the number of all selections, nested ones too,
 -- of the start and of each reachable fragment.
 use Rattle.std.specs.Prelude.{◌≡◌, ◌⊎◌, ℕ, true, List, [], ◌∷◌, ◌++◌, flat_map, Option, None, Some}
-use Rattle.apollo_walks.specs.Selections.{Selections, Fragments, Names, fragment_of, occurrences, spread_names}
+use Rattle.apollo_walks.specs.Selections.{Selections, Fragments, Names, fragment_of, occurrences}
+use Rattle.apollo_walks.specs.Selections.{spread_names}
 
 -- it is one of them
 abbrev pub Among : {A : Type 0} → A → List A → Type 0
@@ -58,8 +59,8 @@ module _ {F : Type 0} where
   abbrev pub occurrences_in : Fragments F → List (List ℕ) → List F
   occurrences_in fragments = flat_map (λ n. at_fragment [] occurrences (fragment_of fragments n))
 
-  -- the fields that are reached from s, as often as each stands there, where these are the names that s leads to: those of s
-  -- and those of each fragment, each fragment once
+  -- the fields that are reached from s, as often as each stands there, where these are the names that s leads
+  -- to: those of s and those of each fragment, each fragment once
   abbrev pub reachable_occurrences : Fragments F → Selections F → List (List ℕ) → List F
   reachable_occurrences fragments s names = occurrences s ++ occurrences_in fragments names
 

@@ -8,8 +8,8 @@
 use Rattle.std.specs.Prelude.{ℕ, Bool, false, ◌||◌, cond, List, [], ◌∷◌, ◌++◌, Option, None, Some}
 use Rattle.graphql_nodes.specs.SameText.{same}
 
--- a list of selections, its first one and then the others. A field has what a walk meets below it, a spread the text of its
--- name
+-- a list of selections, its first one and then the others. A field has what a walk meets below it, a spread
+-- the text of its name
 pub data Selections (F : Type 0) : Type 0 where
   none : Selections F
   field : F → Selections F → Selections F → Selections F

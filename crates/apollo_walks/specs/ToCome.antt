@@ -21,7 +21,8 @@ module _ {F : Type 0} where
   turns_of_lists [] = 0
   turns_of_lists (s ∷ ss) = whole_turns s + turns_of_lists ss
 
--- the fields that are still to come, the names that are opened at the end, and the turns that are still to come
+-- the fields that are still to come, the names that are opened at the end, and the turns that are still to
+-- come
 pub record ToCome (F : Type 0) : Type 0 where
   pub fields : List F
   pub opened : Names

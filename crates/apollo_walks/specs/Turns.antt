@@ -1,5 +1,6 @@
--- The turns of a walk. A turn is one look at the innermost open list: one selection taken, or one list found empty and closed.
--- A list is opened for each inline fragment, for each fragment that is opened, and for each field that has selections.
+-- The turns of a walk. A turn is one look at the innermost open list: one selection taken, or one list found
+-- empty and closed. A list is opened for each inline fragment, for each fragment that is opened, and for each
+-- field that has selections.
 --
 -- **All turns.** All turns (`AreAllTurns`) of a walk are the sum of these: one; one for each reachable
 -- fragment; and, of the start and of each reachable fragment, one for each selection, for each inline

@@ -1,4 +1,5 @@
--- The order of a walk, in which each field comes before those below it, and a fragment where it is spread first.
+-- The order of a walk, in which each field comes before those below it, and a fragment where it is spread
+-- first.
 --
 -- **Order of walks.** `Order` relates the names that are opened before, selections, the fields that these
 -- give, and the names that they open. Both the fields and these names come one after the other. No selection
@@ -6,9 +7,11 @@
 -- selections, then the rest. A spread of a name that no fragment has, or that is opened, gives the rest. Any
 -- other one opens its name and gives the fragment's selections, then the rest.
 use Rattle.std.specs.Prelude.{◌≡◌, ◌⊎◌, ℕ, true, false, List, [], ◌∷◌, ◌++◌, None, Some}
-use Rattle.apollo_walks.specs.Selections.{Selections, none, field, spread, inline, Fragments, Names, with_name, with_names, fragment_of}
+use Rattle.apollo_walks.specs.Selections.{Selections, none, field, spread, inline, Fragments, Names}
+use Rattle.apollo_walks.specs.Selections.{with_name, with_names, fragment_of}
 
--- where these names are opened, the selections give these fields, one after the other, and open those names, one after the other
+-- where these names are opened, the selections give these fields, one after the other, and open those names,
+-- one after the other
 pub data Order {F : Type 0} (fragments : Fragments F) : Names → Selections F → List F → List (List ℕ)
     → Type 0 where
   -- no selection gives no field
@@ -27,7 +30,8 @@ pub data Order {F : Type 0} (fragments : Fragments F) : Names → Selections F �
   of_passed : {before : Names} {n : List ℕ} {rest : Selections F} {fields : List F} {opened : List (List ℕ)}
       → (before n ≡ true) ⊎ (fragment_of fragments n ≡ None) → Order fragments before rest fields opened
       → Order fragments before (spread n rest) fields opened
-  -- any other spread opens the name, then gives its fragment, then the rest: the last two as an inline fragment does
+  -- any other spread opens the name, then gives its fragment, then the rest: the last two as an inline
+  -- fragment does
   of_fragment : {before : Names} {n : List ℕ} {set rest : Selections F} {fields : List F} {opened : List
       (List ℕ)}
       → before n ≡ false → fragment_of fragments n ≡ Some set

@@ -1,5 +1,5 @@
-//! Laws of walks, for those who build on what a walk gives. Each law is a function that does nothing: a proof cites it by a
-//! call.
+//! Laws of walks, for those who build on what a walk gives. Each law is a function that does nothing: a proof
+//! cites it by a call.
 //!
 //! `F` stands for the fields, whatever they are.
 ghost use Rattle.std.specs.Prelude.{◌≡◌, ◌≤◌, ◌+◌, ◌*◌, ◌↔◌, ◌∷◌, [], ℕ, List, Some, true, codes};
@@ -13,13 +13,14 @@ ghost use Rattle.apollo_walks.specs.Turns.{AreAllTurns, AreWithinTurns, turns_in
 ghost use Rattle.apollo_walks.specs.Whole.{IsWalk};
 ghost use Rattle.apollo_walks.specs.WorkedWalk.{worked_start, worked_first, worked_fragments};
 
-/// There is a walk over any selections, cyclic ones too. It gives each field that is reached exactly as often as it stands there, in
-/// the order of walks. GraphQL specification of October 2021, sections 2.8 and 6.3.2.
+/// There is a walk over any selections, cyclic ones too. It gives each field that is reached exactly as often
+/// as it stands there, in the order of walks. GraphQL specification of October 2021, sections 2.8 and 6.3.2.
 pub fn walks_reach_each_field_once<F>()
     ensures { (fragments : Fragments F) (s : Selections F) → (fields : List F) × IsWalk fragments s fields }
 {}
 
-/// The order of walks leaves no choice: from the same opened names, the same selections give the same fields, and open the same names.
+/// The order of walks leaves no choice: from the same opened names, the same selections give the same fields,
+/// and open the same names.
 pub fn walks_have_one_order<F>()
     ensures { (fragments : Fragments F) (before : Names) (s : Selections F) (fs gs : List F)
         (ms ns : List (List ℕ))
@@ -53,10 +54,10 @@ pub fn walks_open_what_is_reached<F>()
         → (set : Selections F) × (fragment_of fragments n ≡ Some set) }
 {}
 
-/// What is to come of a walk that has some lists open leaves no choice, and comes turn by turn: an empty list is closed; a field is
-/// given, and what is below it opened; the list of an inline fragment is opened; and a spread is passed over where its name is opened
-/// or has no fragment, and else opens both. There is a turn left while a list is open. A walk begins with one list, and then all of it
-/// is to come.
+/// What is to come of a walk that has some lists open leaves no choice, and comes turn by turn: an empty list
+/// is closed; a field is given, and what is below it opened; the list of an inline fragment is opened; and a
+/// spread is passed over where its name is opened or has no fragment, and else opens both. There is a turn
+/// left while a list is open. A walk begins with one list, and then all of it is to come.
 pub fn walks_go_turn_by_turn<F>()
     ensures some { (fragments : Fragments F) (before : Names) (lists : List (Selections F))
         → (x : ToCome F) × IsToCome fragments before lists x }
@@ -67,8 +68,8 @@ pub fn walks_go_turn_by_turn<F>()
         → IsToCome fragments no_names (s ∷ []) x → IsAllToCome fragments s x }
 {}
 
-/// The turns of a walk over any selections: one, and one for each fragment that is reached, and those of the selections and
-/// of each of these fragments. They are at most two for each selection in reach, and one.
+/// The turns of a walk over any selections: one, and one for each fragment that is reached, and those of the
+/// selections and of each of these fragments. They are at most two for each selection in reach, and one.
 pub fn walks_take_few_turns<F>()
     ensures all { (fragments : Fragments F) (s : Selections F) → (turns : ℕ) × AreAllTurns fragments s turns }
     ensures few { (fragments : Fragments F) (s : Selections F) (turns : ℕ) → AreAllTurns fragments s turns
@@ -87,7 +88,8 @@ pub fn reachable_names_are_one_list<F>()
         → turns_in_reach fragments s ns ≤ 2 * selections_in_reach fragments s ns + 1 }
 {}
 
-/// Worked walks over fragments that spread one another: from outside, and from one of them, which is opened again.
+/// Worked walks over fragments that spread one another: from outside, and from one of them, which is opened
+/// again.
 pub fn worked_walks()
     ensures outside { Order worked_fragments no_names worked_start (codes "b" ∷ codes "a" ∷ codes "c" ∷ [])
         (codes "F" ∷ codes "G" ∷ []) }

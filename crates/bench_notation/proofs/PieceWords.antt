@@ -60,7 +60,8 @@ module _ {text bytes : List ℕ} (same : bytes ≡ text) (at : ℕ) where
       let front : slice_range text 0 at ≡ take at text = grind (arith, common_steps) in
       rw front (piece_ends 10 text at (within_text within) none (sym byte_at ∙ feed))
 
--- no line feed stands before a place, and these are the words before the one that begins at `from` and goes on there
+-- no line feed stands before a place, and these are the words before the one that begins at `from` and goes
+-- on there
 pub record HasWords (text : List ℕ) (words : List (List ℕ)) (from at : ℕ) : Type 0 where
   pub starts : IsCharBoundary text from
   pub order : from ≤ at

@@ -1,5 +1,6 @@
 -- What components add to the item that is being read: docs/NOTATION.md.
-use Rattle.std.specs.Prelude.{ℕ, ◌-◌, List, [], ◌∷◌, ◌++◌, length, slice_get, Bool, true, false, Option, None, Some, option_map}
+use Rattle.std.specs.Prelude.{ℕ, ◌-◌, List, [], ◌∷◌, ◌++◌, length, slice_get, Bool, true, false, Option, None}
+use Rattle.std.specs.Prelude.{Some, option_map}
 use Rattle.graphql_ast.specs.Declarations.{made_type, made_schema}
 use Rattle.graphql_ast.specs.Parts.{directive_list, no_parts, with_part}
 use Rattle.graphql_ast.specs.declared.parts.Part.{Part}
@@ -54,7 +55,8 @@ input_value name ty directives location = node_at location record {
 
 -- a value of an enum
 abbrev pub enum_value : NameView → SourceSpan → NodeView EnumValueDefinition
-enum_value name location = node_at location record { description = None; value = name; directives = record { 0 = [] } }
+enum_value name location =
+    node_at location record { description = None; value = name; directives = record { 0 = [] } }
 
 -- a root of the schema
 abbrev pub root_operation : OperationType → NameView → SourceSpan → NodeView (OperationType × NameView)
@@ -62,7 +64,8 @@ root_operation operation name location = node_at location (operation, name)
 
 -- a field alone
 abbrev pub field_alone : NameView → TypeReference → SourceSpan → OpenField
-field_alone name ty location = record { location = location; name = name; ty = ty; arguments = []; directives = record { 0 = [] } }
+field_alone name ty location =
+    record { location = location; name = name; ty = ty; arguments = []; directives = record { 0 = [] } }
 
 -- a field with its arguments and directives
 abbrev pub field_node : OpenField → NodeView FieldDefinition
@@ -84,7 +87,15 @@ no_directive_parts = record { arguments = []; is_repeatable = false; locations =
 
 -- a header alone
 abbrev pub header_alone : Header → SourceSpan → OpenItem
-header_alone header location = record { location = location; header = header; parts = no_parts; directive = no_directive_parts; last_field = None; selections = [] }
+header_alone header location =
+    record {
+      location = location;
+      header = header;
+      parts = no_parts;
+      directive = no_directive_parts;
+      last_field = None;
+      selections = [];
+    }
 
 -- at how many depths a selection may stand below this one, and at one where there is none
 abbrev pub levels_behind : Option SelectionLine → ℕ
@@ -120,11 +131,18 @@ with_last is_input (Some field) parts = with_part (field_part is_input field) pa
 
 -- an item whose last field has all of its parts
 abbrev pub field_closed : OpenItem → OpenItem
-field_closed item = record item { parts = with_last (is_input_object item.header) item.last_field item.parts; last_field = None }
+field_closed item = record item {
+  parts = with_last (is_input_object item.header) item.last_field item.parts;
+  last_field = None;
+}
 
 -- an item and one directive more of its last field
 abbrev pub with_field_directive : NodeView Directive → OpenItem → OpenItem
-with_field_directive directive item = record item { last_field = option_map (λ (field : OpenField). record field { directives = record { 0 = field.directives.0 ++ directive ∷ [] } }) item.last_field }
+with_field_directive directive item =
+    record item {
+      last_field = option_map (λ (field : OpenField).
+          record field { directives = record { 0 = field.directives.0 ++ directive ∷ [] } }) item.last_field;
+    }
 
 -- a field and one argument more
 abbrev pub with_field_argument : NodeView InputValueDefinition → OpenField → OpenField
@@ -132,8 +150,15 @@ with_field_argument argument field = record field { arguments = field.arguments 
 
 -- an argument more of the last field, or where there is none, of the item
 abbrev pub with_argument_below : NodeView InputValueDefinition → Option OpenField → OpenItem → OpenItem
-with_argument_below argument None item = record item { directive = record item.directive { arguments = item.directive.arguments ++ argument ∷ [] } }
-with_argument_below argument (Some field) item = record item { last_field = Some (with_field_argument argument field) }
+with_argument_below argument None item =
+    record item {
+      directive = record item.directive {
+        arguments = item.directive.arguments
+            ++ argument ∷ [];
+      };
+    }
+with_argument_below argument (Some field) item =
+    record item { last_field = Some (with_field_argument argument field) }
 
 -- an item and one argument more: of its last field, if it has one, or else of the item itself
 abbrev pub with_argument : NodeView InputValueDefinition → OpenItem → OpenItem
@@ -145,26 +170,65 @@ with_own_part part item = record item { parts = with_part part item.parts }
 
 -- an item and one component more
 abbrev pub with_component : Component → SourceSpan → OpenItem → OpenItem
-with_component (c.Directive name) location item = with_own_part (p.Directive (applied_directive name location)) item
+with_component (c.Directive name) location item =
+    with_own_part (p.Directive (applied_directive name location)) item
 with_component (c.Implements name) location item = with_own_part (p.Name name) item
-with_component (c.Field name ty) location item = record (field_closed item) { last_field = Some (field_alone name ty location) }
-with_component (c.FieldDirective name) location item = with_field_directive (applied_directive name location) item
-with_component (c.Argument name ty) location item = with_argument (input_value name ty (record { 0 = [] }) location) item
+with_component (c.Field name ty) location item =
+    record (field_closed item) { last_field = Some (field_alone name ty location) }
+with_component (c.FieldDirective name) location item =
+    with_field_directive (applied_directive name location) item
+with_component (c.Argument name ty) location item =
+    with_argument (input_value name ty (record { 0 = [] }) location) item
 with_component (c.Member name) location item = with_own_part (p.Name name) item
 with_component (c.Value name) location item = with_own_part (p.EnumValue (enum_value name location)) item
-with_component (c.On directive_location) location item = record item { directive = record item.directive { locations = item.directive.locations ++ directive_location ∷ [] } }
-with_component c.Repeatable location item = record item { directive = record item.directive { is_repeatable = true } }
-with_component (c.Root operation name) location item = with_own_part (p.Root (root_operation operation name location)) item
-with_component (c.Selection depth selected) location item = record item { selections = item.selections ++ record { depth = depth; location = location; selected = selected } ∷ [] }
+with_component (c.On directive_location) location item =
+    record item {
+      directive = record item.directive {
+        locations = item.directive.locations
+            ++ directive_location ∷ [];
+      };
+    }
+with_component c.Repeatable location item =
+    record item { directive = record item.directive { is_repeatable = true } }
+with_component (c.Root operation name) location item =
+    with_own_part (p.Root (root_operation operation name location)) item
+with_component (c.Selection depth selected) location item =
+    record item {
+      selections = item.selections ++ record {
+        depth = depth;
+        location = location;
+        selected = selected;
+      } ∷ [];
+    }
 
 -- the definition of a directive
 abbrev pub directive_definition : NameView → DirectiveParts → SourceSpan → Definition
-directive_definition name parts location = d.DirectiveDefinition (node_at location record { description = None; name = name; arguments = parts.arguments; repeatable = parts.is_repeatable; locations = parts.locations })
+directive_definition name parts location =
+    d.DirectiveDefinition (node_at location record {
+      description = None;
+      name = name;
+      arguments = parts.arguments;
+      repeatable = parts.is_repeatable;
+      locations = parts.locations;
+    })
 
 -- an operation or fragment with these directives and selections
 abbrev pub executable_definition : ExecutableHeader → DirectiveList → List Selection → SourceSpan → Definition
-executable_definition (x.Operation operation name) directives selections location = d.OperationDefinition (node_at location record { operation_type = operation; name = name; variables = []; directives = directives; selection_set = selections })
-executable_definition (x.Fragment name condition) directives selections location = d.FragmentDefinition (node_at location record { name = name; type_condition = condition; directives = directives; selection_set = selections })
+executable_definition (x.Operation operation name) directives selections location =
+    d.OperationDefinition (node_at location record {
+      operation_type = operation;
+      name = name;
+      variables = [];
+      directives = directives;
+      selection_set = selections;
+    })
+executable_definition (x.Fragment name condition) directives selections location =
+    d.FragmentDefinition (node_at location record {
+      name = name;
+      type_condition = condition;
+      directives = directives;
+      selection_set = selections;
+    })
 
 -- the definition or extension of a header with these components
 abbrev pub definition_with : Header → Parts → DirectiveParts → List SelectionLine → SourceSpan → Definition
@@ -176,7 +240,8 @@ definition_with (h.Type role kind name) parts directive lines location = made_ty
   location = Some location;
   parts = parts;
 })
-definition_with (h.Directive name) parts directive lines location = directive_definition name directive location
+definition_with (h.Directive name) parts directive lines location =
+    directive_definition name directive location
 definition_with (h.Schema role) parts directive lines location = made_schema (record {
   is_extension = is_extension role;
   description = None;
@@ -188,4 +253,5 @@ definition_with (h.Executable header) parts directive lines location =
 
 -- the definition or extension that an item says
 abbrev pub whole_item : OpenItem → Definition
-whole_item item = definition_with item.header (field_closed item).parts item.directive item.selections item.location
+whole_item item =
+    definition_with item.header (field_closed item).parts item.directive item.selections item.location

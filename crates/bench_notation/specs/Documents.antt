@@ -1,5 +1,6 @@
 -- What documents the lines of a text say: docs/NOTATION.md.
-use Rattle.std.specs.Prelude.{ℕ, List, [], ◌∷◌, ◌≡◌, ◌++◌, ◌+◌, ◌<◌, All, Bool, true, false, get_or, length, take, Option, None, Some, option_map}
+use Rattle.std.specs.Prelude.{ℕ, List, [], ◌∷◌, ◌≡◌, ◌++◌, ◌+◌, ◌<◌, All, Bool, true, false, get_or, length}
+use Rattle.std.specs.Prelude.{take, Option, None, Some, option_map}
 use Rattle.graphql_nodes.specs.declared.source.SourceSpan.{SourceSpan}
 use Rattle.graphql_ast.specs.declared.definition.Definition.{Definition}
 use Rattle.graphql_ast.specs.declared.document.Document.{Document}
@@ -35,11 +36,24 @@ nothing_read division = record { division = division; documents = []; document =
 
 -- after the end of an item
 abbrev pub item_ended : DocumentReader → DocumentReader
-item_ended reader = record reader { document = record reader.document { definitions = with_item reader.document.definitions reader.item }; item = None }
+item_ended reader =
+    record reader {
+      document = record reader.document {
+        definitions = with_item reader.document.definitions
+            reader.item;
+      };
+      item = None;
+    }
 
 -- after the end of a document
 abbrev pub document_ended : DocumentReader → DocumentReader
-document_ended reader = record { division = reader.division; documents = reader.documents ++ (item_ended reader).document ∷ []; document = no_definitions; item = None }
+document_ended reader =
+    record {
+      division = reader.division;
+      documents = reader.documents ++ (item_ended reader).document ∷ [];
+      document = no_definitions;
+      item = None;
+    }
 
 -- after the end of the documents before a division
 abbrev pub divided : DocumentReader → DocumentReader
@@ -50,8 +64,10 @@ abbrev pub line_added : Line → SourceSpan → DocumentReader → DocumentReade
 line_added l.Empty location reader = reader
 line_added l.Break location reader = document_ended reader
 line_added l.Division location reader = divided reader
-line_added (l.Header header) location reader = record (item_ended reader) { item = Some (header_alone header location) }
-line_added (l.Component component) location reader = record reader { item = option_map (with_component component location) reader.item }
+line_added (l.Header header) location reader =
+    record (item_ended reader) { item = Some (header_alone header location) }
+line_added (l.Component component) location reader =
+    record reader { item = option_map (with_component component location) reader.item }
 
 -- what stands above the next line, where this item is being read, or none
 abbrev pub above_next : Option OpenItem → Above
@@ -84,7 +100,8 @@ pub record Takes (text : List ℕ) (location : SourceSpan) (old new : DocumentRe
 -- these lines, of which the first has this number, lead from a state of the reading to another
 abbrev pub LeadTo : ℕ → List (List ℕ) → DocumentReader → DocumentReader → Type 0
 LeadTo number [] old new = old ≡ new
-LeadTo number (text ∷ texts) old new = (next : DocumentReader) × (Takes text (line_location number) old next × LeadTo (number + 1) texts next new)
+LeadTo number (text ∷ texts) old new = (next : DocumentReader)
+    × (Takes text (line_location number) old next × LeadTo (number + 1) texts next new)
 
 -- the documents that a text says: its lines lead to them, counted from 1, and none divides them
 pub record AreDocumentsOf (text : List ℕ) (documents : List Document) : Type 0 where
@@ -103,9 +120,10 @@ pub record AreDividedDocumentsOf (text : List ℕ) (schema executable : List Doc
   -- the documents behind that line
   pub behind : executable ≡ (document_ended end).documents
 
--- read from a state of the reading, the refused line is one of these lines; those before it say something, and where
--- they lead, it says nothing that may stand there
-pub record IsFirstRefusedFrom (start : DocumentReader) (lines : List (List ℕ)) (refused : RefusedLine) : Type 0 where
+-- read from a state of the reading, the refused line is one of these lines; those before it say something,
+-- and where they lead, it says nothing that may stand there
+pub record IsFirstRefusedFrom (start : DocumentReader) (lines : List (List ℕ)) (refused : RefusedLine) :
+    Type 0 where
   -- how many lines stand before the refused one
   pub before : ℕ
   -- lines are counted from 1

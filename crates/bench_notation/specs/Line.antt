@@ -1,5 +1,6 @@
 -- What the lines of the notation say: docs/NOTATION.md.
-use Rattle.std.specs.Prelude.{ℕ, List, [], ◌∷◌, ◌≡◌, ◌==◌, ◌≤◌, ◌+◌, Option, None, Some, IfSome, codes, decimal, length, map}
+use Rattle.std.specs.Prelude.{ℕ, List, [], ◌∷◌, ◌≡◌, ◌==◌, ◌≤◌, ◌+◌, Option, None, Some, IfSome, codes}
+use Rattle.std.specs.Prelude.{decimal, length, map}
 use Rattle.std.specs.Borrow.{Bor}
 use Rattle.std.specs.List.{slice_split}
 use Rattle.graphql_nodes.specs.NameView.{NameView}
@@ -63,11 +64,13 @@ AreName location words name = (words ≡ name.text ∷ []) × IsNameAt location 
 
 -- these words are a name and a type that stand at this location
 abbrev pub AreNameAndType : SourceSpan → List (List ℕ) → NameView → TypeReference → Type 0
-AreNameAndType location words name ty = (words ≡ name.text ∷ type_text ty ∷ []) × (IsNameAt location name × IsTypeAt location ty)
+AreNameAndType location words name ty = (words ≡ name.text ∷ type_text ty ∷ [])
+    × (IsNameAt location name × IsTypeAt location ty)
 
 -- these words are a kind of operation, and a name that stands at this location
 abbrev pub AreRoot : SourceSpan → List (List ℕ) → OperationType → NameView → Type 0
-AreRoot location words operation name = (words ≡ operation_text operation ∷ name.text ∷ []) × IsNameAt location name
+AreRoot location words operation name = (words ≡ operation_text operation ∷ name.text ∷ [])
+    × IsNameAt location name
 
 -- the name that there is, if there is one, stands at this location
 abbrev pub IsOptionalNameAt : SourceSpan → Option NameView → Type 0
@@ -84,15 +87,18 @@ AreOptionalName location words name = (words ≡ optional_word name) × IsOption
 
 -- these words are a name, and an alias behind it or none, that stand at this location
 abbrev pub AreNameAndAlias : SourceSpan → List (List ℕ) → NameView → Option NameView → Type 0
-AreNameAndAlias location words name alias = (words ≡ name.text ∷ optional_word alias) × (IsNameAt location name × IsOptionalNameAt location alias)
+AreNameAndAlias location words name alias = (words ≡ name.text ∷ optional_word alias)
+    × (IsNameAt location name × IsOptionalNameAt location alias)
 
 -- these words are a kind of operation, and a name that stands at this location or the word for none
 abbrev pub AreOperation : SourceSpan → List (List ℕ) → OperationType → Option NameView → Type 0
-AreOperation location words operation name = (words ≡ operation_text operation ∷ name_word name ∷ []) × IsOptionalNameAt location name
+AreOperation location words operation name = (words ≡ operation_text operation ∷ name_word name ∷ [])
+    × IsOptionalNameAt location name
 
 -- these words are a fragment's name and that of its type, which stand at this location
 abbrev pub AreFragment : SourceSpan → List (List ℕ) → NameView → NameView → Type 0
-AreFragment location words name condition = (words ≡ name.text ∷ condition.text ∷ []) × (IsNameAt location name × IsNameAt location condition)
+AreFragment location words name condition = (words ≡ name.text ∷ condition.text ∷ [])
+    × (IsNameAt location name × IsNameAt location condition)
 
 -- the words of what is selected
 abbrev pub selected_words : Selected → List (List ℕ)
@@ -116,7 +122,8 @@ IsDepth depth = depth ≤ 200
 
 -- these words are a depth and what is selected, whose names stand at this location
 abbrev pub AreSelection : SourceSpan → List (List ℕ) → ℕ → Selected → Type 0
-AreSelection location words depth selected = (words ≡ decimal depth ∷ selected_words selected) × (IsDepth depth × IsSelectedAt location selected)
+AreSelection location words depth selected = (words ≡ decimal depth ∷ selected_words selected)
+    × (IsDepth depth × IsSelectedAt location selected)
 
 -- a word, then a name that stands at this location
 abbrev pub SaysName : SourceSpan → List (List ℕ) → List ℕ → NameView → Type 0
@@ -124,20 +131,27 @@ SaysName location words word name = (words ≡ word ∷ name.text ∷ []) × IsN
 
 -- a word, then a name and a type that stand at this location
 abbrev pub SaysNameAndType : SourceSpan → List (List ℕ) → List ℕ → NameView → TypeReference → Type 0
-SaysNameAndType location words word name ty = (words ≡ word ∷ name.text ∷ type_text ty ∷ []) × (IsNameAt location name × IsTypeAt location ty)
+SaysNameAndType location words word name ty = (words ≡ word ∷ name.text ∷ type_text ty ∷ [])
+    × (IsNameAt location name × IsTypeAt location ty)
 
 -- a word, then a kind of operation, and a name that stands at this location
 abbrev pub SaysRoot : SourceSpan → List (List ℕ) → List ℕ → OperationType → NameView → Type 0
-SaysRoot location words word operation name = (words ≡ word ∷ operation_text operation ∷ name.text ∷ []) × IsNameAt location name
+SaysRoot location words word operation name = (words ≡ word ∷ operation_text operation ∷ name.text ∷ [])
+    × IsNameAt location name
 
 -- what the header line of an operation or fragment says
 abbrev pub SaysExecutable : SourceSpan → List (List ℕ) → ExecutableHeader → Type 0
-SaysExecutable location words (x.Operation operation name) = (words ≡ codes "operation" ∷ operation_text operation ∷ name_word name ∷ []) × IsOptionalNameAt location name
-SaysExecutable location words (x.Fragment name condition) = (words ≡ codes "fragment" ∷ name.text ∷ condition.text ∷ []) × (IsNameAt location name × IsNameAt location condition)
+SaysExecutable location words (x.Operation operation name) =
+    (words ≡ codes "operation" ∷ operation_text operation ∷ name_word name ∷ [])
+    × IsOptionalNameAt location name
+SaysExecutable location words (x.Fragment name condition) =
+    (words ≡ codes "fragment" ∷ name.text ∷ condition.text ∷ [])
+    × (IsNameAt location name × IsNameAt location condition)
 
 -- what a header line says
 abbrev pub SaysHeader : SourceSpan → List (List ℕ) → Header → Type 0
-SaysHeader location words (h.Type role kind name) = (words ≡ role_word role ∷ kind_word kind ∷ name.text ∷ []) × IsNameAt location name
+SaysHeader location words (h.Type role kind name) = (words ≡ role_word role ∷ kind_word kind ∷ name.text ∷ [])
+    × IsNameAt location name
 SaysHeader location words (h.Directive name) = SaysName location words (codes "directive") name
 SaysHeader location words (h.Schema role) = words ≡ schema_word role ∷ []
 SaysHeader location words (h.Executable header) = SaysExecutable location words header
@@ -151,10 +165,13 @@ SaysComponent location words (c.FieldDirective name) = SaysName location words (
 SaysComponent location words (c.Argument name ty) = SaysNameAndType location words (codes "arg") name ty
 SaysComponent location words (c.Member name) = SaysName location words (codes "member") name
 SaysComponent location words (c.Value name) = SaysName location words (codes "value") name
-SaysComponent location words (c.On directive_location) = words ≡ codes "on" ∷ location_text directive_location ∷ []
+SaysComponent location words (c.On directive_location) =
+    words ≡ codes "on" ∷ location_text directive_location ∷ []
 SaysComponent location words c.Repeatable = words ≡ codes "repeatable" ∷ []
 SaysComponent location words (c.Root operation name) = SaysRoot location words (codes "root") operation name
-SaysComponent location words (c.Selection depth selected) = (words ≡ codes "sel" ∷ decimal depth ∷ selected_words selected) × (IsDepth depth × IsSelectedAt location selected)
+SaysComponent location words (c.Selection depth selected) =
+    (words ≡ codes "sel" ∷ decimal depth ∷ selected_words selected)
+    × (IsDepth depth × IsSelectedAt location selected)
 
 -- what a line of these words says that is not empty
 abbrev pub SayLine : SourceSpan → List (List ℕ) → Line → Type 0

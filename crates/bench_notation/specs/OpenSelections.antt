@@ -11,7 +11,9 @@ use Rattle.bench_notation.specs.declared.nesting.Nesting.{Nesting}
 -- it; and of the last one these are known
 abbrev pub combined_at : ℕ → List OpenSelection → List Selection → List SelectionLine → List Selection
 combined_at depth [] selections lines = selections ++ selections_at depth lines
-combined_at depth (outer ∷ inner) selections lines = outer.before ++ selection_of outer.line (combined_at (depth + 1) inner selections lines) ∷ selections_at depth lines
+combined_at depth (outer ∷ inner) selections lines =
+    outer.before ++ selection_of outer.line (combined_at (depth + 1) inner selections lines)
+    ∷ selections_at depth lines
 
 -- the selections that those known and the lines to come make
 abbrev pub combined : Nesting → List SelectionLine → List Selection

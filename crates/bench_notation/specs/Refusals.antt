@@ -21,7 +21,8 @@ WhenRefused P e.Memory = Unit {0}
 
 -- no type of at most this many brackets is this word
 abbrev pub IsNoType : ℕ → List ℕ → Type 0
-IsNoType brackets word = (ty : TypeReference) → type_text ty ≡ word → opened_brackets ty ≤ brackets → ¬ IsName (inner_name ty).text
+IsNoType brackets word = (ty : TypeReference) → type_text ty ≡ word → opened_brackets ty ≤ brackets
+    → ¬ IsName (inner_name ty).text
 
 -- a word without its last `!`, and whether it had one
 abbrev pub IsBody : List ℕ → List ℕ → Bool → Type 0
@@ -30,7 +31,8 @@ IsBody word body false = (word ≡ body) × ((front : List ℕ) → ¬ (word ≡
 
 -- no component that may stand below this is said by these words
 abbrev pub SayNoComponent : Above → SourceSpan → List (List ℕ) → Type 0
-SayNoComponent above location words = (component : Component) → SaysComponent location words component → ¬ (stands above component ≡ true)
+SayNoComponent above location words = (component : Component) → SaysComponent location words component
+    → ¬ (stands above component ≡ true)
 
 -- no line that may stand here and is not empty is said by these words
 abbrev pub SayNoLine : Position → SourceSpan → List (List ℕ) → Type 0

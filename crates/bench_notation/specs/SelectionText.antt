@@ -29,11 +29,13 @@ spread_text spread depth = head_text depth (codes "spread ") ++ spread.fragment_
 
 -- a field with its alias, if it has one; then its selections, one deeper
 abbrev pub field_step : Field-F Text Text Text → Text
-field_step field depth = head_text depth (codes "field ") ++ field.name.text ++ last_text field.alias ++ flat_map (λ (text : Text). text (depth + 1)) field.selection_set
+field_step field depth = head_text depth (codes "field ") ++ field.name.text ++ last_text field.alias
+    ++ flat_map (λ (text : Text). text (depth + 1)) field.selection_set
 
 -- an inline fragment with its type condition, if it has one; then its selections, one deeper
 abbrev pub inline_step : InlineFragment-F Text Text Text → Text
-inline_step fragment depth = head_text depth (codes "inline") ++ last_text fragment.type_condition ++ flat_map (λ (text : Text). text (depth + 1)) fragment.selection_set
+inline_step fragment depth = head_text depth (codes "inline") ++ last_text fragment.type_condition
+    ++ flat_map (λ (text : Text). text (depth + 1)) fragment.selection_set
 
 -- one level of a selection, where its field or inline fragment has given its own text
 abbrev pub selection_step : Selection-F Text Text Text → Text
@@ -55,4 +57,5 @@ inline_text = fold-InlineFragment Text Text Text selection_step field_step inlin
 
 -- selections at a depth, in order
 abbrev pub selections_text : ℕ → List Selection → List ℕ
-selections_text depth selections = flat_map (λ (selection : Selection). selection_text selection depth) selections
+selections_text depth selections =
+    flat_map (λ (selection : Selection). selection_text selection depth) selections

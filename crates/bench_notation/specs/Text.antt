@@ -9,7 +9,8 @@ use Rattle.graphql_nodes.specs.declared.directive_location.DirectiveLocation.{Di
 use Rattle.graphql_nodes.specs.declared.operation_type.OperationType.{OperationType}
 use Rattle.graphql_nodes.specs.declared.type_kind.TypeKind.{TypeKind}
 use Rattle.graphql_nodes.specs.declared.type_kind.TypeKind.TheVariants as k
-use Rattle.graphql_ast.specs.Declarations.{Declaration, OfType, OfSchema, OfDirective, OfOperation, OfFragment, declaration_of}
+use Rattle.graphql_ast.specs.Declarations.{Declaration, OfType, OfSchema, OfDirective, OfOperation}
+use Rattle.graphql_ast.specs.Declarations.{OfFragment, declaration_of}
 use Rattle.graphql_ast.specs.declared.type_reference.Type.{«Type» as TypeReference, fold-Type}
 use Rattle.graphql_ast.specs.declared.type_reference.Type.TheOpen.{Type-F}
 use Rattle.graphql_ast.specs.declared.directive.Directive.{Directive}
@@ -61,7 +62,8 @@ typed_line word name ty = word ++ name.text ++ codes " " ++ type_text ty ++ code
 
 -- each directive on a line of its own, after this word
 abbrev pub directives_text : List ℕ → List (NodeView Directive) → List ℕ
-directives_text word directives = flat_map (λ (directive : NodeView Directive). named_line word directive.value.name) directives
+directives_text word directives =
+    flat_map (λ (directive : NodeView Directive). named_line word directive.value.name) directives
 
 -- each name on a line of its own, after this word
 abbrev pub names_text : List ℕ → List NameView → List ℕ
@@ -69,15 +71,19 @@ names_text word names = flat_map (λ (name : NameView). named_line word name) na
 
 -- each argument on a line of its own
 abbrev pub arguments_text : List (NodeView InputValueDefinition) → List ℕ
-arguments_text arguments = flat_map (λ (argument : NodeView InputValueDefinition). typed_line (codes "arg ") argument.value.name argument.value.ty.value) arguments
+arguments_text arguments =
+    flat_map (λ (argument : NodeView InputValueDefinition).
+    typed_line (codes "arg ") argument.value.name argument.value.ty.value) arguments
 
 -- a field, then its directives
 abbrev pub field_line_text : NameView → TypeReference → List (NodeView Directive) → List ℕ
-field_line_text name ty directives = typed_line (codes "field ") name ty ++ directives_text (codes "field@ ") directives
+field_line_text name ty directives =
+    typed_line (codes "field ") name ty ++ directives_text (codes "field@ ") directives
 
 -- a field, then its directives, then its arguments
 abbrev pub field_definition_text : NodeView FieldDefinition → List ℕ
-field_definition_text field = field_line_text field.value.name field.value.ty field.value.directives.0 ++ arguments_text field.value.arguments
+field_definition_text field = field_line_text field.value.name field.value.ty field.value.directives.0
+    ++ arguments_text field.value.arguments
 
 -- a field of an input object, then its directives
 abbrev pub input_field_text : NodeView InputValueDefinition → List ℕ
@@ -89,15 +95,19 @@ input_fields_text fields = flat_map input_field_text fields
 
 -- each value of an enum on a line of its own
 abbrev pub values_text : List (NodeView EnumValueDefinition) → List ℕ
-values_text values = flat_map (λ (value : NodeView EnumValueDefinition). named_line (codes "value ") value.value.value) values
+values_text values =
+    flat_map (λ (value : NodeView EnumValueDefinition). named_line (codes "value ") value.value.value) values
 
 -- the header of a type, then the directives of the type
 abbrev pub type_head_text : Role → TypeKind → NameView → List (NodeView Directive) → List ℕ
-type_head_text role kind name directives = role_word role ++ codes " " ++ named_line (kind_word kind ++ codes " ") name ++ directives_text (codes "@ ") directives
+type_head_text role kind name directives =
+    role_word role ++ codes " " ++ named_line (kind_word kind ++ codes " ") name
+    ++ directives_text (codes "@ ") directives
 
 -- interfaces, then fields
 abbrev pub fields_text : List NameView → List (NodeView FieldDefinition) → List ℕ
-fields_text interfaces fields = names_text (codes "implements ") interfaces ++ flat_map field_definition_text fields
+fields_text interfaces fields =
+    names_text (codes "implements ") interfaces ++ flat_map field_definition_text fields
 
 -- the line that says that a directive may be repeated
 abbrev pub repeatable_text : Bool → List ℕ
@@ -106,7 +116,8 @@ repeatable_text false = []
 
 -- each location of a directive on a line of its own
 abbrev pub locations_text : List DirectiveLocation → List ℕ
-locations_text locations = flat_map (λ (location : DirectiveLocation). word_line (codes "on ") (location_text location)) locations
+locations_text locations =
+    flat_map (λ (location : DirectiveLocation). word_line (codes "on ") (location_text location)) locations
 
 -- a root: the kind of its operations, and its name
 abbrev pub root_text : NodeView (OperationType × NameView) → List ℕ
@@ -122,15 +133,18 @@ schema_head_text role directives = schema_word role ++ codes "\n" ++ directives_
 
 -- the header of an operation, then its directives
 abbrev pub operation_head_text : OperationDefinition → List ℕ
-operation_head_text item = codes "operation " ++ operation_text item.operation_type ++ codes " " ++ name_word item.name ++ codes "\n" ++ directives_text (codes "@ ") item.directives.0
+operation_head_text item = codes "operation " ++ operation_text item.operation_type ++ codes " "
+    ++ name_word item.name ++ codes "\n" ++ directives_text (codes "@ ") item.directives.0
 
 -- the header of a fragment, then its directives
 abbrev pub fragment_head_text : FragmentDefinition → List ℕ
-fragment_head_text item = codes "fragment " ++ item.name.text ++ named_line (codes " ") item.type_condition ++ directives_text (codes "@ ") item.directives.0
+fragment_head_text item = codes "fragment " ++ item.name.text ++ named_line (codes " ") item.type_condition
+    ++ directives_text (codes "@ ") item.directives.0
 
 -- what a directive's definition has: its arguments, then where it may be applied
 abbrev pub directive_body_text : DirectiveDefinition → List ℕ
-directive_body_text item = arguments_text item.arguments ++ repeatable_text item.repeatable ++ locations_text item.locations
+directive_body_text item =
+    arguments_text item.arguments ++ repeatable_text item.repeatable ++ locations_text item.locations
 
 -- what a type of this kind has besides directives
 abbrev pub parts_text : TypeKind → Parts → List ℕ

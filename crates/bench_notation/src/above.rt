@@ -1,6 +1,8 @@
 //! What stands above a line, by which it may stand there or not.
 ghost use Rattle.std.specs.Prelude.{◌≡◌};
-ghost use Rattle.bench_notation.specs.Places.{kind_above, takes_directives, is_object_or_interface, has_fields, is_field, takes_arguments, is_union, is_enum, is_directive, is_schema, levels_above};
+ghost use Rattle.bench_notation.specs.Places.{kind_above, takes_directives, is_object_or_interface};
+ghost use Rattle.bench_notation.specs.Places.{has_fields, is_field, takes_arguments, is_union, is_enum};
+ghost use Rattle.bench_notation.specs.Places.{is_directive, is_schema, levels_above};
 
 use graphql_nodes::type_kind::TypeKind;
 
@@ -17,7 +19,8 @@ pub enum Above {
     Directive,
     /// The header of the schema.
     Schema,
-    /// The header of an operation or fragment, or a selection of it, where the next one may stand at so many depths.
+    /// The header of an operation or fragment, or a selection of it, where the next one may stand at so many
+    /// depths.
     Selections(u16),
 }
 

@@ -43,7 +43,8 @@ impl DirectiveParts {
         }
     }
 
-    /// The definition of the directive of this name, at this location, with these parts. The error is out of memory.
+    /// The definition of the directive of this name, at this location, with these parts. The error is out of
+    /// memory.
     pub fn into_definition(
         self,
         alloc: Global,

@@ -23,8 +23,8 @@ pub enum ExecutableHeader {
 }
 
 impl ExecutableHeader {
-    /// The operation or fragment, at this location, with these directives and selections and without variables. The error is
-    /// out of memory, and drops them.
+    /// The operation or fragment, at this location, with these directives and selections and without
+    /// variables. The error is out of memory, and drops them.
     pub fn into_definition(
         self,
         alloc: Global,
@@ -32,7 +32,8 @@ impl ExecutableHeader {
         selection_set: Items<Selection>,
         location: SourceSpan,
     ) -> Result<Definition, AllocError>
-        ensures { IfOk result (λ definition. definition ≡ executable_definition self directives selection_set location) }
+        ensures { IfOk result (λ definition. definition
+            ≡ executable_definition self directives selection_set location) }
     {
         match self {
             ExecutableHeader::Operation(operation_type, name) => {

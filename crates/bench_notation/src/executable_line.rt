@@ -1,11 +1,14 @@
-//! The lines of operations and fragments, behind the first word: GraphQL specification of October 2021, sections 2.3 to 2.8.
+//! The lines of operations and fragments, behind the first word: GraphQL specification of October 2021,
+//! sections 2.3 to 2.8.
 //!
 //! Words that are none such are refused, with a reason. `Memory` is out of memory, and says nothing of them.
-ghost use Rattle.std.specs.Prelude.{◌≡◌, ◌≢◌, ◌∷◌, ℕ, Option, true, IfErr, IfOk, MatchOption, decimal, nat_lt};
+ghost use Rattle.std.specs.Prelude.{◌≡◌, ◌≢◌, ◌∷◌, ℕ, Option, true, IfErr, IfOk, MatchOption, decimal};
+ghost use Rattle.std.specs.Prelude.{nat_lt};
 ghost use Rattle.bench_notation.specs.declared.selection_line.Selected.{Selected};
 ghost use Rattle.graphql_nodes.specs.NameView.{NameView};
 ghost use Rattle.graphql_nodes.specs.declared.operation_type.OperationType.{OperationType};
-ghost use Rattle.bench_notation.specs.Line.{AreFragment, AreOperation, AreSelected, AreSelection, IsDepth, texts_of};
+ghost use Rattle.bench_notation.specs.Line.{AreFragment, AreOperation, AreSelected, AreSelection, IsDepth};
+ghost use Rattle.bench_notation.specs.Line.{texts_of};
 ghost use Rattle.bench_notation.specs.Places.{levels_above};
 ghost use Rattle.bench_notation.specs.Refusals.{WhenRefused};
 
@@ -27,7 +30,8 @@ pub fn operation_and_its_name(
     location: SourceSpan,
 ) -> Result<(OperationType, Option<Name>), LineError>
     ensures says { IfOk result (λ both. AreOperation location (texts_of words.now) both.0 both.1) }
-    ensures refused { IfErr result (WhenRefused ((operation : OperationType) (name : Option NameView) → ¬ AreOperation location (texts_of words.now) operation name)) }
+    ensures refused { IfErr result (WhenRefused ((operation : OperationType) (name : Option NameView)
+        → ¬ AreOperation location (texts_of words.now) operation name)) }
 {
     let [operation, name] = words else {
         return Err(LineError::Refused(Reason::WrongNumberOfWords));
@@ -48,7 +52,8 @@ pub fn fragment_names(
     location: SourceSpan,
 ) -> Result<(Name, NamedType), LineError>
     ensures says { IfOk result (λ both. AreFragment location (texts_of words.now) both.0 both.1) }
-    ensures refused { IfErr result (WhenRefused ((name condition : NameView) → ¬ AreFragment location (texts_of words.now) name condition)) }
+    ensures refused { IfErr result (WhenRefused ((name condition : NameView)
+        → ¬ AreFragment location (texts_of words.now) name condition)) }
 {
     let [name, condition] = words else {
         return Err(LineError::Refused(Reason::WrongNumberOfWords));
@@ -66,7 +71,9 @@ pub fn selection(
 ) -> Result<(u8, Selected), LineError>
     ensures says { IfOk result (λ both. AreSelection location (texts_of words.now) both.0 both.1) }
     ensures stands { IfOk result (λ both. nat_lt both.0 (levels_above above) ≡ true) }
-    ensures refused { IfErr result (WhenRefused ((depth : ℕ) (selected : Selected) → AreSelection location (texts_of words.now) depth selected → ¬ (nat_lt depth (levels_above above) ≡ true))) }
+    ensures refused { IfErr result (WhenRefused ((depth : ℕ) (selected : Selected)
+        → AreSelection location (texts_of words.now) depth selected
+        → ¬ (nat_lt depth (levels_above above) ≡ true))) }
 {
     let levels = above.levels();
     if levels == 0 {
@@ -96,7 +103,8 @@ fn selected(
     location: SourceSpan,
 ) -> Result<Selected, LineError>
     ensures says { IfOk result (AreSelected location (kind.now ∷ texts_of words.now)) }
-    ensures refused { IfErr result (WhenRefused ((selected : Selected) → ¬ AreSelected location (kind.now ∷ texts_of words.now) selected)) }
+    ensures refused { IfErr result (WhenRefused ((selected : Selected)
+        → ¬ AreSelected location (kind.now ∷ texts_of words.now) selected)) }
 {
     match kind {
         "field" => {
@@ -110,9 +118,11 @@ fn selected(
     }
 }
 
-/// The depth that a word is: a number up to the greatest depth, without a sign, and without a zero before other digits.
+/// The depth that a word is: a number up to the greatest depth, without a sign, and without a zero before
+/// other digits.
 fn depth_of_word(word: &str) -> Option<u8>
-    ensures { MatchOption result ((depth : ℕ) → IsDepth depth → decimal depth ≢ word.now) (λ depth. IsDepth depth × (decimal depth ≡ word.now)) }
+    ensures { MatchOption result ((depth : ℕ) → IsDepth depth
+        → decimal depth ≢ word.now) (λ depth. IsDepth depth × (decimal depth ≡ word.now)) }
 {
     if let Some(rest) = after(word, b'0') {
         if rest.is_empty() {

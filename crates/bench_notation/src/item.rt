@@ -48,7 +48,8 @@ impl Drop for OpenItem {
 }
 
 impl OpenItem {
-    ghost use Rattle.bench_notation.specs.Components.{header_alone, above_below, levels_after, with_component, with_field_directive, whole_item};
+    ghost use Rattle.bench_notation.specs.Components.{header_alone, above_below, levels_after};
+    ghost use Rattle.bench_notation.specs.Components.{with_component, with_field_directive, whole_item};
     ghost use Rattle.bench_notation.specs.declared.line.Component.TheVariants.{Argument, Field};
 
     /// The item of a header, without components.
@@ -88,8 +89,8 @@ impl OpenItem {
         }
     }
 
-    /// Adds a component, at this location. A directive of a field, where there is no field, adds nothing. The error is out of
-    /// memory.
+    /// Adds a component, at this location. A directive of a field, where there is no field, adds nothing. The
+    /// error is out of memory.
     pub fn add(
         &mut self,
         alloc: Global,

@@ -79,7 +79,8 @@ pub fn kind_word(kind: TypeKind) -> &'static str
 
 /// The kind of this word, and none for any other word.
 pub fn kind_of_word(word: &str) -> Option<TypeKind>
-    ensures { MatchOption result ((kind : TypeKind) → kind_word kind ≢ word.now) (λ kind. kind_word kind ≡ word.now) }
+    ensures { MatchOption result ((kind : TypeKind) → kind_word kind ≢ word.now) (λ kind. kind_word kind
+        ≡ word.now) }
 {
     for kind in KINDS {
         if kind_word(kind) == word {
@@ -91,7 +92,8 @@ pub fn kind_of_word(word: &str) -> Option<TypeKind>
 
 /// The kind of operation of this word, and none for any other word.
 pub fn operation_of_word(word: &str) -> Option<OperationType>
-    ensures { MatchOption result ((operation : OperationType) → operation_text operation ≢ word.now) (λ operation. operation_text operation ≡ word.now) }
+    ensures { MatchOption result ((operation : OperationType)
+        → operation_text operation ≢ word.now) (λ operation. operation_text operation ≡ word.now) }
 {
     match word {
         "query" => Some(OperationType::Query),

@@ -1,6 +1,7 @@
 //! The bench notation: a line notation for GraphQL documents, which has no GraphQL text in it.
 //!
-//! [`read`](reading::read) makes documents of a text, and [`print`](printing::print) makes a text of definitions.
+//! [`read`](reading::read) makes documents of a text, and [`print`](printing::print) makes a text of
+//! definitions.
 //!
 //! Proved: what is read is what the lines say; no line that could be read is refused; printing is exact.
 #![tactic(auto)]

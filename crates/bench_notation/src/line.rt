@@ -5,7 +5,8 @@ ghost use Rattle.graphql_ast.specs.declared.type_reference.Type.{«Type» as Typ
 ghost use Rattle.graphql_nodes.specs.LocationTexts.{location_text};
 ghost use Rattle.graphql_nodes.specs.OperationTexts.{operation_text};
 ghost use Rattle.bench_notation.specs.HeaderWords.{role_word};
-ghost use Rattle.bench_notation.specs.Line.{SayLine, Says, SaysHeader, SaysComponent, AreName, AreNameAndType, AreRoot, texts_of, words_of};
+ghost use Rattle.bench_notation.specs.Line.{SayLine, Says, SaysHeader, SaysComponent, AreName};
+ghost use Rattle.bench_notation.specs.Line.{AreNameAndType, AreRoot, texts_of, words_of};
 ghost use Rattle.bench_notation.specs.Places.{stands, StandsBelow};
 ghost use Rattle.bench_notation.specs.Refusals.{SayNoComponent, SayNoLine, SaysNothing, WhenRefused};
 
@@ -60,8 +61,8 @@ pub enum Component {
     Repeatable,
     /// `root OPERATION NAME`
     Root(OperationType, NamedType),
-    /// `sel DEPTH field NAME`, with an alias behind it or not; `sel DEPTH spread NAME`; `sel DEPTH inline`, with a type
-    /// condition behind it or not
+    /// `sel DEPTH field NAME`, with an alias behind it or not; `sel DEPTH spread NAME`; `sel DEPTH inline`,
+    /// with a type condition behind it or not
     Selection(u8, Selected),
 }
 
@@ -79,8 +80,8 @@ pub enum Line {
 
 /// Reads a line of these words, which stands at this position. Its names get this location.
 ///
-/// [`Refused`](LineError::Refused) comes only where the line says nothing that may stand there; `Memory` is out of memory, and
-/// says nothing of the line.
+/// [`Refused`](LineError::Refused) comes only where the line says nothing that may stand there; `Memory` is
+/// out of memory, and says nothing of the line.
 pub(crate) fn read_line(
     names: &mut Names,
     text: &str,
@@ -159,7 +160,8 @@ fn read_component(
 ) -> Result<Component, LineError>
     ensures says { IfOk result (SaysComponent location (first.now ∷ texts_of rest.now)) }
     ensures stands { IfOk result (λ component. stands above component ≡ true) }
-    ensures refused { IfErr result (WhenRefused (SayNoComponent above location (first.now ∷ texts_of rest.now))) }
+    ensures refused { IfErr result
+        (WhenRefused (SayNoComponent above location (first.now ∷ texts_of rest.now))) }
 {
     match first {
         "@" => {
@@ -241,7 +243,8 @@ fn read_type_header(
     location: SourceSpan,
 ) -> Result<Header, LineError>
     ensures says { IfOk result (SaysHeader location (role_word role ∷ texts_of words.now)) }
-    ensures refused { IfErr result (WhenRefused ((header : Header) → ¬ SaysHeader location (role_word role ∷ texts_of words.now) header)) }
+    ensures refused { IfErr result (WhenRefused ((header : Header)
+        → ¬ SaysHeader location (role_word role ∷ texts_of words.now) header)) }
 {
     let [kind, name] = words else {
         return Err(LineError::Refused(Reason::WrongNumberOfWords));
@@ -261,7 +264,8 @@ fn allowed_name(
 ) -> Result<Name, LineError>
     ensures allowed { IfOk result (λ _. is_allowed ≡ true) }
     ensures says { IfOk result (AreName location (texts_of words.now)) }
-    ensures refused { IfErr result (WhenRefused ((name : NameView) → AreName location (texts_of words.now) name → ¬ (is_allowed ≡ true))) }
+    ensures refused { IfErr result (WhenRefused ((name : NameView)
+        → AreName location (texts_of words.now) name → ¬ (is_allowed ≡ true))) }
 {
     allow(is_allowed)?;
     only_name(names, words, location)
@@ -276,7 +280,8 @@ fn name_and_type(
 ) -> Result<(Name, Type), LineError>
     ensures allowed { IfOk result (λ _. is_allowed ≡ true) }
     ensures says { IfOk result (λ both. AreNameAndType location (texts_of words.now) both.0 both.1) }
-    ensures refused { IfErr result (WhenRefused ((name : NameView) (ty : TypeReference) → AreNameAndType location (texts_of words.now) name ty → ¬ (is_allowed ≡ true))) }
+    ensures refused { IfErr result (WhenRefused ((name : NameView) (ty : TypeReference)
+        → AreNameAndType location (texts_of words.now) name ty → ¬ (is_allowed ≡ true))) }
 {
     allow(is_allowed)?;
     let [name, ty] = words else {
@@ -289,7 +294,8 @@ fn name_and_type(
 
 fn only_location(words: &[&str]) -> Result<DirectiveLocation, Reason>
     ensures ok { IfOk result (λ location. texts_of words.now ≡ location_text location ∷ []) }
-    ensures err { IfErr result (λ _. (location : DirectiveLocation) → ¬ (texts_of words.now ≡ location_text location ∷ [])) }
+    ensures err { IfErr result (λ _. (location : DirectiveLocation)
+        → ¬ (texts_of words.now ≡ location_text location ∷ [])) }
 {
     let [word] = words else {
         return Err(Reason::WrongNumberOfWords);
@@ -309,7 +315,8 @@ fn operation_and_name(
 ) -> Result<(OperationType, NamedType), LineError>
     ensures allowed { IfOk result (λ _. is_allowed ≡ true) }
     ensures says { IfOk result (λ both. AreRoot location (texts_of words.now) both.0 both.1) }
-    ensures refused { IfErr result (WhenRefused ((operation : OperationType) (name : NameView) → AreRoot location (texts_of words.now) operation name → ¬ (is_allowed ≡ true))) }
+    ensures refused { IfErr result (WhenRefused ((operation : OperationType) (name : NameView)
+        → AreRoot location (texts_of words.now) operation name → ¬ (is_allowed ≡ true))) }
 {
     allow(is_allowed)?;
     let [operation, name] = words else {

@@ -1,5 +1,5 @@
-//! Words that are names, and no more words. Words that are none such are refused, with a reason. `Memory` is out of memory,
-//! and says nothing of them.
+//! Words that are names, and no more words. Words that are none such are refused, with a reason. `Memory` is
+//! out of memory, and says nothing of them.
 ghost use Rattle.std.specs.Prelude.{Option, IfErr, IfOk};
 ghost use Rattle.graphql_nodes.specs.NameView.{NameView};
 ghost use Rattle.bench_notation.specs.Line.{AreName, AreNameAndAlias, AreOptionalName, texts_of};
@@ -13,7 +13,8 @@ use graphql_nodes::source::SourceSpan;
 /// One name.
 pub fn only_name(names: &mut Names, words: &[&str], location: SourceSpan) -> Result<Name, LineError>
     ensures says { IfOk result (AreName location (texts_of words.now)) }
-    ensures refused { IfErr result (WhenRefused ((name : NameView) → ¬ AreName location (texts_of words.now) name)) }
+    ensures refused { IfErr result (WhenRefused ((name : NameView)
+        → ¬ AreName location (texts_of words.now) name)) }
 {
     let [name] = words else {
         return Err(LineError::Refused(Reason::WrongNumberOfWords));
@@ -28,7 +29,8 @@ pub fn optional_name(
     location: SourceSpan,
 ) -> Result<Option<Name>, LineError>
     ensures says { IfOk result (AreOptionalName location (texts_of words.now)) }
-    ensures refused { IfErr result (WhenRefused ((name : Option NameView) → ¬ AreOptionalName location (texts_of words.now) name)) }
+    ensures refused { IfErr result (WhenRefused ((name : Option NameView)
+        → ¬ AreOptionalName location (texts_of words.now) name)) }
 {
     match words {
         [] => Ok(None),
@@ -44,7 +46,8 @@ pub fn name_and_alias(
     location: SourceSpan,
 ) -> Result<(Name, Option<Name>), LineError>
     ensures says { IfOk result (λ both. AreNameAndAlias location (texts_of words.now) both.0 both.1) }
-    ensures refused { IfErr result (WhenRefused ((name : NameView) (alias : Option NameView) → ¬ AreNameAndAlias location (texts_of words.now) name alias)) }
+    ensures refused { IfErr result (WhenRefused ((name : NameView) (alias : Option NameView)
+        → ¬ AreNameAndAlias location (texts_of words.now) name alias)) }
 {
     let Some((name, rest)) = words.split_first() else {
         return Err(LineError::Refused(Reason::WrongNumberOfWords));

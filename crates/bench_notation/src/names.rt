@@ -25,7 +25,8 @@ impl Drop for Kept {
     }
 }
 
-/// The names that are at hand. Each has a place that goes by its text, and the first name of that place keeps it.
+/// The names that are at hand. Each has a place that goes by its text, and the first name of that place keeps
+/// it.
 pub struct Names {
     places: Vec<Option<Kept>>,
 }
@@ -52,8 +53,8 @@ impl Names {
         *self.places.allocator()
     }
 
-    /// The name that a word is, at this location. A word that is no name is refused as a bad word; `Memory` is out of memory,
-    /// and says nothing of the word.
+    /// The name that a word is, at this location. A word that is no name is refused as a bad word; `Memory`
+    /// is out of memory, and says nothing of the word.
     pub fn read(&mut self, word: &str, location: SourceSpan) -> Result<Name, LineError>
         ensures text { IfOk result (λ name. name.text ≡ word.now) }
         ensures name { IfOk result (IsNameAt location) }
@@ -62,7 +63,8 @@ impl Names {
         Ok(self.shared(word)?.with_location(location))
     }
 
-    /// The name that a word is, which is at hand from now on if its place is free. What is at hand was looked at before.
+    /// The name that a word is, which is at hand from now on if its place is free. What is at hand was looked
+    /// at before.
     fn shared(&mut self, word: &str) -> Result<Name, LineError>
         ensures text { IfOk result (λ name. name.text ≡ word.now) }
         ensures name { OnOk result (IsName word.now) }
@@ -103,7 +105,8 @@ fn new_name(alloc: Global, word: &str) -> Result<Name, LineError>
     Ok(Name::new_unchecked(alloc, word)?)
 }
 
-/// A hash of a word. Of a long one it takes the length, the first byte and the last four, by which names mostly differ.
+/// A hash of a word. Of a long one it takes the length, the first byte and the last four, by which names
+/// mostly differ.
 fn hash_of(word: &str) -> u64 {
     let bytes = word.as_bytes();
     let mut hash = bytes.len() as u64;

@@ -70,7 +70,8 @@ impl Nesting {
 
     /// Adds what a line says. One that is too deep for what stands above it adds nothing.
     fn add(&mut self, alloc: Global, line: SelectionLine) -> Result<(), AllocError>
-        ensures { OnOk result ((lines : List SelectionLine) → combined self.new lines ≡ combined self.old (line ∷ lines)) }
+        ensures { OnOk result ((lines : List SelectionLine)
+            → combined self.new lines ≡ combined self.old (line ∷ lines)) }
     {
         let depth = usize::from(line.depth);
         self.close_to(alloc, depth)?;
@@ -85,7 +86,9 @@ impl Nesting {
     /// Closes all but the outermost selections, of which at most so many stay open.
     fn close_to(&mut self, alloc: Global, most: usize) -> Result<(), AllocError>
         ensures most { OnOk result (length self.new.path.items ≤ most) }
-        ensures same { OnOk result ((lines : List SelectionLine) → ((depth : ℕ) → most < depth → selections_at depth lines ≡ []) → combined self.new lines ≡ combined self.old lines) }
+        ensures same { OnOk result ((lines : List SelectionLine)
+            → ((depth : ℕ) → most < depth → selections_at depth lines ≡ [])
+            → combined self.new lines ≡ combined self.old lines) }
     {
         while self.path.len() > most {
             self.close_last(alloc)?;
@@ -96,7 +99,9 @@ impl Nesting {
     /// Closes the last open selection, if there is one.
     fn close_last(&mut self, alloc: Global) -> Result<(), AllocError>
         ensures one { OnOk result (length self.new.path.items ≡ length self.old.path.items - 1) }
-        ensures same { OnOk result ((lines : List SelectionLine) → selections_at (length self.old.path.items) lines ≡ [] → combined self.new lines ≡ combined self.old lines) }
+        ensures same { OnOk result ((lines : List SelectionLine)
+            → selections_at (length self.old.path.items) lines ≡ []
+            → combined self.new lines ≡ combined self.old lines) }
     {
         let Some(last) = self.path.pop() else {
             return Ok(());
@@ -115,8 +120,9 @@ impl Nesting {
     }
 }
 
-/// The selections that lines say. One of depth 0 stands in no other. Any other stands in the nearest one above it that is less
-/// deep, if that is less deep by one and no spread; else it is left out, with what stands in it.
+/// The selections that lines say. One of depth 0 stands in no other. Any other stands in the nearest one
+/// above it that is less deep, if that is less deep by one and no spread; else it is left out, with what
+/// stands in it.
 ///
 /// The error is out of memory, and drops the lines.
 pub fn nested(alloc: Global, lines: Items<SelectionLine>) -> Result<Items<Selection>, AllocError>

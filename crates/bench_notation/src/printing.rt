@@ -2,7 +2,12 @@
 ghost use Rattle.std.specs.Prelude.{◌≡◌, ◌++◌, OnOk, IfOk, codes, string_bytes};
 ghost use Rattle.graphql_ast.specs.DeclarationsSeen.{declaration_seen};
 ghost use Rattle.graphql_ast.specs.PartsSeen.{parts_seen};
-ghost use Rattle.bench_notation.specs.Text.{word_line, named_line, typed_line, directives_text, names_text, arguments_text, field_line_text, field_definition_text, fields_text, input_fields_text, parts_text, values_text, type_head_text, schema_head_text, operation_head_text, fragment_head_text, header_text, body_text, directive_body_text, root_text, roots_text, printed_definition, printed_definitions};
+ghost use Rattle.bench_notation.specs.Text.{word_line, named_line, typed_line, directives_text, names_text};
+ghost use Rattle.bench_notation.specs.Text.{arguments_text, field_line_text, field_definition_text};
+ghost use Rattle.bench_notation.specs.Text.{fields_text, input_fields_text, parts_text, values_text};
+ghost use Rattle.bench_notation.specs.Text.{type_head_text, schema_head_text, operation_head_text};
+ghost use Rattle.bench_notation.specs.Text.{fragment_head_text, header_text, body_text, directive_body_text};
+ghost use Rattle.bench_notation.specs.Text.{root_text, roots_text, printed_definition, printed_definitions};
 
 use crate::kind_words::{Role, kind_word};
 use crate::selection_printing::push_selections;
@@ -22,8 +27,8 @@ use graphql_nodes::operation_type::OperationType;
 use graphql_nodes::type_kind::TypeKind;
 use std::alloc::{AllocError, Global};
 
-/// The text of definitions and extensions, in order. What the notation has no line for is left out. The error is out of
-/// memory.
+/// The text of definitions and extensions, in order. What the notation has no line for is left out. The error
+/// is out of memory.
 pub fn print(alloc: Global, definitions: &[Definition]) -> Result<String, AllocError>
     ensures { IfOk result (λ text. string_bytes text ≡ printed_definitions definitions.now) }
 {
@@ -39,7 +44,8 @@ fn push_definition(
     text: &mut String,
     definition: &Definition,
 ) -> Result<(), AllocError>
-    ensures { OnOk result (string_bytes text.new ≡ string_bytes text.old ++ printed_definition definition.now) }
+    ensures { OnOk result (string_bytes text.new
+        ≡ string_bytes text.old ++ printed_definition definition.now) }
 {
     let said = DeclarationRef::of(definition);
     push_header(text, &said)?;
@@ -48,7 +54,8 @@ fn push_definition(
 
 /// The header of a definition or extension, and its own directives.
 fn push_header(text: &mut String, said: &DeclarationRef<'_>) -> Result<(), AllocError>
-    ensures { OnOk result (string_bytes text.new ≡ string_bytes text.old ++ header_text (declaration_seen said.now)) }
+    ensures { OnOk result (string_bytes text.new
+        ≡ string_bytes text.old ++ header_text (declaration_seen said.now)) }
 {
     match said {
         DeclarationRef::Type(said) => {
@@ -66,7 +73,8 @@ fn push_header(text: &mut String, said: &DeclarationRef<'_>) -> Result<(), Alloc
 
 /// The lines below the header of a definition or extension, and below its own directives.
 fn push_body(alloc: Global, text: &mut String, said: &DeclarationRef<'_>) -> Result<(), AllocError>
-    ensures { OnOk result (string_bytes text.new ≡ string_bytes text.old ++ body_text (declaration_seen said.now)) }
+    ensures { OnOk result (string_bytes text.new
+        ≡ string_bytes text.old ++ body_text (declaration_seen said.now)) }
 {
     match said {
         DeclarationRef::Type(said) => push_parts(text, said.kind, said.parts),
@@ -83,7 +91,8 @@ fn push_body(alloc: Global, text: &mut String, said: &DeclarationRef<'_>) -> Res
 
 /// What a type of this kind has besides directives.
 fn push_parts(text: &mut String, kind: TypeKind, parts: PartsRef<'_>) -> Result<(), AllocError>
-    ensures { OnOk result (string_bytes text.new ≡ string_bytes text.old ++ parts_text kind (parts_seen parts.entry)) }
+    ensures { OnOk result (string_bytes text.new
+        ≡ string_bytes text.old ++ parts_text kind (parts_seen parts.entry)) }
 {
     match kind {
         TypeKind::Scalar => Ok(()),
@@ -102,7 +111,8 @@ fn push_head(
     name: &Name,
     directives: &[Node<Directive>],
 ) -> Result<(), AllocError>
-    ensures { OnOk result (string_bytes text.new ≡ string_bytes text.old ++ type_head_text role kind name.now directives.now) }
+    ensures { OnOk result (string_bytes text.new
+        ≡ string_bytes text.old ++ type_head_text role kind name.now directives.now) }
 {
     text.push_str(role.word())?;
     text.push_str(" ")?;
@@ -117,7 +127,8 @@ fn push_schema_head(
     role: Role,
     directives: &[Node<Directive>],
 ) -> Result<(), AllocError>
-    ensures { OnOk result (string_bytes text.new ≡ string_bytes text.old ++ schema_head_text role directives.now) }
+    ensures { OnOk result (string_bytes text.new
+        ≡ string_bytes text.old ++ schema_head_text role directives.now) }
 {
     text.push_str(role.schema_word())?;
     text.push_str("\n")?;
@@ -155,7 +166,8 @@ fn push_fields(
     interfaces: &[Name],
     fields: &[Node<FieldDefinition>],
 ) -> Result<(), AllocError>
-    ensures { OnOk result (string_bytes text.new ≡ string_bytes text.old ++ fields_text interfaces.now fields.now) }
+    ensures { OnOk result (string_bytes text.new
+        ≡ string_bytes text.old ++ fields_text interfaces.now fields.now) }
 {
     push_names(text, "implements ", interfaces)?;
     for field in fields {
@@ -225,7 +237,8 @@ fn push_directives(
     word: &str,
     directives: &[Node<Directive>],
 ) -> Result<(), AllocError>
-    ensures { OnOk result (string_bytes text.new ≡ string_bytes text.old ++ directives_text word.now directives.now) }
+    ensures { OnOk result (string_bytes text.new
+        ≡ string_bytes text.old ++ directives_text word.now directives.now) }
 {
     for directive in directives {
         push_named_line(text, word, &directive.name)?;
@@ -256,7 +269,8 @@ fn push_field_line(
     ty: &Type,
     directives: &[Node<Directive>],
 ) -> Result<(), AllocError>
-    ensures { OnOk result (string_bytes text.new ≡ string_bytes text.old ++ field_line_text name.now ty.now directives.now) }
+    ensures { OnOk result (string_bytes text.new
+        ≡ string_bytes text.old ++ field_line_text name.now ty.now directives.now) }
 {
     push_typed_line(text, "field ", name, ty)?;
     push_directives(text, "field@ ", directives)
@@ -289,7 +303,8 @@ fn push_line(text: &mut String, first: &str, word: &str) -> Result<(), AllocErro
 }
 
 fn push_typed_line(text: &mut String, word: &str, name: &Name, ty: &Type) -> Result<(), AllocError>
-    ensures { OnOk result (string_bytes text.new ≡ string_bytes text.old ++ typed_line word.now name.now ty.now) }
+    ensures { OnOk result (string_bytes text.new
+        ≡ string_bytes text.old ++ typed_line word.now name.now ty.now) }
 {
     text.push_str(word)?;
     text.push_str(name.as_str())?;

@@ -1,7 +1,8 @@
 //! Reading a whole text of the notation.
 ghost use Rattle.std.specs.Prelude.{◌≡◌, All, IfErr, IfOk, OnOk, Some};
 ghost use Rattle.bench_notation.specs.Components.{header_alone};
-ghost use Rattle.bench_notation.specs.Documents.{AreDividedDocumentsOf, AreDocumentsOf, IsDividedReadError, IsLinesError, IsReadError, LeadTo};
+ghost use Rattle.bench_notation.specs.Documents.{AreDividedDocumentsOf, AreDocumentsOf, IsDividedReadError};
+ghost use Rattle.bench_notation.specs.Documents.{IsLinesError, IsReadError, LeadTo};
 ghost use Rattle.bench_notation.specs.Line.{IsLine, lines_of, line_location, texts_of, words_of};
 ghost use Rattle.bench_notation.specs.Refusals.{SaysNothing, WhenRefused};
 
@@ -17,8 +18,8 @@ use graphql_nodes::source::{FileId, SourceSpan};
 use std::alloc::{AllocError, Global};
 use std::mem;
 
-/// The file that the input counts as. What stands on a line has that line's number, from 1 on, as the start and the end of its
-/// location in this file.
+/// The file that the input counts as. What stands on a line has that line's number, from 1 on, as the start
+/// and the end of its location in this file.
 pub const INPUT_FILE: FileId = FileId(1);
 
 /// The location of what stands on a line of the input.
@@ -65,7 +66,8 @@ impl Drop for DocumentReader {
 }
 
 impl DocumentReader {
-    ghost use Rattle.bench_notation.specs.Documents.{nothing_read, position_next, item_ended, document_ended, divided, line_added, Takes};
+    ghost use Rattle.bench_notation.specs.Documents.{nothing_read, position_next, item_ended, document_ended};
+    ghost use Rattle.bench_notation.specs.Documents.{divided, line_added, Takes};
 
     fn new(alloc: Global, division: Division) -> DocumentReader
         ensures { result ≡ nothing_read division }
@@ -101,7 +103,8 @@ impl DocumentReader {
     ) -> Result<(), LineError>
         requires { texts_of words.now ≡ words_of text.now }
         ensures taken { OnOk result (Takes text.now (line_location number) self.old self.new) }
-        ensures refused { IfErr result (WhenRefused (SaysNothing (position_next self.old) (line_location number) text.now)) }
+        ensures refused { IfErr result
+            (WhenRefused (SaysNothing (position_next self.old) (line_location number) text.now)) }
     {
         let location = line_location(number);
         let line = read_line(names, text, words, self.position(), location)?;
@@ -131,7 +134,8 @@ impl DocumentReader {
         header: Header,
         location: SourceSpan,
     ) -> Result<(), AllocError>
-        ensures { OnOk result (self.new ≡ record (item_ended self.old) { item = Some (header_alone header location) }) }
+        ensures { OnOk result (self.new
+            ≡ record (item_ended self.old) { item = Some (header_alone header location) }) }
     {
         self.end_item(alloc, Some(OpenItem::new(alloc, header, location)))
     }
@@ -206,12 +210,12 @@ fn take_lines<'a>(
     Ok(())
 }
 
-/// Reads a whole text that no line divides: its documents, of which there is at least one. They have no sources, and their
-/// locations are lines of [`INPUT_FILE`].
+/// Reads a whole text that no line divides: its documents, of which there is at least one. They have no
+/// sources, and their locations are lines of [`INPUT_FILE`].
 ///
-/// The first line that is refused ends the reading, and a line that would divide the text is: `Refused` has its number. It says
-/// nothing that may stand there, and each line before it says something. `Memory` is out of memory, and says nothing of the
-/// text. There is no other error.
+/// The first line that is refused ends the reading, and a line that would divide the text is: `Refused` has
+/// its number. It says nothing that may stand there, and each line before it says something. `Memory` is out
+/// of memory, and says nothing of the text. There is no other error.
 pub fn read(alloc: Global, text: &str) -> Result<Vec<Document>, ReadError>
     ensures read { OnOk result (All IsLine (lines_of text.now)) }
     ensures said { IfOk result (λ documents. AreDocumentsOf text.now documents.items) }
@@ -239,15 +243,17 @@ impl Drop for DividedDocuments {
     }
 }
 
-/// Reads a whole text that one line divides: its documents, which have no sources, and whose locations are lines of
-/// [`INPUT_FILE`].
+/// Reads a whole text that one line divides: its documents, which have no sources, and whose locations are
+/// lines of [`INPUT_FILE`].
 ///
-/// The first line that is refused ends the reading, and a second line that would divide the text is: `Refused` has its number. It
-/// says nothing that may stand there, and each line before it says something. `NoDivision` is the error where none is refused
-/// and none divides the text. `Memory` is out of memory, and says nothing of the text.
+/// The first line that is refused ends the reading, and a second line that would divide the text is:
+/// `Refused` has its number. It says nothing that may stand there, and each line before it says something.
+/// `NoDivision` is the error where none is refused and none divides the text. `Memory` is out of memory, and
+/// says nothing of the text.
 pub fn read_divided(alloc: Global, text: &str) -> Result<DividedDocuments, ReadError>
     ensures read { OnOk result (All IsLine (lines_of text.now)) }
-    ensures said { IfOk result (λ documents. AreDividedDocumentsOf text.now documents.schema.items documents.executable.items) }
+    ensures said { IfOk result (λ documents.
+        AreDividedDocumentsOf text.now documents.schema.items documents.executable.items) }
     ensures refused { IfErr result (IsDividedReadError (lines_of text.now)) }
 {
     let mut reader = DocumentReader::new(alloc, Division::ToCome);

@@ -56,7 +56,8 @@ impl Drop for SelectionLine {
 }
 
 impl SelectionLine {
-    /// At how many depths the next line may stand: at each up to its own, and one deeper where it has selections.
+    /// At how many depths the next line may stand: at each up to its own, and one deeper where it has
+    /// selections.
     pub fn levels_below(&self) -> u16
         ensures { result ≡ levels_below self.now }
     {
@@ -68,8 +69,8 @@ impl SelectionLine {
         }
     }
 
-    /// The selection that it says, at its location, with these selections. Of a spread they are dropped. The error is out of
-    /// memory, and drops them.
+    /// The selection that it says, at its location, with these selections. Of a spread they are dropped. The
+    /// error is out of memory, and drops them.
     pub fn into_selection(
         self,
         alloc: Global,

@@ -1,13 +1,14 @@
 //! Selections as text.
 ghost use Rattle.std.specs.Prelude.{◌≡◌, ◌++◌, IfOk, OnOk, ◌+◌, string_bytes};
-ghost use Rattle.bench_notation.specs.SelectionText.{field_text, head_text, inline_text, last_text, selection_text, selections_text, spread_text};
+ghost use Rattle.bench_notation.specs.SelectionText.{field_text, head_text, inline_text, last_text};
+ghost use Rattle.bench_notation.specs.SelectionText.{selection_text, selections_text, spread_text};
 
 use graphql_ast::selection::{Field, FragmentSpread, InlineFragment, Selection};
 use graphql_nodes::name::Name;
 use std::alloc::{AllocError, Global};
 
-/// Adds the lines of these selections, which stand at this depth, in order, each before those in it. The error is out of
-/// memory, after which nothing is said of the text: drop it.
+/// Adds the lines of these selections, which stand at this depth, in order, each before those in it. The
+/// error is out of memory, after which nothing is said of the text: drop it.
 #[cycle(push_selections)]
 pub fn push_selections(
     alloc: Global,
@@ -15,7 +16,8 @@ pub fn push_selections(
     selections: &[Selection],
     depth: usize,
 ) -> Result<(), AllocError>
-    ensures { OnOk result (string_bytes text.new ≡ string_bytes text.old ++ selections_text depth selections.now) }
+    ensures { OnOk result (string_bytes text.new
+        ≡ string_bytes text.old ++ selections_text depth selections.now) }
 {
     for selection in selections {
         push_selection(alloc, text, selection, depth)?;
@@ -30,7 +32,8 @@ fn push_selection(
     selection: &Selection,
     depth: usize,
 ) -> Result<(), AllocError>
-    ensures { OnOk result (string_bytes text.new ≡ string_bytes text.old ++ selection_text selection.now depth) }
+    ensures { OnOk result (string_bytes text.new
+        ≡ string_bytes text.old ++ selection_text selection.now depth) }
 {
     match selection {
         Selection::Field(field) => push_field(alloc, text, field, depth),

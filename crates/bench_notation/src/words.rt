@@ -4,8 +4,8 @@ ghost use Rattle.bench_notation.specs.Line.{bytes_left, lines_of, pieces_left, t
 
 use std::alloc::{AllocError, Global};
 
-/// The lines of a text, which stand between its line feeds: so the last one is empty where the text ends with a line feed. The
-/// error is out of memory.
+/// The lines of a text, which stand between its line feeds: so the last one is empty where the text ends with
+/// a line feed. The error is out of memory.
 pub fn lines_of(alloc: Global, text: &str) -> Result<Vec<&str>, AllocError>
     ensures { IfOk result (λ lines. texts_of lines.items ≡ lines_of text.now) }
 {
@@ -32,8 +32,8 @@ fn first_line<'a>(text: &'a str) -> (&'a str, Option<&'a str>)
     (text, None)
 }
 
-/// The first line of a text, and what stands behind its line feed, if it has one. Takes the words of that line, which stand
-/// between its spaces, instead of those that were there. The error is out of memory.
+/// The first line of a text, and what stands behind its line feed, if it has one. Takes the words of that
+/// line, which stand between its spaces, instead of those that were there. The error is out of memory.
 pub(crate) fn take_words<'a>(
     words: &mut Vec<&'a str>,
     text: &'a str,
@@ -64,7 +64,8 @@ pub(crate) fn take_words<'a>(
 /// What follows a byte, which is an ASCII character, in a text that begins with it, and none in any other.
 pub(crate) fn after<'a>(text: &'a str, first: u8) -> Option<&'a str>
     requires { first < 128 }
-    ensures { MatchOption result ((rest : List ℕ) → text.now ≢ first ∷ rest) (λ rest. text.now ≡ first ∷ rest.now) }
+    ensures { MatchOption result ((rest : List ℕ)
+        → text.now ≢ first ∷ rest) (λ rest. text.now ≡ first ∷ rest.now) }
 {
     match text.as_bytes() {
         [byte, ..] if *byte == first => Some(&text[1..]),
@@ -74,7 +75,8 @@ pub(crate) fn after<'a>(text: &'a str, first: u8) -> Option<&'a str>
 
 /// What comes before `suffix` in a text that ends with it, and none in any other.
 pub fn before<'a>(text: &'a str, suffix: &str) -> Option<&'a str>
-    ensures { MatchOption result ((front : List ℕ) → text.now ≢ front ++ suffix.now) (λ front. text.now ≡ front.now ++ suffix.now) }
+    ensures { MatchOption result ((front : List ℕ) → text.now ≢ front ++ suffix.now) (λ front. text.now
+        ≡ front.now ++ suffix.now) }
 {
     text.strip_suffix(suffix)
 }

@@ -1,4 +1,5 @@
--- What the characters of a description's block string say: the text further in, with the line ends of the layout.
+-- What the characters of a description's block string say: the text further in, with the line ends of the
+-- layout.
 use Rattle.std.proofs.Common.{◌≡◌, ◌&&◌, ℕ, zero, suc, Bool, true, false, List, [], ◌∷◌, ◌++◌, cond, nat_eq, replicate, refl, sym, ap, subst, ◌∙◌, arith, append_assoc}
 use Rattle.std.specs.Prelude.{codes, nat_le, nat_lt, not, if◌then◌else◌}
 use Rattle.std.proofs.lemmas.Bool.{and_parts, eqb-true, not-true, or_parts}
@@ -12,7 +13,8 @@ use Rattle.graphql_printing.specs.Widths.{width}
 use Rattle.graphql_printing.proofs.BlockCharacters.{IsAllowed, Spelled, begins_quote, other_first, other_second, other_third, quote_or_other, spelled, three_quotes}
 use Rattle.graphql_printing.proofs.BlockLines.{same_further_in}
 
--- a text between the line ends of the layout: with none where it fits in one line, or only the last where it begins at once
+-- a text between the line ends of the layout: with none where it fits in one line, or only the last where it
+-- begins at once
 abbrev pub framed : Bool → Bool → ℕ → List ℕ → List ℕ
 framed true at_once indent text = text
 framed false true indent text = text ++ line_end indent

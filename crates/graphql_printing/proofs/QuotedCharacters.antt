@@ -1,4 +1,5 @@
--- The characters of a quoted string, and what each says: GraphQL specification of October 2021, section 2.9.4.
+-- The characters of a quoted string, and what each says: GraphQL specification of October 2021, section
+-- 2.9.4.
 use Rattle.std.proofs.Common.{◌≡◌, ◌/◌, ◌%◌, ◌<◌, ℕ, Bool, true, false, List, [], ◌∷◌, ◌++◌, length, cond, refl, sym, ap, subst, ◌∙◌, arith, codes}
 use Rattle.std.specs.Prelude.{nat_lt, Option, Some}
 use Rattle.std.specs.Option.{option_map_or}

@@ -1,4 +1,5 @@
--- A quoted string is one token, whatever stands behind it, and says its text: GraphQL specification of October 2021, section 2.9.4.
+-- A quoted string is one token, whatever stands behind it, and says its text: GraphQL specification of
+-- October 2021, section 2.9.4.
 use Rattle.std.proofs.Common.{◌≡◌, ◌+◌, ◌-◌, ◌<◌, ℕ, suc, Bool, true, false, List, [], ◌∷◌, ◌++◌, length, drop, cond, refl, sym, ap, subst, ◌∙◌, arith, append_assoc, append-nil}
 use Rattle.std.specs.Prelude.{nat_eq, Some, Ok}
 use Rattle.std.proofs.Math.Seq.{take-append_seam, drop-append_seam}

@@ -16,37 +16,66 @@ use Rattle.graphql_printing.specs.TypeSystem.{described, directive_shape, schema
 
 -- an operation, with its keyword where the flag is set
 abbrev pub operation_behind : Bool → OperationDefinition → List ℕ
-operation_behind braces operation = if braces then long_text operation else operation_definition_text operation
+operation_behind braces operation = if braces then long_text operation
+    else operation_definition_text operation
 
--- a definition or extension of any sort, which stands behind one that would take a `{` for its own where the flag is set
+-- a definition or extension of any sort, which stands behind one that would take a `{` for its own where the
+-- flag is set
 abbrev pub definition_text : Bool → Definition → List ℕ
 definition_text braces (d.OperationDefinition n) = operation_behind braces n.value
 definition_text braces (d.FragmentDefinition n) = fragment_definition_text n.value
 definition_text braces (d.DirectiveDefinition n) = described 0 n.value.description ++ directive_shape n.value
-definition_text braces (d.SchemaDefinition n) = described 0 n.value.description ++ schema_shape n.value.directives n.value.root_operations
-definition_text braces (d.ScalarTypeDefinition n) = described 0 n.value.description ++ type_shape t.Scalar n.value.name (directed n.value.directives)
+definition_text braces (d.SchemaDefinition n) =
+    described 0 n.value.description ++ schema_shape n.value.directives n.value.root_operations
+definition_text braces (d.ScalarTypeDefinition n) =
+    described 0 n.value.description ++ type_shape t.Scalar n.value.name (directed n.value.directives)
 definition_text braces (d.ObjectTypeDefinition n) =
-    described 0 n.value.description ++ type_shape t.Object n.value.name (fielded n.value.implements_interfaces n.value.directives n.value.fields)
+    described 0 n.value.description
+    ++ type_shape t.Object n.value.name
+    (fielded n.value.implements_interfaces n.value.directives n.value.fields)
 definition_text braces (d.InterfaceTypeDefinition n) =
-    described 0 n.value.description ++ type_shape t.Interface n.value.name (fielded n.value.implements_interfaces n.value.directives n.value.fields)
-definition_text braces (d.UnionTypeDefinition n) = described 0 n.value.description ++ type_shape t.Union n.value.name (record (directed n.value.directives) { names = n.value.members })
-definition_text braces (d.EnumTypeDefinition n) = described 0 n.value.description ++ type_shape t.Enum n.value.name (record (directed n.value.directives) { values = n.value.values })
-definition_text braces (d.InputObjectTypeDefinition n) = described 0 n.value.description ++ type_shape t.InputObject n.value.name (record (directed n.value.directives) { input_fields = n.value.fields })
-definition_text braces (d.SchemaExtension n) = codes "extend " ++ schema_shape n.value.directives n.value.root_operations
-definition_text braces (d.ScalarTypeExtension n) = codes "extend " ++ type_shape t.Scalar n.value.name (directed n.value.directives)
+    described 0 n.value.description
+    ++ type_shape t.Interface n.value.name
+    (fielded n.value.implements_interfaces n.value.directives n.value.fields)
+definition_text braces (d.UnionTypeDefinition n) =
+    described 0 n.value.description
+    ++ type_shape t.Union n.value.name (record (directed n.value.directives) { names = n.value.members })
+definition_text braces (d.EnumTypeDefinition n) =
+    described 0 n.value.description
+    ++ type_shape t.Enum n.value.name (record (directed n.value.directives) { values = n.value.values })
+definition_text braces (d.InputObjectTypeDefinition n) =
+    described 0 n.value.description
+    ++ type_shape t.InputObject n.value.name
+    (record (directed n.value.directives) { input_fields = n.value.fields })
+definition_text braces (d.SchemaExtension n) =
+    codes "extend " ++ schema_shape n.value.directives n.value.root_operations
+definition_text braces (d.ScalarTypeExtension n) =
+    codes "extend " ++ type_shape t.Scalar n.value.name (directed n.value.directives)
 definition_text braces (d.ObjectTypeExtension n) =
-    codes "extend " ++ type_shape t.Object n.value.name (fielded n.value.implements_interfaces n.value.directives n.value.fields)
+    codes "extend "
+    ++ type_shape t.Object n.value.name
+    (fielded n.value.implements_interfaces n.value.directives n.value.fields)
 definition_text braces (d.InterfaceTypeExtension n) =
-    codes "extend " ++ type_shape t.Interface n.value.name (fielded n.value.implements_interfaces n.value.directives n.value.fields)
-definition_text braces (d.UnionTypeExtension n) = codes "extend " ++ type_shape t.Union n.value.name (record (directed n.value.directives) { names = n.value.members })
-definition_text braces (d.EnumTypeExtension n) = codes "extend " ++ type_shape t.Enum n.value.name (record (directed n.value.directives) { values = n.value.values })
-definition_text braces (d.InputObjectTypeExtension n) = codes "extend " ++ type_shape t.InputObject n.value.name (record (directed n.value.directives) { input_fields = n.value.fields })
+    codes "extend "
+    ++ type_shape t.Interface n.value.name
+    (fielded n.value.implements_interfaces n.value.directives n.value.fields)
+definition_text braces (d.UnionTypeExtension n) =
+    codes "extend "
+    ++ type_shape t.Union n.value.name (record (directed n.value.directives) { names = n.value.members })
+definition_text braces (d.EnumTypeExtension n) =
+    codes "extend "
+    ++ type_shape t.Enum n.value.name (record (directed n.value.directives) { values = n.value.values })
+definition_text braces (d.InputObjectTypeExtension n) =
+    codes "extend "
+    ++ type_shape t.InputObject n.value.name
+    (record (directed n.value.directives) { input_fields = n.value.fields })
 
 -- definitions, each behind an empty line; where the flag is set, the first of them stands behind a definition
 -- that would take a `{` for its own
 abbrev pub definitions_behind : Bool → List Definition → List ℕ
 definitions_behind braces [] = []
-definitions_behind braces (x ∷ xs) = codes "\n\n" ++ definition_text braces x ++ definitions_behind (takes_braces x) xs
+definitions_behind braces (x ∷ xs) =
+    codes "\n\n" ++ definition_text braces x ++ definitions_behind (takes_braces x) xs
 
 -- definitions with an empty line between each two
 abbrev pub definitions_text : List Definition → List ℕ

@@ -18,7 +18,8 @@ short_head alias name arguments = field_name_text alias name ++ arguments_text a
 
 -- arguments one a line, further in, of what stands further in by so many blanks
 abbrev pub argument_lines : ℕ → List (NodeView Argument) → List ℕ
-argument_lines indent arguments = on_lines (codes "(") (codes ")") indent (λ (inner : ℕ). argument_text) arguments
+argument_lines indent arguments =
+    on_lines (codes "(") (codes ")") indent (λ (inner : ℕ). argument_text) arguments
 
 -- a field's alias, name and arguments: these one a line where all take more than 80 UTF-16 units in one line
 abbrev pub field_head : ℕ → Option NameView → NameView → List (NodeView Argument) → List ℕ

@@ -1,5 +1,5 @@
--- The text of what stands between the braces of a type, by itself: GraphQL specification of October 2021, sections 3.6,
--- 3.6.1, 3.9 and 3.10.
+-- The text of what stands between the braces of a type, by itself: GraphQL specification of October 2021,
+-- sections 3.6, 3.6.1, 3.9 and 3.10.
 use Rattle.std.specs.Prelude.{ℕ, List}
 use Rattle.graphql_ast.specs.declared.type_system.EnumValueDefinition.{EnumValueDefinition}
 use Rattle.graphql_ast.specs.declared.type_system.FieldDefinition.{FieldDefinition}

@@ -1,10 +1,12 @@
 -- The text of operations and fragments: GraphQL specification of October 2021, sections 2.3, 2.8 and 2.10.
-use Rattle.std.specs.Prelude.{ℕ, Bool, true, false, List, [], ◌∷◌, ◌++◌, Option, None, Some, if◌then◌else◌, codes}
+use Rattle.std.specs.Prelude.{ℕ, Bool, true, false, List, [], ◌∷◌, ◌++◌, Option, None, Some, if◌then◌else◌}
+use Rattle.std.specs.Prelude.{codes}
 use Rattle.graphql_nodes.specs.NameView.{NameView}
 use Rattle.graphql_nodes.specs.NodeView.{NodeView}
 use Rattle.graphql_nodes.specs.OperationTexts.{operation_text}
 use Rattle.graphql_nodes.specs.declared.operation_type.OperationType.{OperationType}
-use Rattle.graphql_nodes.specs.declared.operation_type.OperationType.TheVariants.{Query, Mutation, Subscription}
+use Rattle.graphql_nodes.specs.declared.operation_type.OperationType.TheVariants.{Query, Mutation}
+use Rattle.graphql_nodes.specs.declared.operation_type.OperationType.TheVariants.{Subscription}
 use Rattle.graphql_ast.specs.declared.directive.Directive.{Directive}
 use Rattle.graphql_ast.specs.declared.operation.FragmentDefinition.{FragmentDefinition}
 use Rattle.graphql_ast.specs.declared.operation.OperationDefinition.{OperationDefinition}
@@ -22,7 +24,8 @@ default_text (Some default) = codes " = " ++ value_text default.value
 -- a variable, as `$a: Int = 1 @b`: section 2.10
 abbrev pub variable_text : NodeView VariableDefinition → List ℕ
 variable_text variable =
-    codes "$" ++ variable.value.name.text ++ codes ": " ++ type_text variable.value.ty.value ++ default_text variable.value.default_value ++ directives_text variable.value.directives.0
+    codes "$" ++ variable.value.name.text ++ codes ": " ++ type_text variable.value.ty.value
+    ++ default_text variable.value.default_value ++ directives_text variable.value.directives.0
 
 -- variables behind an opening, as `($a: Int, $b: Int)`, or nothing where there is none
 abbrev pub variables_text : List ℕ → List (NodeView VariableDefinition) → List ℕ
@@ -36,10 +39,13 @@ signature_text (Some name) variables = codes " " ++ name.text ++ variables_text 
 -- an operation with its keyword, as `query Q @a {..}`
 abbrev pub long_text : OperationDefinition → List ℕ
 long_text operation =
-    operation_text operation.operation_type ++ signature_text operation.name operation.variables ++ directives_text operation.directives.0 ++ selections_behind (codes " {") 0 operation.selection_set
+    operation_text operation.operation_type ++ signature_text operation.name operation.variables
+    ++ directives_text operation.directives.0 ++ selections_behind (codes " {") 0 operation.selection_set
 
--- whether an operation is a query without name, variables and directives, which are written as its selections alone
-abbrev pub is_short : OperationType → Option NameView → List (NodeView VariableDefinition) → List (NodeView Directive) → Bool
+-- whether an operation is a query without name, variables and directives, which are written as its selections
+-- alone
+abbrev pub is_short : OperationType → Option NameView → List (NodeView VariableDefinition)
+    → List (NodeView Directive) → Bool
 is_short Query None [] [] = true
 is_short Query None [] (directive ∷ directives) = false
 is_short Query None (variable ∷ variables) directives = false
@@ -57,4 +63,5 @@ operation_definition_text operation =
 -- a fragment, as `fragment F on T @a {..}`: section 2.8
 abbrev pub fragment_definition_text : FragmentDefinition → List ℕ
 fragment_definition_text fragment =
-    codes "fragment " ++ fragment.name.text ++ codes " on " ++ fragment.type_condition.text ++ directives_text fragment.directives.0 ++ selections_behind (codes " {") 0 fragment.selection_set
+    codes "fragment " ++ fragment.name.text ++ codes " on " ++ fragment.type_condition.text
+    ++ directives_text fragment.directives.0 ++ selections_behind (codes " {") 0 fragment.selection_set

@@ -27,12 +27,14 @@ condition_text (Some name) = codes " on " ++ name.text
 -- a field: its head and directives, and its selections, further in by two
 abbrev pub field_step : Field-F Text Text Text → Text
 field_step field indent =
-    field_head indent field.alias field.name field.arguments ++ directives_text field.directives.0 ++ braces (codes " {") indent (λ (inner : ℕ) (text : Text). text inner) field.selection_set
+    field_head indent field.alias field.name field.arguments ++ directives_text field.directives.0
+    ++ braces (codes " {") indent (λ (inner : ℕ) (text : Text). text inner) field.selection_set
 
 -- an inline fragment: its type condition and directives, and its selections, further in by two
 abbrev pub inline_step : InlineFragment-F Text Text Text → Text
 inline_step fragment indent =
-    codes "..." ++ condition_text fragment.type_condition ++ directives_text fragment.directives.0 ++ braces (codes " {") indent (λ (inner : ℕ) (text : Text). text inner) fragment.selection_set
+    codes "..." ++ condition_text fragment.type_condition ++ directives_text fragment.directives.0
+    ++ braces (codes " {") indent (λ (inner : ℕ) (text : Text). text inner) fragment.selection_set
 
 -- one level of a selection, where its field or inline fragment has given its own text
 abbrev pub selection_step : Selection-F Text Text Text → Text
@@ -52,9 +54,11 @@ field_text = fold-Field Text Text Text selection_step field_step inline_step
 abbrev pub inline_text : InlineFragment → Text
 inline_text = fold-InlineFragment Text Text Text selection_step field_step inline_step
 
--- selections, each on a line of its own, between an opening and its `}`, or nothing where there is none: section 2.4
+-- selections, each on a line of its own, between an opening and its `}`, or nothing where there is none:
+-- section 2.4
 abbrev pub selections_behind : List ℕ → ℕ → List Selection → List ℕ
-selections_behind opening indent selections = braces opening indent (λ (inner : ℕ) (selection : Selection). selection_text selection inner) selections
+selections_behind opening indent selections =
+    braces opening indent (λ (inner : ℕ) (selection : Selection). selection_text selection inner) selections
 
 -- selections in braces, or nothing where there is none: section 2.4
 abbrev pub selections_text : ℕ → List Selection → List ℕ

@@ -1,5 +1,5 @@
--- The text of values, types, arguments and directives: GraphQL specification of October 2021, sections 2.6, 2.9, 2.11
--- and 2.12.
+-- The text of values, types, arguments and directives: GraphQL specification of October 2021, sections 2.6,
+-- 2.9, 2.11 and 2.12.
 use Rattle.std.specs.Prelude.{ℕ, List, ◌++◌, if◌then◌else◌, codes}
 use Rattle.graphql_nodes.specs.NameView.{NameView}
 use Rattle.graphql_nodes.specs.NodeView.{NodeView}
@@ -40,7 +40,8 @@ value_step (Value-F.String text) = quoted text
 value_step (Value-F.Float text) = text
 value_step (Value-F.Int text) = text
 value_step (Value-F.Boolean is) = if is then codes "true" else codes "false"
-value_step (Value-F.List items) = codes "[" ++ separated (codes ", ") (λ (item : NodeView (List ℕ)). item.value) items ++ codes "]"
+value_step (Value-F.List items) =
+    codes "[" ++ separated (codes ", ") (λ (item : NodeView (List ℕ)). item.value) items ++ codes "]"
 value_step (Value-F.Object members) = codes "{" ++ separated (codes ", ") member_step members ++ codes "}"
 
 -- a value, as `[1, {a: "b"}]`: section 2.9

@@ -1,6 +1,7 @@
 //! Arguments and directives: GraphQL specification of October 2021, sections 2.6 and 2.12.
 ghost use Rattle.std.specs.Fmt.{WritesOnOk};
-ghost use Rattle.graphql_printing.specs.Texts.{argument_text, arguments_text, directive_text, directives_text};
+ghost use Rattle.graphql_printing.specs.Texts.{argument_text, arguments_text, directive_text};
+ghost use Rattle.graphql_printing.specs.Texts.{directives_text};
 
 use crate::lists::{Written, write_each_behind, write_enclosed};
 use crate::values::{write_label, write_value};

@@ -5,8 +5,12 @@ ghost use Rattle.std.specs.List.{list_any};
 ghost use Rattle.graphql_tokens.specs.BlockStringValues.{is_white, lines};
 ghost use Rattle.graphql_tokens.specs.Bytes.{begins, is_line_end};
 ghost use Rattle.graphql_tokens.specs.Strings.{begins_with_quotes};
-ghost use Rattle.graphql_printing.specs.BlockTest.{first_is_blank, is_outer, is_rare, last_is_blank, passes_test};
-ghost use Rattle.graphql_printing.specs.Descriptions.{begins_at_once, begins_unprintable, block, description_text, ends, fits_one_line, has_line_feed, has_unprintable, inside, is_block, is_mark, is_unprintable};
+ghost use Rattle.graphql_printing.specs.BlockTest.{first_is_blank, is_outer, is_rare, last_is_blank};
+ghost use Rattle.graphql_printing.specs.BlockTest.{passes_test};
+ghost use Rattle.graphql_printing.specs.Descriptions.{begins_at_once, begins_unprintable, block};
+ghost use Rattle.graphql_printing.specs.Descriptions.{description_text, ends, fits_one_line, has_line_feed};
+ghost use Rattle.graphql_printing.specs.Descriptions.{has_unprintable, inside, is_block, is_mark};
+ghost use Rattle.graphql_printing.specs.Descriptions.{is_unprintable};
 ghost use Rattle.graphql_printing.specs.Layout.{line_end};
 
 use crate::layout::write_line_end;
@@ -76,7 +80,8 @@ fn begins_unprintable(text: &[u8]) -> bool
     }
 }
 
-/// Whether a byte is none that most texts have: no character of ASCII that is printed, no tab and no line feed.
+/// Whether a byte is none that most texts have: no character of ASCII that is printed, no tab and no line
+/// feed.
 fn is_rare(byte: u8) -> bool
     ensures { result ≡ is_rare byte }
 {
@@ -230,7 +235,8 @@ fn write_block<W: Write>(f: &mut Formatter<W>, text: &str, indent: usize) -> fmt
 
 /// Writes a line end, if the text doesn't begin at once.
 fn write_start<W: Write>(f: &mut Formatter<W>, text: &[u8], indent: usize) -> fmt::Result
-    ensures { WritesOnOk W.write_str_gives f.old result (if begins_at_once text.now then [] else line_end indent) f.new }
+    ensures { WritesOnOk W.write_str_gives f.old result (if begins_at_once text.now then []
+        else line_end indent) f.new }
 {
     if begins_at_once(text) {
         return Ok(());

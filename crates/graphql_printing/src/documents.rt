@@ -2,7 +2,8 @@
 ghost use Rattle.std.specs.Prelude.{◌≡◌};
 ghost use Rattle.std.specs.Fmt.{WritesOnOk};
 ghost use Rattle.graphql_productions.specs.Documents.{takes_braces};
-ghost use Rattle.graphql_printing.specs.Documents.{definition_text, definitions_behind, definitions_text, operation_behind};
+ghost use Rattle.graphql_printing.specs.Documents.{definition_text, definitions_behind, definitions_text};
+ghost use Rattle.graphql_printing.specs.Documents.{operation_behind};
 
 use crate::operations::{write_fragment, write_long, write_operation};
 use crate::type_system::{
@@ -172,7 +173,8 @@ fn write_definitions_behind<W: Write>(
     definitions: &[Definition],
     first_braces: bool,
 ) -> fmt::Result
-    ensures { WritesOnOk W.write_str_gives f.old result (definitions_behind first_braces definitions.now) f.new }
+    ensures { WritesOnOk W.write_str_gives f.old result (definitions_behind first_braces definitions.now)
+        f.new }
 {
     let mut braces = first_braces;
     for definition in definitions {

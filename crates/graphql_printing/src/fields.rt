@@ -23,7 +23,8 @@ pub fn write_field_head<W: Write>(
     arguments: &[Node<Argument>],
     indent: usize,
 ) -> fmt::Result
-    ensures { WritesOnOk W.write_str_gives f.old result (field_head indent alias.now name.now arguments.now) f.new }
+    ensures { WritesOnOk W.write_str_gives f.old result (field_head indent alias.now name.now arguments.now)
+        f.new }
 {
     if arguments.is_empty() {
         return write_field_name(f, alias, name);

@@ -24,7 +24,8 @@ pub(crate) fn write_each_behind<T: Written, W: Write>(
     items: &[T],
     indent: usize,
 ) -> fmt::Result
-    ensures { WritesOnOk W.write_str_gives f.old result (each_behind separator.now (T.text indent) items.now) f.new }
+    ensures { WritesOnOk W.write_str_gives f.old result (each_behind separator.now (T.text indent) items.now)
+        f.new }
 {
     for item in items {
         f.write_str(separator)?;
@@ -40,7 +41,8 @@ pub(crate) fn write_separated<T: Written, W: Write>(
     items: &[T],
     indent: usize,
 ) -> fmt::Result
-    ensures { WritesOnOk W.write_str_gives f.old result (separated separator.now (T.text indent) items.now) f.new }
+    ensures { WritesOnOk W.write_str_gives f.old result (separated separator.now (T.text indent) items.now)
+        f.new }
 {
     let [first, others @ ..] = items else {
         return Ok(());
@@ -59,7 +61,8 @@ pub(crate) fn write_enclosed<T: Written, W: Write>(
     items: &[T],
     indent: usize,
 ) -> fmt::Result
-    ensures { WritesOnOk W.write_str_gives f.old result (enclosed opening.now separator.now closing.now (T.text indent) items.now) f.new }
+    ensures { WritesOnOk W.write_str_gives f.old result
+        (enclosed opening.now separator.now closing.now (T.text indent) items.now) f.new }
 {
     if items.is_empty() {
         return Ok(());
@@ -75,7 +78,8 @@ fn write_each_line<T: Written, W: Write>(
     items: &[T],
     indent: usize,
 ) -> fmt::Result
-    ensures { WritesOnOk W.write_str_gives f.old result (each_behind (line_end indent) (T.text indent) items.now) f.new }
+    ensures { WritesOnOk W.write_str_gives f.old result
+        (each_behind (line_end indent) (T.text indent) items.now) f.new }
 {
     for item in items {
         write_line_end(f, indent)?;
@@ -93,7 +97,8 @@ pub(crate) fn write_on_lines<T: Written, W: Write>(
     items: &[T],
     indent: usize,
 ) -> fmt::Result
-    ensures { WritesOnOk W.write_str_gives f.old result (on_lines opening.now closing.now indent T.text items.now) f.new }
+    ensures { WritesOnOk W.write_str_gives f.old result
+        (on_lines opening.now closing.now indent T.text items.now) f.new }
 {
     if items.is_empty() {
         return Ok(());

@@ -1,7 +1,9 @@
 //! Operations and fragments: GraphQL specification of October 2021, sections 2.3, 2.8 and 2.10.
 ghost use Rattle.std.specs.Prelude.{◌≡◌};
 ghost use Rattle.std.specs.Fmt.{WritesOnOk};
-ghost use Rattle.graphql_printing.specs.Operations.{default_text, fragment_definition_text, is_short, long_text, operation_definition_text, signature_text, variable_text, variables_text};
+ghost use Rattle.graphql_printing.specs.Operations.{default_text, fragment_definition_text, is_short};
+ghost use Rattle.graphql_printing.specs.Operations.{long_text, operation_definition_text, signature_text};
+ghost use Rattle.graphql_printing.specs.Operations.{variable_text, variables_text};
 
 use crate::arguments::write_directives;
 use crate::lists::{Written, write_enclosed};

@@ -1,6 +1,7 @@
 //! Selections: GraphQL specification of October 2021, sections 2.4 to 2.8.
 ghost use Rattle.std.specs.Fmt.{WritesOnOk};
-ghost use Rattle.graphql_printing.specs.Selections.{condition_text, field_text, inline_text, selection_text, selections_behind, spread_text};
+ghost use Rattle.graphql_printing.specs.Selections.{condition_text, field_text, inline_text, selection_text};
+ghost use Rattle.graphql_printing.specs.Selections.{selections_behind, spread_text};
 
 use crate::arguments::write_directives;
 use crate::fields::write_field_head;
@@ -20,7 +21,8 @@ pub fn write_selections<W: Write>(
     selections: &[Selection],
     indent: usize,
 ) -> fmt::Result
-    ensures { WritesOnOk W.write_str_gives f.old result (selections_behind opening.now indent selections.now) f.new }
+    ensures { WritesOnOk W.write_str_gives f.old result (selections_behind opening.now indent selections.now)
+        f.new }
 {
     let [first, others @ ..] = selections else {
         return Ok(());

@@ -6,7 +6,13 @@ ghost use Rattle.graphql_nodes.specs.LocationTexts.{location_text};
 ghost use Rattle.graphql_nodes.specs.declared.type_kind.TypeKind.TheVariants as t;
 ghost use Rattle.graphql_ast.specs.Parts.{directed, fielded};
 ghost use Rattle.graphql_printing.specs.Texts.{directives_text};
-ghost use Rattle.graphql_printing.specs.TypeSystem.{argument_definitions_text, described, directive_shape, enum_value_further_in, enum_value_text, field_definition_text, field_further_in, fielded_text, input_value_further_in, input_value_text, interfaces_text, members_text, name_text, repeatable_text, root_text, schema_shape, takes_lines, type_shape};
+ghost use Rattle.graphql_printing.specs.TypeSystem.{argument_definitions_text, described, directive_shape};
+ghost use Rattle.graphql_printing.specs.TypeSystem.{enum_value_further_in, enum_value_text};
+ghost use Rattle.graphql_printing.specs.TypeSystem.{field_definition_text, field_further_in, fielded_text};
+ghost use Rattle.graphql_printing.specs.TypeSystem.{input_value_further_in, input_value_text};
+ghost use Rattle.graphql_printing.specs.TypeSystem.{interfaces_text, members_text, name_text};
+ghost use Rattle.graphql_printing.specs.TypeSystem.{repeatable_text, root_text, schema_shape, takes_lines};
+ghost use Rattle.graphql_printing.specs.TypeSystem.{type_shape};
 
 use crate::arguments::write_directives;
 use crate::descriptions::write_description;
@@ -177,7 +183,8 @@ fn write_head<W: Write>(
     name: &Name,
     directives: &DirectiveList,
 ) -> fmt::Result
-    ensures { WritesOnOk W.write_str_gives f.old result (keyword.now ++ codes " " ++ name.now.text ++ directives_text directives.now.0) f.new }
+    ensures { WritesOnOk W.write_str_gives f.old result (keyword.now ++ codes " " ++ name.now.text
+        ++ directives_text directives.now.0) f.new }
 {
     write_keyword(f, keyword, name)?;
     write_directives(f, directives.0.as_slice())
@@ -189,7 +196,8 @@ pub(crate) fn write_scalar<W: Write>(
     name: &Name,
     directives: &DirectiveList,
 ) -> fmt::Result
-    ensures { WritesOnOk W.write_str_gives f.old result (type_shape t.Scalar name.now (directed directives.now)) f.new }
+    ensures { WritesOnOk W.write_str_gives f.old result
+        (type_shape t.Scalar name.now (directed directives.now)) f.new }
 {
     write_head(f, "scalar", name, directives)
 }
@@ -203,7 +211,8 @@ pub(crate) fn write_fielded<W: Write>(
     directives: &DirectiveList,
     fields: &[Node<FieldDefinition>],
 ) -> fmt::Result
-    ensures { WritesOnOk W.write_str_gives f.old result (keyword.now ++ codes " " ++ name.now.text ++ fielded_text (fielded interfaces.now directives.now fields.now)) f.new }
+    ensures { WritesOnOk W.write_str_gives f.old result (keyword.now ++ codes " " ++ name.now.text
+        ++ fielded_text (fielded interfaces.now directives.now fields.now)) f.new }
 {
     write_keyword(f, keyword, name)?;
     write_enclosed(f, " implements ", " & ", "", interfaces, 0)?;
@@ -218,7 +227,8 @@ pub(crate) fn write_union<W: Write>(
     directives: &DirectiveList,
     members: &[NamedType],
 ) -> fmt::Result
-    ensures { WritesOnOk W.write_str_gives f.old result (type_shape t.Union name.now (record (directed directives.now) { names = members.now })) f.new }
+    ensures { WritesOnOk W.write_str_gives f.old result
+        (type_shape t.Union name.now (record (directed directives.now) { names = members.now })) f.new }
 {
     write_head(f, "union", name, directives)?;
     write_enclosed(f, " = ", " | ", "", members, 0)
@@ -231,7 +241,8 @@ pub(crate) fn write_enum<W: Write>(
     directives: &DirectiveList,
     values: &[Node<EnumValueDefinition>],
 ) -> fmt::Result
-    ensures { WritesOnOk W.write_str_gives f.old result (type_shape t.Enum name.now (record (directed directives.now) { values = values.now })) f.new }
+    ensures { WritesOnOk W.write_str_gives f.old result
+        (type_shape t.Enum name.now (record (directed directives.now) { values = values.now })) f.new }
 {
     write_head(f, "enum", name, directives)?;
     write_braces(f, " {", values, 0)
@@ -244,7 +255,9 @@ pub(crate) fn write_input_object<W: Write>(
     directives: &DirectiveList,
     fields: &[Node<InputValueDefinition>],
 ) -> fmt::Result
-    ensures { WritesOnOk W.write_str_gives f.old result (type_shape t.InputObject name.now (record (directed directives.now) { input_fields = fields.now })) f.new }
+    ensures { WritesOnOk W.write_str_gives f.old result
+        (type_shape t.InputObject name.now (record (directed directives.now) { input_fields = fields.now }))
+        f.new }
 {
     write_head(f, "input", name, directives)?;
     write_braces(f, " {", fields, 0)

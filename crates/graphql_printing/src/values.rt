@@ -57,7 +57,8 @@ fn write_items<W: Write>(f: &mut Formatter<W>, items: &[Node<Value>]) -> fmt::Re
 
 #[cycle(write)]
 fn write_members<W: Write>(f: &mut Formatter<W>, members: &[(Name, Node<Value>)]) -> fmt::Result
-    ensures { WritesOnOk W.write_str_gives f.old result (separated (codes ", ") member_text members.now) f.new }
+    ensures { WritesOnOk W.write_str_gives f.old result (separated (codes ", ") member_text members.now)
+        f.new }
 {
     let [first, others @ ..] = members else {
         return Ok(());

@@ -53,7 +53,8 @@ pub(crate) struct Width {
 }
 
 impl Write for Width {
-    ghost write_str_gives = { λ before text after. after.units ≡ before.units + min (81 - before.units) (width text) };
+    ghost write_str_gives = { λ before text after. after.units
+        ≡ before.units + min (81 - before.units) (width text) };
 
     fn write_str(&mut self, s: &str) -> fmt::Result {
         let room = ENOUGH.saturating_sub(self.units);

@@ -18,7 +18,8 @@ use Rattle.graphql_productions.specs.TypeSystem.{description_of, is_description}
 abbrev pub Holds : (TreePart → Type 0) → List TreePart → Type 0
 Holds asked parts = AllByRecursion asked parts
 
--- what is known of words, also of some of them, gives what is asked of the parts that single words and nodes are
+-- what is known of words, also of some of them, gives what is asked of the parts that single words and nodes
+-- are
 pub record Serves (asked : TreePart → Type 0) (file : FileId) (Known : List WordView → Type 0) : Type 0 where
   pub split : (head tail : List WordView) → Known (head ++ tail) → Known head × Known tail
   pub node : (w : WordView) (ws : List WordView) → Known (w ∷ ws) → asked (Node (span_at file (w.start, ended w.end ws)))

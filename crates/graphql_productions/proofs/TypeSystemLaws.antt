@@ -1,4 +1,5 @@
--- What definitions and extensions of the type system hold: what is read is spelled so, and the other way round.
+-- What definitions and extensions of the type system hold: what is read is spelled so, and the other way
+-- round.
 use Rattle.std.proofs.Common.{ℕ, true, List, Option, refl}
 use Rattle.graphql_nodes.specs.declared.operation_type.OperationType.{OperationType}
 use Rattle.graphql_nodes.specs.declared.source.FileId.{FileId}

@@ -1,4 +1,5 @@
--- What definitions and extensions of the type system hold: the words before a refused one begin what is spelled.
+-- What definitions and extensions of the type system hold: the words before a refused one begin what is
+-- spelled.
 use Rattle.std.proofs.Common.{ℕ, suc, true, refl}
 use Rattle.graphql_nodes.specs.declared.source.FileId.{FileId}
 use Rattle.graphql_nodes.specs.declared.type_kind.TypeKind.{TypeKind}

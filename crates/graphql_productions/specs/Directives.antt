@@ -25,7 +25,8 @@ no_argument = λ _. Expected i.Argument
 
 -- Argument, constant or not
 unfoldable pub argument_node : FileId → Bool → ℕ → Piece (NodeView Argument)
-argument_node file constant depth = node file (mapped argument_of (seq (name file) (seq (sign k.Colon) (value_node file constant depth))))
+argument_node file constant depth =
+    node file (mapped argument_of (seq (name file) (seq (sign k.Colon) (value_node file constant depth))))
 
 -- Argument, which begins with a name: section 2.6
 abbrev pub argument : FileId → Bool → ℕ → Piece (NodeView Argument)
@@ -33,7 +34,8 @@ argument file constant depth = item is_name no_argument (argument_node file cons
 
 -- Arguments, in parentheses, one at least: section 2.6
 abbrev pub argument_list : FileId → Bool → ℕ → Piece (List (NodeView Argument))
-argument_list file constant depth = enclosed k.LeftParen k.RightParen no_argument depth (λ inside. some (argument file constant inside))
+argument_list file constant depth =
+    enclosed k.LeftParen k.RightParen no_argument depth (λ inside. some (argument file constant inside))
 
 -- Arguments, if there are any
 unfoldable pub arguments : FileId → Bool → ℕ → Piece (List (NodeView Argument))
@@ -49,7 +51,8 @@ no_directive = λ _. Expected (i.Word k.At)
 
 -- Directive, constant or not
 unfoldable pub directive_node : FileId → Bool → ℕ → Piece (NodeView Directive)
-directive_node file constant depth = node file (mapped directive_of (seq (sign k.At) (seq (name file) (arguments file constant depth))))
+directive_node file constant depth =
+    node file (mapped directive_of (seq (sign k.At) (seq (name file) (arguments file constant depth))))
 
 -- Directive, which begins with `@`: section 2.12
 abbrev pub directive : FileId → Bool → ℕ → Piece (NodeView Directive)

@@ -18,7 +18,8 @@ use Rattle.graphql_grammar.specs.Words.{WordView, begins}
 use Rattle.graphql_productions.specs.Nodes.{node}
 use Rattle.graphql_productions.specs.Operations.{fragment_definition, is_operation_type, operation, shorthand}
 use Rattle.graphql_productions.specs.Selections.{bare_selections, no_selection, selection_set}
-use Rattle.graphql_productions.specs.TypeSystem.{expecting, extension, goes_on_type, is_described, is_description, is_none, system_definition}
+use Rattle.graphql_productions.specs.TypeSystem.{expecting, extension, goes_on_type, is_described}
+use Rattle.graphql_productions.specs.TypeSystem.{is_description, is_none, system_definition}
 
 -- OperationDefinition with its keyword: section 2.3
 unfoldable pub operation_definition : FileId → ℕ → Piece Definition
@@ -44,11 +45,15 @@ definition_pick file depth kind =
 
 -- what a definition begins with
 abbrev pub is_definition : Kinds
-is_definition kind = only k.LeftBrace kind || (is_operation_type kind || (only k.Fragment kind || (only k.Extend kind || (is_description kind || is_described kind))))
+is_definition kind =
+    only k.LeftBrace kind
+    || (is_operation_type kind
+    || (only k.Fragment kind || (only k.Extend kind || (is_description kind || is_described kind))))
 
 -- Definition, by its first word
 abbrev pub definition : FileId → ℕ → Piece Definition
-definition file depth = branch is_definition goes_on_type (definition_pick file depth) (expecting i.Definition)
+definition file depth =
+    branch is_definition goes_on_type (definition_pick file depth) (expecting i.Definition)
 
 -- every kind
 abbrev pub any_kind : Kinds
@@ -58,8 +63,8 @@ any_kind kind = true
 abbrev pub document : FileId → ℕ → Piece (List Definition)
 document file depth = some (item any_kind (expecting i.Definition) (definition file depth))
 
--- whether a `{` behind a definition would still be its own: one that may have fields, values, input fields or roots
--- between braces, and has none. Sections 3.3.2, 3.6, 3.7, 3.9 and 3.10
+-- whether a `{` behind a definition would still be its own: one that may have fields, values, input fields or
+-- roots between braces, and has none. Sections 3.3.2, 3.6, 3.7, 3.9 and 3.10
 abbrev pub takes_braces : Definition → Bool
 takes_braces (d.SchemaExtension x) = is_none x.value.root_operations
 takes_braces (d.ObjectTypeDefinition x) = is_none x.value.fields
@@ -76,7 +81,8 @@ takes_braces _ = false
 abbrev pub spells_in_turn : FileId → ℕ → List Definition → List WordView → Type 0
 spells_in_turn file depth [] words = words ≡ []
 spells_in_turn file depth (x ∷ xs) words =
-    Parts ((definition file depth).spells x) (λ tail. spells_in_turn file depth xs tail × ((takes_braces x && begins (only k.LeftBrace) tail) ≡ false)) words
+    Parts ((definition file depth).spells x) (λ tail. spells_in_turn file depth xs tail
+    × ((takes_braces x && begins (only k.LeftBrace) tail) ≡ false)) words
 
 -- the words of a document: one definition or more, so spelled. Section 2.2
 abbrev pub spells_document : FileId → ℕ → List Definition → List WordView → Type 0
@@ -85,7 +91,8 @@ spells_document file depth (x ∷ xs) words = spells_in_turn file depth (x ∷ x
 
 -- selections in braces, where one stands in front, or without them
 abbrev pub selections_pick : FileId → ℕ → Kind → Piece (List Selection)
-selections_pick file depth kind = choose (only k.LeftBrace kind) (selection_set file depth) (bare_selections file depth)
+selections_pick file depth kind =
+    choose (only k.LeftBrace kind) (selection_set file depth) (bare_selections file depth)
 
 -- selections, between braces or without
 abbrev pub selections : FileId → ℕ → Piece (List Selection)

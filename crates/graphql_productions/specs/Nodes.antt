@@ -1,4 +1,5 @@
--- Names and nodes with where they stand, and lists between signs: GraphQL specification of October 2021, section 2.1.9 and appendix B.
+-- Names and nodes with where they stand, and lists between signs: GraphQL specification of October 2021,
+-- section 2.1.9 and appendix B.
 use Rattle.std.specs.Prelude.{ℕ, List, [], Option, None, Some}
 use Rattle.graphql_nodes.specs.declared.source.FileId.{FileId}
 use Rattle.graphql_nodes.specs.declared.source.SourceSpan.{SourceSpan}
@@ -8,7 +9,8 @@ use Rattle.graphql_grammar.specs.declared.fault.FaultKind.TheVariants.{Expected}
 use Rattle.graphql_grammar.specs.declared.fault.Item.TheVariants as i
 use Rattle.graphql_grammar.specs.declared.kind.Kind.{Kind}
 use Rattle.graphql_grammar.specs.Kinds.{is_name, only}
-use Rattle.graphql_grammar.specs.Pieces.{Piece, Wrong, headed, located, mapped, nested, seq, sign, sign_or, word}
+use Rattle.graphql_grammar.specs.Pieces.{Piece, Wrong, headed, located, mapped, nested, seq, sign, sign_or}
+use Rattle.graphql_grammar.specs.Pieces.{word}
 use Rattle.graphql_grammar.specs.Words.{WordView}
 
 -- the bytes from the first of these up to the second
@@ -41,7 +43,8 @@ between opening closing wrong p = mapped inner (seq (sign opening) (seq p (sign_
 
 -- the same, where so many signs may be open; what stands between them may open one less
 abbrev pub enclosed : {A : Type 0} → Kind → Kind → Wrong → ℕ → (ℕ → Piece A) → Piece A
-enclosed opening closing wrong depth p = headed (only opening) (nested depth (λ inside. between opening closing wrong (p inside)))
+enclosed opening closing wrong depth p =
+    headed (only opening) (nested depth (λ inside. between opening closing wrong (p inside)))
 
 -- a list that may be left out
 abbrev pub or_none : {A : Type 0} → Option (List A) → List A

@@ -17,7 +17,8 @@ use Rattle.graphql_grammar.specs.declared.fault.Item.TheVariants as i
 use Rattle.graphql_grammar.specs.declared.kind.Kind.{Kind}
 use Rattle.graphql_grammar.specs.declared.kind.Kind.TheVariants as k
 use Rattle.graphql_grammar.specs.Kinds.{Kinds, is_name, none, only}
-use Rattle.graphql_grammar.specs.Pieces.{Piece, Wrong, branch, choose, headed, item, mapped, nothing, optional, seq, sign, some}
+use Rattle.graphql_grammar.specs.Pieces.{Piece, Wrong, branch, choose, headed, item, mapped, nothing}
+use Rattle.graphql_grammar.specs.Pieces.{optional, seq, sign, some}
 use Rattle.graphql_productions.specs.Directives.{directives}
 use Rattle.graphql_productions.specs.Nodes.{behind, enclosed, name, node, or_none}
 use Rattle.graphql_productions.specs.Selections.{fragment_name, selection_set, type_condition}
@@ -57,12 +58,17 @@ abbrev pub no_variable : Wrong
 no_variable = λ _. Expected i.VariableDefinition
 
 -- the definition of a variable of its name, type, default value and directives
-abbrev pub variable_of : NameView × (Unit {0} × (NodeView TypeReference × (Option (NodeView Value) × DirectiveList))) → VariableDefinition
+abbrev pub variable_of : NameView
+    × (Unit {0} × (NodeView TypeReference × (Option (NodeView Value) × DirectiveList))) → VariableDefinition
 variable_of x = record { name = x.0; ty = x.1.1.0; default_value = x.1.1.1.0; directives = x.1.1.1.1 }
 
 -- a type behind `:`, with a default value, if there is one, and directives
-unfoldable pub typed : FileId → ℕ → Piece (Unit {0} × (NodeView TypeReference × (Option (NodeView Value) × DirectiveList)))
-typed file depth = seq (sign k.Colon) (seq (node file (type file depth)) (seq (optional (default_value file depth)) (directives file true depth)))
+unfoldable pub typed : FileId → ℕ
+    → Piece (Unit {0} × (NodeView TypeReference × (Option (NodeView Value) × DirectiveList)))
+typed file depth =
+    seq (sign k.Colon)
+    (seq (node file (type file depth))
+    (seq (optional (default_value file depth)) (directives file true depth)))
 
 -- VariableDefinition: section 2.10
 unfoldable pub variable_node : FileId → ℕ → Piece (NodeView VariableDefinition)
@@ -74,11 +80,22 @@ variable_definition file depth = item (only k.Dollar) no_variable (variable_node
 
 -- VariablesDefinition, if there is one
 unfoldable pub variables : FileId → ℕ → Piece (List (NodeView VariableDefinition))
-variables file depth = mapped or_none (optional (enclosed k.LeftParen k.RightParen no_variable depth (λ inside. some (variable_definition file inside))))
+variables file depth =
+    mapped or_none
+    (optional (enclosed k.LeftParen k.RightParen no_variable depth
+    (λ inside. some (variable_definition file inside))))
 
 -- an operation of its parts
-abbrev pub operation_of : OperationType × (Option NameView × (List (NodeView VariableDefinition) × (DirectiveList × List Selection))) → OperationDefinition
-operation_of x = record { operation_type = x.0; name = x.1.0; variables = x.1.1.0; directives = x.1.1.1.0; selection_set = x.1.1.1.1 }
+abbrev pub operation_of : OperationType
+    × (Option NameView × (List (NodeView VariableDefinition) × (DirectiveList × List Selection)))
+    → OperationDefinition
+operation_of x = record {
+  operation_type = x.0;
+  name = x.1.0;
+  variables = x.1.1.0;
+  directives = x.1.1.1.0;
+  selection_set = x.1.1.1.1;
+}
 
 -- the name of an operation
 abbrev pub operation_name : FileId → Piece NameView
@@ -87,21 +104,36 @@ operation_name file = headed is_name (name file)
 -- OperationDefinition: section 2.3
 unfoldable pub operation : FileId → ℕ → Piece OperationDefinition
 operation file depth =
-    mapped operation_of (seq operation_type (seq (optional (operation_name file)) (seq (variables file depth) (seq (directives file false depth) (selection_set file depth)))))
+    mapped operation_of
+    (seq operation_type
+    (seq (optional (operation_name file))
+    (seq (variables file depth) (seq (directives file false depth) (selection_set file depth)))))
 
 -- a query of selections alone
 abbrev pub shorthand_of : List Selection → OperationDefinition
-shorthand_of selections = record { operation_type = o.Query; name = None; variables = []; directives = record { 0 = [] }; selection_set = selections }
+shorthand_of selections =
+    record {
+      operation_type = o.Query;
+      name = None;
+      variables = [];
+      directives = record { 0 = [] };
+      selection_set = selections;
+    }
 
 -- a query without the word, a name, variables and directives
 unfoldable pub shorthand : FileId → ℕ → Piece OperationDefinition
 shorthand file depth = mapped shorthand_of (selection_set file depth)
 
 -- a fragment of its name, condition, directives and selections
-abbrev pub fragment_of : Unit {0} × (NameView × (NameView × (DirectiveList × List Selection))) → FragmentDefinition
-fragment_of x = record { name = x.1.0; type_condition = x.1.1.0; directives = x.1.1.1.0; selection_set = x.1.1.1.1 }
+abbrev pub fragment_of : Unit {0} × (NameView × (NameView × (DirectiveList × List Selection)))
+    → FragmentDefinition
+fragment_of x =
+    record { name = x.1.0; type_condition = x.1.1.0; directives = x.1.1.1.0; selection_set = x.1.1.1.1 }
 
 -- FragmentDefinition: section 2.8
 unfoldable pub fragment_definition : FileId → ℕ → Piece FragmentDefinition
 fragment_definition file depth =
-    mapped fragment_of (seq (sign k.Fragment) (seq (fragment_name file) (seq (type_condition file) (seq (directives file false depth) (selection_set file depth)))))
+    mapped fragment_of
+    (seq (sign k.Fragment)
+    (seq (fragment_name file)
+    (seq (type_condition file) (seq (directives file false depth) (selection_set file depth)))))

@@ -4,7 +4,8 @@ use Rattle.std.specs.List.{AllByRecursion}
 use Rattle.graphql_nodes.specs.BuiltIn.{is_built_in}
 use Rattle.graphql_nodes.specs.declared.source.FileId.{FileId}
 use Rattle.graphql_nodes.specs.declared.source.SourceSpan.{SourceSpan}
-use Rattle.graphql_productions.specs.TreeParts.{Description, EnumName, Float, FragmentName, Int, Name, Node, TreePart, Variable, Wanted}
+use Rattle.graphql_productions.specs.TreeParts.{Description, EnumName, Float, FragmentName, Int, Name, Node}
+use Rattle.graphql_productions.specs.TreeParts.{TreePart, Variable, Wanted}
 
 -- what is asked of each location of nodes, names and descriptions
 abbrev pub asks_location : (Option SourceSpan → Type 0) → TreePart → Type 0
@@ -21,7 +22,8 @@ asks_location Asked (Wanted there) = Unit {0}
 -- there is a location, in this file and between these bytes
 abbrev pub LiesAt : FileId → ℕ → ℕ → Option SourceSpan → Type 0
 LiesAt file from to None = ⊥
-LiesAt file from to (Some span) = (span.file ≡ file) × (from ≤ span.start) × (span.start ≤ span.end) × (span.end ≤ to)
+LiesAt file from to (Some span) = (span.file ≡ file) × (from ≤ span.start) × (span.start ≤ span.end)
+    × (span.end ≤ to)
 
 -- each node, name and description of these parts has a location, in this file and between these bytes
 abbrev pub LiesWithin : FileId → ℕ → ℕ → List TreePart → Type 0

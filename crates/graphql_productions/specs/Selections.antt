@@ -16,7 +16,8 @@ use Rattle.graphql_grammar.specs.declared.kind.Kind.{Kind}
 use Rattle.graphql_grammar.specs.declared.kind.Kind.TheVariants as k
 use Rattle.graphql_grammar.specs.declared.kind.Names.TheVariants as names
 use Rattle.graphql_grammar.specs.Kinds.{Kinds, is_name, names_of, only}
-use Rattle.graphql_grammar.specs.Pieces.{Piece, Wrong, branch, choose, headed, located, mapped, nothing, optional, seq, sign, some, too_deep, word}
+use Rattle.graphql_grammar.specs.Pieces.{Piece, Wrong, branch, choose, headed, located, mapped, nothing}
+use Rattle.graphql_grammar.specs.Pieces.{optional, seq, sign, some, too_deep, word}
 use Rattle.graphql_grammar.specs.Words.{begins}
 use Rattle.graphql_productions.specs.Directives.{arguments, directives}
 use Rattle.graphql_productions.specs.Nodes.{behind, between, name, name_of, node, or_none, span_at}
@@ -38,18 +39,37 @@ abbrev pub alias : FileId → Piece NameView
 alias file = headed (only k.Colon) (alias_body file)
 
 -- a field's own name comes second where it has an alias
-abbrev pub field_of : NameView → Option NameView → List (NodeView Argument) → DirectiveList → List Selection → Field
-field_of first None arguments directives selections = roll-Field (record { alias = None; name = first; arguments = arguments; directives = directives; selection_set = selections })
-field_of first (Some second) arguments directives selections = roll-Field (record { alias = Some first; name = second; arguments = arguments; directives = directives; selection_set = selections })
+abbrev pub field_of : NameView → Option NameView → List (NodeView Argument) → DirectiveList → List Selection
+    → Field
+field_of first None arguments directives selections =
+    roll-Field (record {
+      alias = None;
+      name = first;
+      arguments = arguments;
+      directives = directives;
+      selection_set = selections;
+    })
+field_of first (Some second) arguments directives selections =
+    roll-Field (record {
+      alias = Some first;
+      name = second;
+      arguments = arguments;
+      directives = directives;
+      selection_set = selections;
+    })
 
 -- a field of its alias, name, arguments, directives and selections
-abbrev pub field_made : NameView × (Option NameView × (List (NodeView Argument) × (DirectiveList × Option (List Selection)))) → Field
+abbrev pub field_made : NameView
+    × (Option NameView × (List (NodeView Argument) × (DirectiveList × Option (List Selection)))) → Field
 field_made x = field_of x.0 x.1.0 x.1.1.0 x.1.1.1.0 (or_none x.1.1.1.1)
 
 -- Field: section 2.5
 unfoldable pub field : FileId → ℕ → Piece (List Selection) → Piece Field
 field file depth selections =
-    mapped field_made (seq (name file) (seq (optional (alias file)) (seq (arguments file false depth) (seq (directives file false depth) (optional selections)))))
+    mapped field_made
+    (seq (name file)
+    (seq (optional (alias file))
+    (seq (arguments file false depth) (seq (directives file false depth) (optional selections)))))
 
 -- FragmentName: a name, not `on`
 abbrev pub no_fragment_name : Wrong
@@ -81,7 +101,8 @@ inline_of x = roll-InlineFragment (record { type_condition = x.0; directives = x
 
 -- InlineFragment, behind its `...`: section 2.8.2
 unfoldable pub inline_body : FileId → ℕ → Piece (List Selection) → Piece InlineFragment
-inline_body file depth selections = mapped inline_of (seq (optional (type_condition file)) (seq (directives file false depth) selections))
+inline_body file depth selections =
+    mapped inline_of (seq (optional (type_condition file)) (seq (directives file false depth) selections))
 
 -- a spread or inline fragment that stands at these bytes
 abbrev pub spread_at : FileId → FragmentSpread → ℕ × ℕ → Selection
@@ -94,7 +115,8 @@ inline_at file fragment at = s.InlineFragment (record { value = fragment; locati
 -- what stands behind `...` and begins with a word of this kind: an inline fragment or a spread
 abbrev pub fragment_pick : FileId → ℕ → Piece (List Selection) → Kind → Piece (ℕ × ℕ → Selection)
 fragment_pick file depth selections kind =
-    choose (only k.On kind || (only k.At kind || only k.LeftBrace kind)) (mapped (inline_at file) (inline_body file depth selections)) (
+    choose (only k.On kind || (only k.At kind || only k.LeftBrace kind))
+    (mapped (inline_at file) (inline_body file depth selections)) (
     choose (is_name kind) (mapped (spread_at file) (spread_body file depth)) (
     nothing no_selection))
 
@@ -108,7 +130,8 @@ is_of_directives kind = only k.At kind || only k.LeftParen kind
 
 -- a fragment, behind its `...`, to be placed
 abbrev pub fragment_body : FileId → ℕ → Piece (List Selection) → Piece (ℕ × ℕ → Selection)
-fragment_body file depth selections = branch is_fragment is_of_directives (fragment_pick file depth selections) no_selection
+fragment_body file depth selections =
+    branch is_fragment is_of_directives (fragment_pick file depth selections) no_selection
 
 -- a spread or an inline fragment, at its place
 abbrev pub placed_fragment : (Unit {0} × (ℕ × ℕ → Selection)) × (ℕ × ℕ) → Selection
@@ -116,7 +139,8 @@ placed_fragment x = x.0.1 x.1
 
 -- FragmentSpread or InlineFragment
 unfoldable pub fragment : FileId → ℕ → Piece (List Selection) → Piece Selection
-fragment file depth selections = mapped placed_fragment (located (seq (sign k.Spread) (fragment_body file depth selections)))
+fragment file depth selections =
+    mapped placed_fragment (located (seq (sign k.Spread) (fragment_body file depth selections)))
 
 -- a field as a selection: section 2.5
 unfoldable pub field_selection : FileId → ℕ → Piece (List Selection) → Piece Selection
@@ -131,11 +155,13 @@ selection_pick file depth selections kind =
 
 -- what goes on with a selection
 abbrev pub goes_on_selection : Kinds
-goes_on_selection kind = only k.Colon kind || (only k.LeftParen kind || (only k.At kind || only k.LeftBrace kind))
+goes_on_selection kind =
+    only k.Colon kind || (only k.LeftParen kind || (only k.At kind || only k.LeftBrace kind))
 
 -- Selection, by its first word
 abbrev pub selection : FileId → ℕ → Piece (List Selection) → Piece Selection
-selection file depth selections = branch is_selection goes_on_selection (selection_pick file depth selections) no_selection
+selection file depth selections =
+    branch is_selection goes_on_selection (selection_pick file depth selections) no_selection
 
 -- SelectionSet: selections in braces, one at least: section 2.4
 unfoldable pub selections_of : Piece Selection → Piece (List Selection)
@@ -144,7 +170,8 @@ selections_of p = between k.LeftBrace k.RightBrace no_selection (some p)
 -- selection sets, in which so many signs may be open
 unfoldable pub nested_set : FileId → ℕ → Piece (List Selection)
 nested_set file zero = too_deep
-nested_set file (suc depth) = selections_of (selection file depth (headed (only k.LeftBrace) (nested_set file depth)))
+nested_set file (suc depth) =
+    selections_of (selection file depth (headed (only k.LeftBrace) (nested_set file depth)))
 
 -- SelectionSet: section 2.4
 abbrev pub selection_set : FileId → ℕ → Piece (List Selection)

@@ -1,5 +1,5 @@
--- The parts of a tree of which something may be asked: values, arguments, directives and types. GraphQL specification of October 2021,
--- sections 2.6, 2.9, 2.11 and 2.12.
+-- The parts of a tree of which something may be asked: values, arguments, directives and types. GraphQL
+-- specification of October 2021, sections 2.6, 2.9, 2.11 and 2.12.
 use Rattle.std.specs.Prelude.{ℕ, Bool, not, List, [], ◌∷◌, Option, None, Some}
 use Rattle.std.specs.List.{flat_map}
 use Rattle.graphql_nodes.specs.declared.source.SourceSpan.{SourceSpan}
@@ -62,7 +62,8 @@ value_step constant (Value-F.Float t) = Float t ∷ []
 value_step constant (Value-F.Int t) = Int t ∷ []
 value_step constant (Value-F.Boolean b) = []
 value_step constant (Value-F.List items) = flat_map (node_parts (λ parts. parts)) items
-value_step constant (Value-F.Object members) = flat_map (λ m. Name m.0 ∷ node_parts (λ parts. parts) m.1) members
+value_step constant (Value-F.Object members) =
+    flat_map (λ m. Name m.0 ∷ node_parts (λ parts. parts) m.1) members
 
 -- a value, constant or not
 unfoldable pub value_parts : Bool → Value → List TreePart

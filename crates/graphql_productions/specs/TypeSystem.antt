@@ -1,5 +1,6 @@
 -- The type system: GraphQL specification of October 2021, section 3.
-use Rattle.std.specs.Prelude.{ℕ, List, [], ◌∷◌, Bool, true, false, not, ◌||◌, ◌&&◌, Option, None, Some, if◌then◌else◌}
+use Rattle.std.specs.Prelude.{ℕ, List, [], ◌∷◌, Bool, true, false, not, ◌||◌, ◌&&◌, Option, None, Some}
+use Rattle.std.specs.Prelude.{if◌then◌else◌}
 use Rattle.graphql_nodes.specs.declared.directive_location.DirectiveLocation.{DirectiveLocation}
 use Rattle.graphql_nodes.specs.declared.operation_type.OperationType.{OperationType}
 use Rattle.graphql_nodes.specs.declared.source.FileId.{FileId}
@@ -8,7 +9,8 @@ use Rattle.graphql_nodes.specs.declared.type_kind.TypeKind.{TypeKind}
 use Rattle.graphql_nodes.specs.declared.type_kind.TypeKind.TheVariants as t
 use Rattle.graphql_nodes.specs.NameView.{NameView}
 use Rattle.graphql_nodes.specs.NodeView.{NodeView}
-use Rattle.graphql_ast.specs.Declarations.{schema_definition, schema_extension, type_definition, type_extension}
+use Rattle.graphql_ast.specs.Declarations.{schema_definition, schema_extension, type_definition}
+use Rattle.graphql_ast.specs.Declarations.{type_extension}
 use Rattle.graphql_ast.specs.Parts.{directed}
 use Rattle.graphql_ast.specs.declared.definition.Definition.{Definition}
 use Rattle.graphql_ast.specs.declared.definition.Definition.TheVariants as d
@@ -21,14 +23,16 @@ use Rattle.graphql_ast.specs.declared.type_system.InputValueDefinition.{InputVal
 use Rattle.graphql_ast.specs.declared.value.Value.{Value}
 use Rattle.graphql_tokens.specs.BlockStringValues.{block_string_value}
 use Rattle.graphql_tokens.specs.StringValues.{string_value}
-use Rattle.graphql_grammar.specs.declared.fault.FaultKind.TheVariants.{DescriptionNotAllowed, Expected, ReservedName, UnknownDirectiveLocation}
+use Rattle.graphql_grammar.specs.declared.fault.FaultKind.TheVariants.{DescriptionNotAllowed, Expected}
+use Rattle.graphql_grammar.specs.declared.fault.FaultKind.TheVariants.{ReservedName, UnknownDirectiveLocation}
 use Rattle.graphql_grammar.specs.declared.fault.Item.{Item}
 use Rattle.graphql_grammar.specs.declared.fault.Item.TheVariants as i
 use Rattle.graphql_grammar.specs.declared.kind.Kind.{Kind}
 use Rattle.graphql_grammar.specs.declared.kind.Kind.TheVariants as k
 use Rattle.graphql_grammar.specs.declared.kind.Names.TheVariants as names
 use Rattle.graphql_grammar.specs.Kinds.{Kinds, is_name, names_of, only}
-use Rattle.graphql_grammar.specs.Pieces.{Piece, Wrong, branch, choose, filtered, headed, item, located, mapped, nothing, optional, picked, separated, seq, sign, some, word}
+use Rattle.graphql_grammar.specs.Pieces.{Piece, Wrong, branch, choose, filtered, headed, item, located}
+use Rattle.graphql_grammar.specs.Pieces.{mapped, nothing, optional, picked, separated, seq, sign, some, word}
 use Rattle.graphql_grammar.specs.Words.{WordView, begins}
 use Rattle.graphql_productions.specs.Directives.{directives}
 use Rattle.graphql_productions.specs.Locations.{location_of}
@@ -40,7 +44,11 @@ use Rattle.graphql_productions.specs.Types.{type}
 
 -- the text of a description, at the word that it is
 abbrev pub description_of : FileId → WordView → NameView
-description_of file w = record { text = (if only k.BlockString w.kind then block_string_value w.text else string_value w.text); location = span_at file (w.start, w.end) }
+description_of file w =
+    record {
+      text = (if only k.BlockString w.kind then block_string_value w.text else string_value w.text);
+      location = span_at file (w.start, w.end);
+    }
 
 -- a string or a block string: section 3.2
 abbrev pub is_description : Kinds
@@ -65,12 +73,21 @@ abbrev pub expecting : Item → Wrong
 expecting wanted = λ _. Expected wanted
 
 -- an argument or input field of its parts
-abbrev pub input_of : Option NameView × (NameView × (Unit {0} × (NodeView TypeReference × (Option (NodeView Value) × DirectiveList)))) → InputValueDefinition
-input_of x = record { description = x.0; name = x.1.0; ty = x.1.1.1.0; default_value = x.1.1.1.1.0; directives = x.1.1.1.1.1 }
+abbrev pub input_of : Option NameView
+    × (NameView × (Unit {0} × (NodeView TypeReference × (Option (NodeView Value) × DirectiveList))))
+    → InputValueDefinition
+input_of x = record {
+  description = x.0;
+  name = x.1.0;
+  ty = x.1.1.1.0;
+  default_value = x.1.1.1.1.0;
+  directives = x.1.1.1.1.1;
+}
 
 -- InputValueDefinition
 unfoldable pub input_node : FileId → ℕ → Piece (NodeView InputValueDefinition)
-input_node file depth = node file (mapped input_of (seq (optional (description file)) (seq (name file) (typed file depth))))
+input_node file depth =
+    node file (mapped input_of (seq (optional (description file)) (seq (name file) (typed file depth))))
 
 -- InputValueDefinition: section 3.6.1
 abbrev pub input_value : FileId → ℕ → Piece (NodeView InputValueDefinition)
@@ -78,19 +95,34 @@ input_value file depth = item is_described_name (expecting i.InputValue) (input_
 
 -- input values between these signs, if there are any: ArgumentsDefinition, InputFieldsDefinition
 unfoldable pub input_values : FileId → Kind → Kind → ℕ → Piece (List (NodeView InputValueDefinition))
-input_values file opening closing depth = mapped or_none (optional (enclosed opening closing (expecting i.InputValue) depth (λ inside. some (input_value file inside))))
+input_values file opening closing depth =
+    mapped or_none
+    (optional (enclosed opening closing (expecting i.InputValue) depth
+    (λ inside. some (input_value file inside))))
 
 -- ---- fields: section 3.6
 
 -- a field of its parts
-abbrev pub field_of : Option NameView × (NameView × (List (NodeView InputValueDefinition) × (Unit {0} × (TypeReference × DirectiveList)))) → FieldDefinition
-field_of x = record { description = x.0; name = x.1.0; arguments = x.1.1.0; ty = x.1.1.1.1.0; directives = x.1.1.1.1.1 }
+abbrev pub field_of : Option NameView
+    × (NameView × (List (NodeView InputValueDefinition) × (Unit {0} × (TypeReference × DirectiveList))))
+    → FieldDefinition
+field_of x =
+    record {
+      description = x.0;
+      name = x.1.0;
+      arguments = x.1.1.0;
+      ty = x.1.1.1.1.0;
+      directives = x.1.1.1.1.1;
+    }
 
 -- FieldDefinition
 unfoldable pub field_node : FileId → ℕ → Piece (NodeView FieldDefinition)
 field_node file depth =
     node file (mapped field_of
-    (seq (optional (description file)) (seq (name file) (seq (input_values file k.LeftParen k.RightParen depth) (seq (sign k.Colon) (seq (type file depth) (directives file true depth)))))))
+    (seq (optional (description file))
+    (seq (name file)
+    (seq (input_values file k.LeftParen k.RightParen depth)
+    (seq (sign k.Colon) (seq (type file depth) (directives file true depth)))))))
 
 -- FieldDefinition: section 3.6
 abbrev pub field_definition : FileId → ℕ → Piece (NodeView FieldDefinition)
@@ -98,7 +130,10 @@ field_definition file depth = item is_described_name (expecting i.FieldDefinitio
 
 -- FieldsDefinition, if there is one
 unfoldable pub fields : FileId → ℕ → Piece (List (NodeView FieldDefinition))
-fields file depth = mapped or_none (optional (enclosed k.LeftBrace k.RightBrace (expecting i.FieldDefinition) depth (λ inside. some (field_definition file inside))))
+fields file depth =
+    mapped or_none
+    (optional (enclosed k.LeftBrace k.RightBrace (expecting i.FieldDefinition) depth
+    (λ inside. some (field_definition file inside))))
 
 -- ---- interfaces and members: sections 3.6 and 3.8
 
@@ -134,7 +169,9 @@ enum_value_name file = mapped (name_of file) (word (names_of names.EnumValue) no
 
 -- an enum value with its location: section 3.9
 unfoldable pub enum_value_node : FileId → ℕ → Piece (NodeView EnumValueDefinition)
-enum_value_node file depth = node file (mapped enum_value_of (seq (optional (description file)) (seq (enum_value_name file) (directives file true depth))))
+enum_value_node file depth =
+    node file (mapped enum_value_of
+    (seq (optional (description file)) (seq (enum_value_name file) (directives file true depth))))
 
 -- EnumValueDefinition: section 3.9
 abbrev pub enum_value_definition : FileId → ℕ → Piece (NodeView EnumValueDefinition)
@@ -142,7 +179,10 @@ enum_value_definition file depth = item is_enum_value no_enum_value (enum_value_
 
 -- EnumValuesDefinition, if there is one
 unfoldable pub enum_values : FileId → ℕ → Piece (List (NodeView EnumValueDefinition))
-enum_values file depth = mapped or_none (optional (enclosed k.LeftBrace k.RightBrace no_enum_value depth (λ inside. some (enum_value_definition file inside))))
+enum_values file depth =
+    mapped or_none
+    (optional (enclosed k.LeftBrace k.RightBrace no_enum_value depth
+    (λ inside. some (enum_value_definition file inside))))
 
 -- ---- roots: section 3.3
 
@@ -190,16 +230,21 @@ schema_parts x = record (directed x.0) { roots = x.1 }
 
 -- the interfaces, directives and fields of an object or interface type: sections 3.6 and 3.7
 unfoldable pub fielded : FileId → ℕ → Piece Parts
-fielded file depth = mapped fielded_parts (seq (names_behind file k.Implements k.Ampersand) (seq (directives file true depth) (fields file depth)))
+fielded file depth =
+    mapped fielded_parts
+    (seq (names_behind file k.Implements k.Ampersand)
+    (seq (directives file true depth) (fields file depth)))
 
 -- what stands behind the name of a type of this kind: sections 3.5 to 3.10
 unfoldable pub parts : FileId → TypeKind → ℕ → Piece Parts
 parts file t.Scalar depth = mapped scalar_parts (directives file true depth)
 parts file t.Object depth = fielded file depth
 parts file t.Interface depth = fielded file depth
-parts file t.Union depth = mapped union_parts (seq (directives file true depth) (names_behind file k.Equals k.Pipe))
+parts file t.Union depth =
+    mapped union_parts (seq (directives file true depth) (names_behind file k.Equals k.Pipe))
 parts file t.Enum depth = mapped enum_parts (seq (directives file true depth) (enum_values file depth))
-parts file t.InputObject depth = mapped input_parts (seq (directives file true depth) (input_values file k.LeftBrace k.RightBrace depth))
+parts file t.InputObject depth =
+    mapped input_parts (seq (directives file true depth) (input_values file k.LeftBrace k.RightBrace depth))
 
 -- the word of a kind of types
 abbrev pub keyword : TypeKind → Kind
@@ -222,7 +267,8 @@ type_of kind x = λ description location. type_definition kind description x.1.0
 
 -- ScalarTypeDefinition .. InputObjectTypeDefinition, behind the description
 unfoldable pub type_body : FileId → TypeKind → ℕ → Piece Described
-type_body file kind depth = mapped (type_of kind) (seq (sign (keyword kind)) (seq (name file) (parts file kind depth)))
+type_body file kind depth =
+    mapped (type_of kind) (seq (sign (keyword kind)) (seq (name file) (parts file kind depth)))
 
 -- the definition of the schema, of what it has
 abbrev pub schema_of : Unit {0} × (DirectiveList × List (NodeView (OperationType × NameView))) → Described
@@ -230,7 +276,8 @@ schema_of x = λ description location. schema_definition description (schema_par
 
 -- SchemaDefinition, behind the description: section 3.3
 unfoldable pub schema_body : FileId → ℕ → Piece Described
-schema_body file depth = mapped schema_of (seq (sign k.Schema) (seq (directives file true depth) (roots file depth)))
+schema_body file depth =
+    mapped schema_of (seq (sign k.Schema) (seq (directives file true depth) (roots file depth)))
 
 -- a directive location was expected; a name that is none is unknown
 abbrev pub no_location : Wrong
@@ -250,20 +297,35 @@ is_there None = false
 is_there (Some _) = true
 
 -- the definition of a directive, of its parts: section 3.13
-abbrev pub directive_of : Unit {0} × (Unit {0} × (NameView × (List (NodeView InputValueDefinition) × (Option (Unit {0}) × (Unit {0} × List DirectiveLocation))))) → Described
+abbrev pub directive_of : Unit {0}
+    × (Unit {0} × (NameView
+    × (List (NodeView InputValueDefinition) × (Option (Unit {0}) × (Unit {0} × List DirectiveLocation)))))
+    → Described
 directive_of x = λ description location. d.DirectiveDefinition (record {
-  value = record { description = description; name = x.1.1.0; arguments = x.1.1.1.0; repeatable = is_there x.1.1.1.1.0; locations = x.1.1.1.1.1.1 };
+  value = record {
+    description = description;
+    name = x.1.1.0;
+    arguments = x.1.1.1.0;
+    repeatable = is_there x.1.1.1.1.0;
+    locations = x.1.1.1.1.1.1;
+  };
   location = location;
 })
 
 -- DirectiveDefinition, behind the description: section 3.13
 unfoldable pub directive_body : FileId → ℕ → Piece Described
 directive_body file depth =
-    mapped directive_of (seq (sign k.Directive) (seq (sign k.At) (seq (name file) (seq (input_values file k.LeftParen k.RightParen depth) (seq (optional (sign k.Repeatable)) (seq (sign k.On) (separated k.Pipe location)))))))
+    mapped directive_of
+    (seq (sign k.Directive)
+    (seq (sign k.At)
+    (seq (name file)
+    (seq (input_values file k.LeftParen k.RightParen depth)
+    (seq (optional (sign k.Repeatable)) (seq (sign k.On) (separated k.Pipe location)))))))
 
 -- what no description may stand before
 abbrev pub is_undescribed : Kinds
-is_undescribed kind = only k.LeftBrace kind || (is_operation_type kind || (only k.Fragment kind || only k.Extend kind))
+is_undescribed kind =
+    only k.LeftBrace kind || (is_operation_type kind || (only k.Fragment kind || only k.Extend kind))
 
 -- a definition was expected; one that has no description can not stand behind one
 abbrev pub no_described : Wrong
@@ -284,11 +346,20 @@ described_pick file depth kind =
 
 -- the words that definitions of the type system begin with, behind their descriptions
 abbrev pub is_described : Kinds
-is_described kind = only k.Schema kind || (only k.Scalar kind || (only k.Type kind || (only k.Interface kind || (only k.Union kind || (only k.Enum kind || (only k.Input kind || only k.Directive kind))))))
+is_described kind =
+    only k.Schema kind
+    || (only k.Scalar kind
+    || (only k.Type kind
+    || (only k.Interface kind
+    || (only k.Union kind || (only k.Enum kind || (only k.Input kind || only k.Directive kind))))))
 
 -- what goes on with a definition of the type system, or an extension
 abbrev pub goes_on_type : Kinds
-goes_on_type kind = only k.At kind || (only k.LeftParen kind || (only k.LeftBrace kind || (only k.Implements kind || (only k.Ampersand kind || (only k.Equals kind || only k.Pipe kind)))))
+goes_on_type kind =
+    only k.At kind
+    || (only k.LeftParen kind
+    || (only k.LeftBrace kind
+    || (only k.Implements kind || (only k.Ampersand kind || (only k.Equals kind || only k.Pipe kind)))))
 
 -- a definition of the type system without its description: section 3
 abbrev pub described : FileId → ℕ → Piece Described
@@ -300,7 +371,8 @@ definition_made file x = x.0.1 x.0.0 (span_at file x.1)
 
 -- TypeSystemDefinition, from its description on
 unfoldable pub system_definition : FileId → ℕ → Piece Definition
-system_definition file depth = mapped (definition_made file) (located (seq (optional (description file)) (described file depth)))
+system_definition file depth =
+    mapped (definition_made file) (located (seq (optional (description file)) (described file depth)))
 
 -- ---- extensions
 
@@ -311,7 +383,10 @@ is_none (x ∷ xs) = false
 
 -- whether there is any part
 abbrev pub has_part : Parts → Bool
-has_part p = not (is_none p.directives && (is_none p.names && (is_none p.fields && (is_none p.values && (is_none p.input_fields && is_none p.roots)))))
+has_part p =
+    not (is_none p.directives
+    && (is_none p.names
+    && (is_none p.fields && (is_none p.values && (is_none p.input_fields && is_none p.roots)))))
 
 -- the extension of a type of this kind, of its name and what it adds
 abbrev pub extension_of : TypeKind → Unit {0} × (NameView × Parts) → Option SourceSpan → Definition
@@ -320,7 +395,9 @@ extension_of kind x location = type_extension kind x.1.0 x.1.1 location
 -- ScalarTypeExtension .. InputObjectTypeExtension, behind `extend`
 unfoldable pub extension_body : FileId → TypeKind → ℕ → Piece (Option SourceSpan → Definition)
 extension_body file kind depth =
-    mapped (extension_of kind) (seq (sign (keyword kind)) (seq (name file) (filtered has_part (expecting i.ExtensionPart) (parts file kind depth))))
+    mapped (extension_of kind)
+    (seq (sign (keyword kind))
+    (seq (name file) (filtered has_part (expecting i.ExtensionPart) (parts file kind depth))))
 
 -- the roots between braces, if they are there
 abbrev pub optional_roots : FileId → ℕ → Piece (List (NodeView (OperationType × NameView)))
@@ -333,7 +410,10 @@ schema_extension_of x location = schema_extension x.1 location
 -- SchemaExtension, behind `extend`: section 3.3.2
 unfoldable pub schema_extension_body : FileId → ℕ → Piece (Option SourceSpan → Definition)
 schema_extension_body file depth =
-    mapped schema_extension_of (seq (sign k.Schema) (filtered has_part (expecting i.ExtensionPart) (mapped schema_parts (seq (directives file true depth) (optional_roots file depth)))))
+    mapped schema_extension_of
+    (seq (sign k.Schema)
+    (filtered has_part (expecting i.ExtensionPart)
+    (mapped schema_parts (seq (directives file true depth) (optional_roots file depth)))))
 
 -- the extension that goes on with a word of this kind behind `extend`
 abbrev pub extended_pick : FileId → ℕ → Kind → Piece (Option SourceSpan → Definition)
@@ -349,7 +429,11 @@ extended_pick file depth kind =
 
 -- the words that say what is extended
 abbrev pub is_extended : Kinds
-is_extended kind = only k.Schema kind || (only k.Scalar kind || (only k.Type kind || (only k.Interface kind || (only k.Union kind || (only k.Enum kind || only k.Input kind)))))
+is_extended kind =
+    only k.Schema kind
+    || (only k.Scalar kind
+    || (only k.Type kind
+    || (only k.Interface kind || (only k.Union kind || (only k.Enum kind || only k.Input kind)))))
 
 -- an extension without its `extend`: section 3.4.3
 abbrev pub extended : FileId → ℕ → Piece (Option SourceSpan → Definition)

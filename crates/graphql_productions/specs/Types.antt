@@ -8,7 +8,8 @@ use Rattle.graphql_grammar.specs.declared.fault.Item.TheVariants as i
 use Rattle.graphql_grammar.specs.declared.kind.Kind.{Kind}
 use Rattle.graphql_grammar.specs.declared.kind.Kind.TheVariants as k
 use Rattle.graphql_grammar.specs.Kinds.{Kinds, is_name, only}
-use Rattle.graphql_grammar.specs.Pieces.{Piece, Wrong, branch, choose, mapped, nothing, optional, seq, sign, too_deep}
+use Rattle.graphql_grammar.specs.Pieces.{Piece, Wrong, branch, choose, mapped, nothing, optional, seq, sign}
+use Rattle.graphql_grammar.specs.Pieces.{too_deep}
 use Rattle.graphql_grammar.specs.Pieces.{headed}
 use Rattle.graphql_productions.specs.Nodes.{between, name}
 
@@ -26,7 +27,8 @@ named_type file = mapped Named (name file)
 
 -- ListType
 unfoldable pub list_type_of : Piece TypeReference → Piece TypeReference
-list_type_of item = mapped ListOf (between k.LeftBracket k.RightBracket (λ _. Expected (i.Word k.RightBracket)) item)
+list_type_of item =
+    mapped ListOf (between k.LeftBracket k.RightBracket (λ _. Expected (i.Word k.RightBracket)) item)
 
 -- the type that begins with a word of this kind: a list, or a name
 abbrev pub type_pick : FileId → Piece TypeReference → Kind → Piece TypeReference
@@ -42,12 +44,15 @@ required_where (type, Some _) = made_non_null type
 
 -- Type: a name or a list, either with `!` behind it
 abbrev pub type_by : FileId → Piece TypeReference → Piece TypeReference
-type_by file list = mapped required_where (seq (branch is_type (λ _. false) (type_pick file list) no_type) (optional (sign k.Bang)))
+type_by file list =
+    mapped required_where
+    (seq (branch is_type (λ _. false) (type_pick file list) no_type) (optional (sign k.Bang)))
 
 -- list types, in which so many signs may be open
 unfoldable pub nested_list_type : FileId → ℕ → Piece TypeReference
 nested_list_type file zero = too_deep
-nested_list_type file (suc depth) = list_type_of (type_by file (headed (only k.LeftBracket) (nested_list_type file depth)))
+nested_list_type file (suc depth) =
+    list_type_of (type_by file (headed (only k.LeftBracket) (nested_list_type file depth)))
 
 -- Type, in which so many signs may be open
 abbrev pub type : FileId → ℕ → Piece TypeReference

@@ -12,7 +12,8 @@ use Rattle.graphql_grammar.specs.declared.fault.Item.TheVariants as i
 use Rattle.graphql_grammar.specs.declared.kind.Kind.{Kind}
 use Rattle.graphql_grammar.specs.declared.kind.Kind.TheVariants as k
 use Rattle.graphql_grammar.specs.Kinds.{Kinds, is_name, none, only}
-use Rattle.graphql_grammar.specs.Pieces.{Piece, Wrong, branch, choose, headed, many, mapped, nothing, seq, sign, too_deep, word}
+use Rattle.graphql_grammar.specs.Pieces.{Piece, Wrong, branch, choose, headed, many, mapped, nothing, seq}
+use Rattle.graphql_grammar.specs.Pieces.{sign, too_deep, word}
 use Rattle.graphql_productions.specs.Nodes.{behind, between, name, node}
 
 -- a value was expected
@@ -21,7 +22,13 @@ no_value = λ _. Expected i.Value
 
 -- what a value begins with
 abbrev pub is_value : Kinds
-is_value kind = is_name kind || (only k.Int kind || (only k.Float kind || (only k.String kind || (only k.BlockString kind || (only k.Dollar kind || (only k.LeftBracket kind || only k.LeftBrace kind))))))
+is_value kind =
+    is_name kind
+    || (only k.Int kind
+    || (only k.Float kind
+    || (only k.String kind
+    || (only k.BlockString kind
+    || (only k.Dollar kind || (only k.LeftBracket kind || only k.LeftBrace kind))))))
 
 -- IntValue: section 2.9.1
 unfoldable pub int_value : Piece Value
@@ -33,11 +40,13 @@ float_value = mapped (λ w. roll-Value (Value-F.Float w.text)) (word (only k.Flo
 
 -- StringValue: section 2.9.4
 unfoldable pub quoted_value : Piece Value
-quoted_value = mapped (λ w. roll-Value (Value-F.String (value_of_string w.text))) (word (only k.String) no_value)
+quoted_value =
+    mapped (λ w. roll-Value (Value-F.String (value_of_string w.text))) (word (only k.String) no_value)
 
 -- StringValue as a block string: section 2.9.4
 unfoldable pub block_value : Piece Value
-block_value = mapped (λ w. roll-Value (Value-F.String (block_string_value w.text))) (word (only k.BlockString) no_value)
+block_value =
+    mapped (λ w. roll-Value (Value-F.String (block_string_value w.text))) (word (only k.BlockString) no_value)
 
 -- BooleanValue: section 2.9.3
 unfoldable pub true_value : Piece Value
@@ -62,7 +71,8 @@ variable file = mapped behind (seq (sign k.Dollar) (name file))
 -- a variable, which a constant value has none of: section 2.10
 unfoldable pub variable_or_none : FileId → Bool → Piece Value
 variable_or_none file constant =
-    choose constant (nothing (λ _. VariableInConstant)) (mapped (λ n. roll-Value (Value-F.Variable n)) (variable file))
+    choose constant (nothing (λ _. VariableInConstant))
+    (mapped (λ n. roll-Value (Value-F.Variable n)) (variable file))
 
 -- a variable as a value, which begins with `$`: section 2.10
 abbrev pub variable_value : FileId → Bool → Piece Value
@@ -70,7 +80,9 @@ variable_value file constant = headed (only k.Dollar) (variable_or_none file con
 
 -- ListValue: section 2.9.7
 unfoldable pub list_of : Piece (NodeView Value) → Piece Value
-list_of item = mapped (λ items. roll-Value (Value-F.List items)) (between k.LeftBracket k.RightBracket no_value (many item))
+list_of item =
+    mapped (λ items. roll-Value (Value-F.List items))
+    (between k.LeftBracket k.RightBracket no_value (many item))
 
 -- a field of an input object, of its name and its value
 abbrev pub member_of : NameView × (Unit {0} × NodeView Value) → NameView × NodeView Value
@@ -90,7 +102,9 @@ no_member = λ _. Expected i.ObjectField
 
 -- ObjectValue: section 2.9.8
 unfoldable pub object_of : FileId → Piece (NodeView Value) → Piece Value
-object_of file item = mapped (λ members. roll-Value (Value-F.Object members)) (between k.LeftBrace k.RightBrace no_member (many (member file item)))
+object_of file item =
+    mapped (λ members. roll-Value (Value-F.Object members))
+    (between k.LeftBrace k.RightBrace no_member (many (member file item)))
 
 -- `[` or `{`
 abbrev pub is_group : Kinds
@@ -129,7 +143,8 @@ value_by file constant grouped = branch is_value none (value_pick file constant 
 -- lists and objects, in which so many signs may be open
 unfoldable pub nested_group : FileId → Bool → ℕ → Piece Value
 nested_group file constant zero = too_deep
-nested_group file constant (suc depth) = group file (node file (value_by file constant (headed is_group (nested_group file constant depth))))
+nested_group file constant (suc depth) =
+    group file (node file (value_by file constant (headed is_group (nested_group file constant depth))))
 
 -- Value, constant or not, in which so many signs may be open
 abbrev pub value : FileId → Bool → ℕ → Piece Value

@@ -22,23 +22,39 @@ pub mod trees;
 
 /// Words spell one tree at most: one document, one definition, one selection set, one value.
 pub fn words_spell_one_tree()
-    ensures document { (file : FileId) (depth : ℕ) (words : List WordView) (a b : List Definition) → spells_document file depth a words → spells_document file depth b words → a ≡ b }
-    ensures definition { (file : FileId) (depth : ℕ) (words : List WordView) (a b : Definition) → (definition file depth).spells a words → (definition file depth).spells b words → a ≡ b }
-    ensures selections { (file : FileId) (depth : ℕ) (words : List WordView) (a b : List Selection) → (selection_set file depth).spells a words → (selection_set file depth).spells b words → a ≡ b }
-    ensures value { (file : FileId) (constant : Bool) (depth : ℕ) (words : List WordView) (a b : Value) → (value file constant depth).spells a words → (value file constant depth).spells b words → a ≡ b }
+    ensures document { (file : FileId) (depth : ℕ) (words : List WordView) (a b : List Definition)
+        → spells_document file depth a words → spells_document file depth b words → a ≡ b }
+    ensures definition { (file : FileId) (depth : ℕ) (words : List WordView) (a b : Definition)
+        → (definition file depth).spells a words → (definition file depth).spells b words → a ≡ b }
+    ensures selections { (file : FileId) (depth : ℕ) (words : List WordView) (a b : List Selection)
+        → (selection_set file depth).spells a words → (selection_set file depth).spells b words → a ≡ b }
+    ensures value { (file : FileId) (constant : Bool) (depth : ℕ) (words : List WordView) (a b : Value)
+        → (value file constant depth).spells a words → (value file constant depth).spells b words → a ≡ b }
 {}
 
 /// What stands behind a refused word doesn't matter. Take words that begin with those before it and with it.
 /// They spell no definition, no document, no selections with braces or without, no type and no value. Words
 /// that are refused at their end spell none.
 pub fn refusals_are_of_all_words_so_far()
-    ensures definition { (file : FileId) (depth : ℕ) (words : List WordView) (e : Refusal) → read_all (definition file depth) words ≡ Err e → RefusedWith (definition file depth).spells words e }
-    ensures document { (file : FileId) (depth : ℕ) (words : List WordView) (e : Refusal) → read_all (document file depth) words ≡ Err e → RefusedWith (spells_document file depth) words e }
-    ensures selections { (file : FileId) (depth : ℕ) (words : List WordView) (e : Refusal) → read_all (selections file depth) words ≡ Err e → RefusedWith (selections file depth).spells words e }
-    ensures selection_set { (file : FileId) (depth : ℕ) (words : List WordView) (e : Refusal) → read_all (selection_set file depth) words ≡ Err e → RefusedWith (selection_set file depth).spells words e }
-    ensures bare_selections { (file : FileId) (depth : ℕ) (words : List WordView) (e : Refusal) → read_all (bare_selections file depth) words ≡ Err e → RefusedWith (bare_selections file depth).spells words e }
-    ensures type_reference { (file : FileId) (depth : ℕ) (words : List WordView) (e : Refusal) → read_all (type file depth) words ≡ Err e → RefusedWith (type file depth).spells words e }
-    ensures value { (file : FileId) (constant : Bool) (depth : ℕ) (words : List WordView) (e : Refusal) → read_all (value file constant depth) words ≡ Err e → RefusedWith (value file constant depth).spells words e }
+    ensures definition { (file : FileId) (depth : ℕ) (words : List WordView) (e : Refusal)
+        → read_all (definition file depth) words ≡ Err e
+        → RefusedWith (definition file depth).spells words e }
+    ensures document { (file : FileId) (depth : ℕ) (words : List WordView) (e : Refusal)
+        → read_all (document file depth) words ≡ Err e → RefusedWith (spells_document file depth) words e }
+    ensures selections { (file : FileId) (depth : ℕ) (words : List WordView) (e : Refusal)
+        → read_all (selections file depth) words ≡ Err e
+        → RefusedWith (selections file depth).spells words e }
+    ensures selection_set { (file : FileId) (depth : ℕ) (words : List WordView) (e : Refusal)
+        → read_all (selection_set file depth) words ≡ Err e
+        → RefusedWith (selection_set file depth).spells words e }
+    ensures bare_selections { (file : FileId) (depth : ℕ) (words : List WordView) (e : Refusal)
+        → read_all (bare_selections file depth) words ≡ Err e
+        → RefusedWith (bare_selections file depth).spells words e }
+    ensures type_reference { (file : FileId) (depth : ℕ) (words : List WordView) (e : Refusal)
+        → read_all (type file depth) words ≡ Err e → RefusedWith (type file depth).spells words e }
+    ensures value { (file : FileId) (constant : Bool) (depth : ℕ) (words : List WordView) (e : Refusal)
+        → read_all (value file constant depth) words ≡ Err e
+        → RefusedWith (value file constant depth).spells words e }
 {}
 
 /// Words are refused no later than they have to be: those before the refused one begin some that spell a
@@ -46,26 +62,48 @@ pub fn refusals_are_of_all_words_so_far()
 /// in those, since what is refused for its depth alone goes on where more may be open. Of a document the
 /// productions alone are meant: they leave open what a `{` behind `type T` begins.
 pub fn words_before_a_refusal_go_on()
-    ensures definition { (file : FileId) (depth : ℕ) (words : List WordView) (e : Refusal) → read_all (definition file depth) words ≡ Err e → Viable (definition file (suc depth)).spells words e.left }
-    ensures document { (file : FileId) (depth : ℕ) (words : List WordView) (e : Refusal) → read_all (document file depth) words ≡ Err e → Viable (document file (suc depth)).spells words e.left }
-    ensures selections { (file : FileId) (depth : ℕ) (words : List WordView) (e : Refusal) → read_all (selections file depth) words ≡ Err e → Viable (selections file (suc depth)).spells words e.left }
-    ensures selection_set { (file : FileId) (depth : ℕ) (words : List WordView) (e : Refusal) → read_all (selection_set file depth) words ≡ Err e → Viable (selection_set file (suc depth)).spells words e.left }
-    ensures bare_selections { (file : FileId) (depth : ℕ) (words : List WordView) (e : Refusal) → read_all (bare_selections file depth) words ≡ Err e → Viable (bare_selections file (suc depth)).spells words e.left }
-    ensures type_reference { (file : FileId) (depth : ℕ) (words : List WordView) (e : Refusal) → read_all (type file depth) words ≡ Err e → Viable (type file (suc depth)).spells words e.left }
-    ensures value { (file : FileId) (constant : Bool) (depth : ℕ) (words : List WordView) (e : Refusal) → read_all (value file constant depth) words ≡ Err e → Viable (value file constant (suc depth)).spells words e.left }
+    ensures definition { (file : FileId) (depth : ℕ) (words : List WordView) (e : Refusal)
+        → read_all (definition file depth) words ≡ Err e
+        → Viable (definition file (suc depth)).spells words e.left }
+    ensures document { (file : FileId) (depth : ℕ) (words : List WordView) (e : Refusal)
+        → read_all (document file depth) words ≡ Err e
+        → Viable (document file (suc depth)).spells words e.left }
+    ensures selections { (file : FileId) (depth : ℕ) (words : List WordView) (e : Refusal)
+        → read_all (selections file depth) words ≡ Err e
+        → Viable (selections file (suc depth)).spells words e.left }
+    ensures selection_set { (file : FileId) (depth : ℕ) (words : List WordView) (e : Refusal)
+        → read_all (selection_set file depth) words ≡ Err e
+        → Viable (selection_set file (suc depth)).spells words e.left }
+    ensures bare_selections { (file : FileId) (depth : ℕ) (words : List WordView) (e : Refusal)
+        → read_all (bare_selections file depth) words ≡ Err e
+        → Viable (bare_selections file (suc depth)).spells words e.left }
+    ensures type_reference { (file : FileId) (depth : ℕ) (words : List WordView) (e : Refusal)
+        → read_all (type file depth) words ≡ Err e → Viable (type file (suc depth)).spells words e.left }
+    ensures value { (file : FileId) (constant : Bool) (depth : ℕ) (words : List WordView) (e : Refusal)
+        → read_all (value file constant depth) words ≡ Err e
+        → Viable (value file constant (suc depth)).spells words e.left }
 {}
 
 /// A text that has tokens, no more than are allowed, has the words at those.
 pub fn words_are_those_at_tokens()
-    ensures { (allowed : ℕ) (text : List ℕ) (tokens : List Token) → tokens_of text ≡ Ok tokens → length tokens ≤ allowed → words_of allowed text ≡ map (word_at text) tokens }
+    ensures { (allowed : ℕ) (text : List ℕ) (tokens : List Token) → tokens_of text ≡ Ok tokens
+        → length tokens ≤ allowed → words_of allowed text ≡ map (word_at text) tokens }
 {}
 
 /// Trees are spelled by tokens alone. Let the words of a text spell a document, selections with braces or
 /// without, a type or a value. Then the text has tokens, no more than are allowed, and its words are the
 /// words at those.
 pub fn trees_are_spelled_by_tokens()
-    ensures document { (file : FileId) (depth allowed : ℕ) (text : List ℕ) (x : List Definition) → spells_document file depth x (words_of allowed text) → AreAtTokens allowed text (tokens_of text) (words_of allowed text) }
-    ensures selections { (file : FileId) (depth allowed : ℕ) (text : List ℕ) (x : List Selection) → (selections file depth).spells x (words_of allowed text) → AreAtTokens allowed text (tokens_of text) (words_of allowed text) }
-    ensures type_reference { (file : FileId) (depth allowed : ℕ) (text : List ℕ) (x : TypeReference) → (type file depth).spells x (words_of allowed text) → AreAtTokens allowed text (tokens_of text) (words_of allowed text) }
-    ensures value { (file : FileId) (constant : Bool) (depth allowed : ℕ) (text : List ℕ) (x : NodeView Value) → (value_node file constant depth).spells x (words_of allowed text) → AreAtTokens allowed text (tokens_of text) (words_of allowed text) }
+    ensures document { (file : FileId) (depth allowed : ℕ) (text : List ℕ) (x : List Definition)
+        → spells_document file depth x (words_of allowed text)
+        → AreAtTokens allowed text (tokens_of text) (words_of allowed text) }
+    ensures selections { (file : FileId) (depth allowed : ℕ) (text : List ℕ) (x : List Selection)
+        → (selections file depth).spells x (words_of allowed text)
+        → AreAtTokens allowed text (tokens_of text) (words_of allowed text) }
+    ensures type_reference { (file : FileId) (depth allowed : ℕ) (text : List ℕ) (x : TypeReference)
+        → (type file depth).spells x (words_of allowed text)
+        → AreAtTokens allowed text (tokens_of text) (words_of allowed text) }
+    ensures value { (file : FileId) (constant : Bool) (depth allowed : ℕ) (text : List ℕ) (x : NodeView Value)
+        → (value_node file constant depth).spells x (words_of allowed text)
+        → AreAtTokens allowed text (tokens_of text) (words_of allowed text) }
 {}

@@ -1,4 +1,5 @@
--- The text of definitions and documents says no location: definitions that differ in locations alone have one text.
+-- The text of definitions and documents says no location: definitions that differ in locations alone have one
+-- text.
 use Rattle.std.proofs.Common.{◌≡◌, Bool, true, false, List, [], ◌∷◌, ◌++◌, Option, refl, ap, ◌∙◌, map, option_map, codes}
 use Rattle.graphql_nodes.specs.Comparing.{bare_name}
 use Rattle.graphql_nodes.specs.NameView.{NameView}

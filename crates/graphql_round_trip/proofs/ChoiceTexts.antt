@@ -35,7 +35,8 @@ is_none_of set other apart kind is = by (set kind) (other kind) (of_each (λ kin
     by true true apart is = absurd cc
     by false b apart is = absurd cc
 
--- the kind of a text passes a test that `Name` passes, and each word's kind but where the text isn't that word
+-- the kind of a text passes a test that `Name` passes, and each word's kind but where the text isn't that
+-- word
 among_passes : (test : Kinds) → test k.Name ≡ true → (table : List (List ℕ × Kind)) (text : List ℕ) → list_all (λ x. test x.1 || not (pointwise nat_eq text x.0)) table ≡ true → test (kind_among table text) ≡ true
 among_passes test name [] text all = name
 among_passes test name (x ∷ xs) text all =

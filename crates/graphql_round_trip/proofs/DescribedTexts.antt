@@ -1,5 +1,5 @@
--- Texts of definitions of the type system behind their descriptions, and of extensions behind `extend`: GraphQL specification of
--- October 2021, sections 3.2 and 3.4.
+-- Texts of definitions of the type system behind their descriptions, and of extensions behind `extend`:
+-- GraphQL specification of October 2021, sections 3.2 and 3.4.
 use Rattle.std.proofs.Common.{◌≡◌, ℕ, Bool, true, false, ◌||◌, List, ◌++◌, option_map, Option, None, Some, refl, ap, ◌∙◌}
 use Rattle.std.specs.Prelude.{codes}
 use Rattle.graphql_nodes.specs.Comparing.{bare_name}

@@ -82,7 +82,8 @@ first_kind {kinds} {text} total rest w ws head end leads =
 -- ---- definitions one after the other
 
 module _ (file : FileId) (depth total : ℕ) where
-  -- a text is read as these definitions but for locations; its first word is no `{` where one before it would take that
+  -- a text is read as these definitions but for locations; its first word is no `{` where one before it would
+  -- take that
   pub record ReadInTurn (before : Bool) (xs : List Definition) (text : List ℕ) : Type 0 where
     pub trees : List Definition
     pub words : List WordView

@@ -1,4 +1,5 @@
--- Texts of fields, enum values and roots that are defined: GraphQL specification of October 2021, sections 3.3, 3.6 and 3.9.
+-- Texts of fields, enum values and roots that are defined: GraphQL specification of October 2021, sections
+-- 3.3, 3.6 and 3.9.
 use Rattle.std.proofs.Common.{◌≤◌, ℕ, true, List, [], ◌∷◌, ◌++◌, map, refl, ap}
 use Rattle.std.specs.Prelude.{codes}
 use Rattle.std.specs.List.{flat_map}

@@ -1,4 +1,5 @@
--- Texts of arguments and input fields that are defined: GraphQL specification of October 2021, sections 3.6.1 and 3.10.
+-- Texts of arguments and input fields that are defined: GraphQL specification of October 2021, sections 3.6.1
+-- and 3.10.
 use Rattle.std.proofs.Common.{◌≡◌, ◌≤◌, ◌+◌, ℕ, Bool, true, false, List, ◌∷◌, ◌++◌, map, refl, ap, ◌∙◌, append_assoc}
 use Rattle.std.specs.Prelude.{codes, if◌then◌else◌}
 use Rattle.std.specs.List.{list_any}

@@ -1,4 +1,5 @@
--- Texts that begin with keywords, and of operation types: GraphQL specification of October 2021, sections 2.1.9 and 2.3.
+-- Texts that begin with keywords, and of operation types: GraphQL specification of October 2021, sections
+-- 2.1.9 and 2.3.
 use Rattle.std.proofs.Common.{◌≡◌, ℕ, true, List, ◌++◌, refl, sym, subst}
 use Rattle.std.specs.Prelude.{codes}
 use Rattle.graphql_nodes.specs.OperationTexts.{operation_text}

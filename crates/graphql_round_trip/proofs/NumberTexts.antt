@@ -1,4 +1,5 @@
--- The bytes of a number are that number's token again: GraphQL specification of October 2021, sections 2.9.1 and 2.9.2.
+-- The bytes of a number are that number's token again: GraphQL specification of October 2021, sections 2.9.1
+-- and 2.9.2.
 use Rattle.std.proofs.Common.{◌≡◌, ◌+◌, ◌-◌, ◌<◌, ◌≤◌, ℕ, Bool, true, false, ◌||◌, not, cond, List, [], ◌∷◌, ◌++◌, length, drop, Option, Some, None, Ok, Err, refl, sym, ap, ◌∙◌, arith}
 use Rattle.std.specs.Prelude.{nat_eq, nat_lt}
 use Rattle.std.specs.List.{prefix_len}
@@ -91,7 +92,8 @@ type_of {A} x = A
 abbrev Part : Type 0
 Part = type_of no_part
 
--- a part of a number that is whole lies within its text, and is the same before other bytes that don't go on with it
+-- a part of a number that is whole lies within its text, and is the same before other bytes that don't go on
+-- with it
 record IsLocal (part : List ℕ → Part) : Type 0 where
   within : (text : List ℕ) → (part text).is_whole ≡ true → (part text).size ≤ length text
   same : (front tail rest : List ℕ) → (part (front ++ tail)).is_whole ≡ true → (part (front ++ tail)).size ≤ length front → goes_on rest ≡ false → part (front ++ rest) ≡ part (front ++ tail)

@@ -1,4 +1,5 @@
--- Texts of what stands behind the name of a type: GraphQL specification of October 2021, sections 3.5 to 3.10.
+-- Texts of what stands behind the name of a type: GraphQL specification of October 2021, sections 3.5 to
+-- 3.10.
 use Rattle.std.proofs.Common.{◌≤◌, ℕ, true, List, [], ◌∷◌, ◌++◌, map, refl, ap, sym, append-nil}
 use Rattle.std.specs.Prelude.{codes}
 use Rattle.std.specs.List.{AllByRecursion}

@@ -1,5 +1,5 @@
--- How deep trees nest: how many `{`, `[` and `(` are open at once at most in the words that spell them. GraphQL specification of
--- October 2021, sections 2 and 3.
+-- How deep trees nest: how many `{`, `[` and `(` are open at once at most in the words that spell them.
+-- GraphQL specification of October 2021, sections 2 and 3.
 use Rattle.std.specs.Prelude.{ℕ, suc, max, List, [], ◌∷◌, map, Option, None, Some}
 use Rattle.graphql_nodes.specs.NodeView.{NodeView}
 use Rattle.graphql_ast.specs.declared.definition.Definition.{Definition}
@@ -78,7 +78,9 @@ directives_nesting l = deepest directive_nesting l.0
 
 -- of one level of selections: sections 2.4 to 2.8
 abbrev pub field_level : Field-F ℕ ℕ ℕ → ℕ
-field_level f = greatest (arguments_nesting f.arguments ∷ directives_nesting f.directives ∷ between (λ n. n) f.selection_set ∷ [])
+field_level f =
+    greatest (arguments_nesting f.arguments ∷ directives_nesting f.directives
+    ∷ between (λ n. n) f.selection_set ∷ [])
 
 -- of an inline fragment, where that of its selections is known
 abbrev pub inline_level : InlineFragment-F ℕ ℕ ℕ → ℕ
@@ -104,11 +106,15 @@ default_nesting x = if_there (λ (v : NodeView Value). value_nesting v.value) x
 
 -- of the definition of a variable: section 2.10
 abbrev pub variable_nesting : NodeView VariableDefinition → ℕ
-variable_nesting v = greatest (type_nesting v.value.ty.value ∷ default_nesting v.value.default_value ∷ directives_nesting v.value.directives ∷ [])
+variable_nesting v =
+    greatest (type_nesting v.value.ty.value ∷ default_nesting v.value.default_value
+    ∷ directives_nesting v.value.directives ∷ [])
 
 -- of an operation: section 2.3
 abbrev pub operation_nesting : OperationDefinition → ℕ
-operation_nesting o = greatest (between variable_nesting o.variables ∷ directives_nesting o.directives ∷ selections_nesting o.selection_set ∷ [])
+operation_nesting o =
+    greatest (between variable_nesting o.variables ∷ directives_nesting o.directives
+    ∷ selections_nesting o.selection_set ∷ [])
 
 -- of a fragment: section 2.8
 abbrev pub fragment_nesting : FragmentDefinition → ℕ
@@ -116,11 +122,15 @@ fragment_nesting f = greatest (directives_nesting f.directives ∷ selections_ne
 
 -- of an argument or input field that is defined: sections 3.6.1 and 3.10
 abbrev pub input_nesting : NodeView InputValueDefinition → ℕ
-input_nesting v = greatest (type_nesting v.value.ty.value ∷ default_nesting v.value.default_value ∷ directives_nesting v.value.directives ∷ [])
+input_nesting v =
+    greatest (type_nesting v.value.ty.value ∷ default_nesting v.value.default_value
+    ∷ directives_nesting v.value.directives ∷ [])
 
 -- of a field that is defined: section 3.6
 abbrev pub field_nesting : NodeView FieldDefinition → ℕ
-field_nesting f = greatest (between input_nesting f.value.arguments ∷ type_nesting f.value.ty ∷ directives_nesting f.value.directives ∷ [])
+field_nesting f =
+    greatest (between input_nesting f.value.arguments ∷ type_nesting f.value.ty
+    ∷ directives_nesting f.value.directives ∷ [])
 
 -- of an enum value that is defined: section 3.9
 abbrev pub enum_value_nesting : NodeView EnumValueDefinition → ℕ
@@ -138,17 +148,21 @@ definition_nesting (d.DirectiveDefinition n) = between input_nesting n.value.arg
 definition_nesting (d.SchemaDefinition n) = body_nesting n.value.directives (λ _. 0) n.value.root_operations
 definition_nesting (d.ScalarTypeDefinition n) = directives_nesting n.value.directives
 definition_nesting (d.ObjectTypeDefinition n) = body_nesting n.value.directives field_nesting n.value.fields
-definition_nesting (d.InterfaceTypeDefinition n) = body_nesting n.value.directives field_nesting n.value.fields
+definition_nesting (d.InterfaceTypeDefinition n) =
+    body_nesting n.value.directives field_nesting n.value.fields
 definition_nesting (d.UnionTypeDefinition n) = directives_nesting n.value.directives
-definition_nesting (d.EnumTypeDefinition n) = body_nesting n.value.directives enum_value_nesting n.value.values
-definition_nesting (d.InputObjectTypeDefinition n) = body_nesting n.value.directives input_nesting n.value.fields
+definition_nesting (d.EnumTypeDefinition n) =
+    body_nesting n.value.directives enum_value_nesting n.value.values
+definition_nesting (d.InputObjectTypeDefinition n) =
+    body_nesting n.value.directives input_nesting n.value.fields
 definition_nesting (d.SchemaExtension n) = body_nesting n.value.directives (λ _. 0) n.value.root_operations
 definition_nesting (d.ScalarTypeExtension n) = directives_nesting n.value.directives
 definition_nesting (d.ObjectTypeExtension n) = body_nesting n.value.directives field_nesting n.value.fields
 definition_nesting (d.InterfaceTypeExtension n) = body_nesting n.value.directives field_nesting n.value.fields
 definition_nesting (d.UnionTypeExtension n) = directives_nesting n.value.directives
 definition_nesting (d.EnumTypeExtension n) = body_nesting n.value.directives enum_value_nesting n.value.values
-definition_nesting (d.InputObjectTypeExtension n) = body_nesting n.value.directives input_nesting n.value.fields
+definition_nesting (d.InputObjectTypeExtension n) =
+    body_nesting n.value.directives input_nesting n.value.fields
 
 -- of definitions one after the other
 abbrev pub document_nesting : List Definition → ℕ

@@ -21,14 +21,16 @@ pub record Reports (file : FileId) (total : ℕ) (refusal : Refusal) (e : ParseE
   pub place : e.location ≡ span_of file total refusal.left
   pub said : Says refusal.kind refusal.left e.kind
 
--- what became of what a reader returned before these words: the value stays, and so does that memory ran out; a fault is reported where
--- they begin, unless memory runs out
-abbrev pub Parsed : {A : Type 0} → FileId → ℕ → List WordView → Result A ReadError → Result A ParseError → Type 0
+-- what became of what a reader returned before these words: the value stays, and so does that memory ran out;
+-- a fault is reported where they begin, unless memory runs out
+abbrev pub Parsed : {A : Type 0} → FileId → ℕ → List WordView → Result A ReadError → Result A ParseError
+    → Type 0
 Parsed file total left (Ok x) (Ok y) = y ≡ x
 Parsed file total left (Ok x) (Err e) = ⊥
 Parsed file total left (Err error) (Ok y) = ⊥
 Parsed file total left (Err errors.Memory) (Err e) = e.kind ≡ Memory
-Parsed file total left (Err (errors.Fault kind)) (Err e) = (e.kind ≡ Memory) ⊎ Reports file total (record { kind = kind; left = left }) e
+Parsed file total left (Err (errors.Fault kind)) (Err e) = (e.kind ≡ Memory)
+    ⊎ Reports file total (record { kind = kind; left = left }) e
 
 -- this is answered, unless memory runs out
 abbrev pub Answers : {A : Type 0} → A → Result A ParseError → Type 0
@@ -38,9 +40,11 @@ Answers x result = MatchResult result (λ y. y ≡ x) (λ e. e.kind ≡ Memory)
 abbrev pub IsBuiltInFile : {A : Type 0} → Result A ParseError → Type 0
 IsBuiltInFile result = MatchResult result (λ y. ⊥) (λ e. e.kind ≡ BuiltInFile)
 
--- words that are refused where an error says: the words from the one there on are the first, from the left, that are wrong; no words that
--- begin with those before it and with it are such; and those before it begin some that are, where one sign more may be open
-pub record RefusedAt {A : Type 0} (p : Piece A) (spells further : A → List WordView → Type 0) (file : FileId) (total : ℕ) (words : List WordView) (e : ParseError) : Type 0 where
+-- words that are refused where an error says: the words from the one there on are the first, from the left,
+-- that are wrong; no words that begin with those before it and with it are such; and those before it begin
+-- some that are, where one sign more may be open
+pub record RefusedAt {A : Type 0} (p : Piece A) (spells further : A → List WordView
+    → Type 0) (file : FileId) (total : ℕ) (words : List WordView) (e : ParseError) : Type 0 where
   pub refusal : Refusal
   pub first : read_all p words ≡ Err refusal
   pub ruled_out : RefusedWith spells words refusal
@@ -48,5 +52,7 @@ pub record RefusedAt {A : Type 0} (p : Piece A) (spells further : A → List Wor
   pub reports : Reports file total refusal e
 
 -- why a text is refused: memory ran out, its file has the number 0, or its words are refused
-abbrev pub IsRefused : {A : Type 0} → Piece A → (A → List WordView → Type 0) → (A → List WordView → Type 0) → FileId → ℕ → List WordView → ParseError → Type 0
-IsRefused p spells further file total words e = (e.kind ≡ Memory) ⊎ (((file.0 ≡ 0) × (e.kind ≡ BuiltInFile)) ⊎ RefusedAt p spells further file total words e)
+abbrev pub IsRefused : {A : Type 0} → Piece A → (A → List WordView → Type 0) → (A → List WordView → Type 0)
+    → FileId → ℕ → List WordView → ParseError → Type 0
+IsRefused p spells further file total words e = (e.kind ≡ Memory)
+    ⊎ (((file.0 ≡ 0) × (e.kind ≡ BuiltInFile)) ⊎ RefusedAt p spells further file total words e)

@@ -86,7 +86,8 @@ fault_said f.TooDeep words = e.TooDeep
 
 -- some character is unexpected
 abbrev pub IsUnexpectedCharacter : ParseErrorKind → Type 0
-IsUnexpectedCharacter kind = (character : ℕ) × (shown : List ℕ) × (kind ≡ e.UnexpectedCharacter character shown)
+IsUnexpectedCharacter kind = (character : ℕ) × (shown : List ℕ)
+    × (kind ≡ e.UnexpectedCharacter character shown)
 
 -- what is said where no token stands, or one more than are allowed
 pub record SaysNoToken (word : Kind) (kind : ParseErrorKind) : Type 0 where
@@ -99,4 +100,5 @@ pub record SaysNoToken (word : Kind) (kind : ParseErrorKind) : Type 0 where
 -- what is said of the first of these words, which has this fault: of a token what the fault says
 abbrev pub Says : FaultKind → List WordView → ParseErrorKind → Type 0
 Says fault [] kind = kind ≡ fault_said fault []
-Says fault (w ∷ ws) kind = ((is_token w.kind ≡ true) × (kind ≡ fault_said fault (w ∷ ws))) ⊎ ((is_token w.kind ≡ false) × SaysNoToken w.kind kind)
+Says fault (w ∷ ws) kind = ((is_token w.kind ≡ true) × (kind ≡ fault_said fault (w ∷ ws)))
+    ⊎ ((is_token w.kind ≡ false) × SaysNoToken w.kind kind)

@@ -3,7 +3,8 @@ use Rattle.std.specs.Prelude.{List, [], ◌∷◌, Bool, true, false, Option, No
 use Rattle.graphql_nodes.specs.declared.directive_location.DirectiveLocation.{DirectiveLocation}
 use Rattle.graphql_nodes.specs.declared.source.SourceSpan.{SourceSpan}
 use Rattle.graphql_nodes.specs.NodeView.{NodeView}
-use Rattle.graphql_ast.specs.Declarations.{schema_definition, schema_extension, type_definition, type_extension}
+use Rattle.graphql_ast.specs.Declarations.{schema_definition, schema_extension, type_definition}
+use Rattle.graphql_ast.specs.Declarations.{type_extension}
 use Rattle.graphql_ast.specs.declared.definition.Definition.{Definition}
 use Rattle.graphql_ast.specs.declared.definition.Definition.TheVariants as d
 use Rattle.graphql_ast.specs.declared.directive.DirectiveList.{DirectiveList}
@@ -18,7 +19,8 @@ use Rattle.graphql_text.specs.declared.reading.bodies.Extension.TheVariants as e
 use Rattle.graphql_text.specs.declared.reading.operations.AfterName.{AfterName}
 
 -- a type behind `:`, a default value, and directives
-abbrev pub seen_typed : AfterName → Unit {0} × (NodeView TypeReference × (Option (NodeView Value) × DirectiveList))
+abbrev pub seen_typed : AfterName
+    → Unit {0} × (NodeView TypeReference × (Option (NodeView Value) × DirectiveList))
 seen_typed t = (tt, (t.ty, (t.default_value, t.directives)))
 
 -- whether a sign was there
@@ -29,11 +31,19 @@ seen_flag false = None
 -- a definition of the type system that wants its description and its location
 abbrev pub seen_body : Body → Described
 seen_body (b.Schema parts) = λ description location. schema_definition description parts location
-seen_body (b.Type kind name parts) = λ description location. type_definition kind description name parts location
-seen_body (b.Directive name arguments repeatable locations) = λ description location. d.DirectiveDefinition (record {
-  value = record { description = description; name = name; arguments = arguments; repeatable = repeatable; locations = locations };
-  location = location;
-})
+seen_body (b.Type kind name parts) =
+    λ description location. type_definition kind description name parts location
+seen_body (b.Directive name arguments repeatable locations) =
+    λ description location. d.DirectiveDefinition (record {
+      value = record {
+        description = description;
+        name = name;
+        arguments = arguments;
+        repeatable = repeatable;
+        locations = locations;
+      };
+      location = location;
+    })
 
 -- an extension that wants its location
 abbrev pub seen_extension : Extension → Option SourceSpan → Definition

@@ -71,10 +71,15 @@ fn parse<T: Tree>(
     text: &str,
     options: ParseOptions,
 ) -> Result<T, ParseError>
-    ensures found { IfOk result (λ read. T.spells file options.max_depth read (words_of options.max_tokens text.now)) }
-    ensures only { (read : T) → file.0 ≢ 0 → T.spells file options.max_depth read (words_of options.max_tokens text.now) → Answers read result }
+    ensures found { IfOk result (λ read.
+        T.spells file options.max_depth read (words_of options.max_tokens text.now)) }
+    ensures only { (read : T) → file.0 ≢ 0
+        → T.spells file options.max_depth read (words_of options.max_tokens text.now) → Answers read result }
     ensures built_in { file.0 ≡ 0 → IsBuiltInFile result }
-    ensures refused { IfErr result (IsRefused (T.piece file options.max_depth) (T.spells file options.max_depth) (T.piece file (suc options.max_depth)).spells file (length text.now) (words_of options.max_tokens text.now)) }
+    ensures refused { IfErr result
+        (IsRefused (T.piece file options.max_depth) (T.spells file options.max_depth)
+        (T.piece file (suc options.max_depth)).spells file (length text.now)
+        (words_of options.max_tokens text.now)) }
 {
     if file.0 == 0 {
         return Err(built_in_file());
@@ -102,11 +107,17 @@ pub fn parse_type(
     options: ParseOptions,
 ) -> Result<Type, ParseError>
     // What is answered is spelled by all words of the text.
-    ensures found { IfOk result (λ read. (type file options.max_depth).spells read (words_of options.max_tokens text.now)) }
+    ensures found { IfOk result (λ read.
+        (type file options.max_depth).spells read (words_of options.max_tokens text.now)) }
     // What they spell is answered.
-    ensures only { (read : TypeOf) → file.0 ≢ 0 → (type file options.max_depth).spells read (words_of options.max_tokens text.now) → Answers read result }
+    ensures only { (read : TypeOf) → file.0 ≢ 0
+        → (type file options.max_depth).spells read (words_of options.max_tokens text.now)
+        → Answers read result }
     ensures built_in { file.0 ≡ 0 → IsBuiltInFile result }
-    ensures refused { IfErr result (IsRefused (type file options.max_depth) (type file options.max_depth).spells (type file (suc options.max_depth)).spells file (length text.now) (words_of options.max_tokens text.now)) }
+    ensures refused { IfErr result
+        (IsRefused (type file options.max_depth) (type file options.max_depth).spells
+        (type file (suc options.max_depth)).spells file (length text.now)
+        (words_of options.max_tokens text.now)) }
 {
     parse(alloc, file, text, options)
 }
@@ -121,11 +132,17 @@ pub fn parse_value(
     options: ParseOptions,
 ) -> Result<Node<Value>, ParseError>
     // What is answered is spelled by all words of the text.
-    ensures found { IfOk result (λ read. (value_node file true options.max_depth).spells read (words_of options.max_tokens text.now)) }
+    ensures found { IfOk result (λ read.
+        (value_node file true options.max_depth).spells read (words_of options.max_tokens text.now)) }
     // What they spell is answered.
-    ensures only { (read : NodeView ValueOf) → file.0 ≢ 0 → (value_node file true options.max_depth).spells read (words_of options.max_tokens text.now) → Answers read result }
+    ensures only { (read : NodeView ValueOf) → file.0 ≢ 0
+        → (value_node file true options.max_depth).spells read (words_of options.max_tokens text.now)
+        → Answers read result }
     ensures built_in { file.0 ≡ 0 → IsBuiltInFile result }
-    ensures refused { IfErr result (IsRefused (value_node file true options.max_depth) (value_node file true options.max_depth).spells (value_node file true (suc options.max_depth)).spells file (length text.now) (words_of options.max_tokens text.now)) }
+    ensures refused { IfErr result
+        (IsRefused (value_node file true options.max_depth) (value_node file true options.max_depth).spells
+        (value_node file true (suc options.max_depth)).spells file (length text.now)
+        (words_of options.max_tokens text.now)) }
 {
     parse(alloc, file, text, options)
 }
@@ -140,11 +157,17 @@ pub fn parse_selections(
     options: ParseOptions,
 ) -> Result<Items<Selection>, ParseError>
     // What is answered is spelled by all words of the text.
-    ensures found { IfOk result (λ read. (selections file options.max_depth).spells read (words_of options.max_tokens text.now)) }
+    ensures found { IfOk result (λ read.
+        (selections file options.max_depth).spells read (words_of options.max_tokens text.now)) }
     // What they spell is answered.
-    ensures only { (read : List SelectionOf) → file.0 ≢ 0 → (selections file options.max_depth).spells read (words_of options.max_tokens text.now) → Answers read result }
+    ensures only { (read : List SelectionOf) → file.0 ≢ 0
+        → (selections file options.max_depth).spells read (words_of options.max_tokens text.now)
+        → Answers read result }
     ensures built_in { file.0 ≡ 0 → IsBuiltInFile result }
-    ensures refused { IfErr result (IsRefused (selections file options.max_depth) (selections file options.max_depth).spells (selections file (suc options.max_depth)).spells file (length text.now) (words_of options.max_tokens text.now)) }
+    ensures refused { IfErr result
+        (IsRefused (selections file options.max_depth) (selections file options.max_depth).spells
+        (selections file (suc options.max_depth)).spells file (length text.now)
+        (words_of options.max_tokens text.now)) }
 {
     parse(alloc, file, text, options)
 }
@@ -159,11 +182,17 @@ pub fn parse_definitions(
     options: ParseOptions,
 ) -> Result<Items<Definition>, ParseError>
     // What is answered is spelled by all words of the text.
-    ensures found { IfOk result (λ read. spells_document file options.max_depth read (words_of options.max_tokens text.now)) }
+    ensures found { IfOk result (λ read.
+        spells_document file options.max_depth read (words_of options.max_tokens text.now)) }
     // What they spell is answered.
-    ensures only { (read : List DefinitionOf) → file.0 ≢ 0 → spells_document file options.max_depth read (words_of options.max_tokens text.now) → Answers read result }
+    ensures only { (read : List DefinitionOf) → file.0 ≢ 0
+        → spells_document file options.max_depth read (words_of options.max_tokens text.now)
+        → Answers read result }
     ensures built_in { file.0 ≡ 0 → IsBuiltInFile result }
-    ensures refused { IfErr result (IsRefused (document file options.max_depth) (spells_document file options.max_depth) (document file (suc options.max_depth)).spells file (length text.now) (words_of options.max_tokens text.now)) }
+    ensures refused { IfErr result
+        (IsRefused (document file options.max_depth) (spells_document file options.max_depth)
+        (document file (suc options.max_depth)).spells file (length text.now)
+        (words_of options.max_tokens text.now)) }
 {
     parse(alloc, file, text, options)
 }
@@ -175,7 +204,8 @@ fn held(
     source: &Shared<SourceFile>,
     definitions: Items<Definition>,
 ) -> Result<Document, AllocError>
-    ensures { IfOk result (λ made. (made.definitions ≡ definitions) × (made.sources ≡ (file, source.now) ∷ [])) }
+    ensures { IfOk result (λ made. (made.definitions ≡ definitions)
+        × (made.sources ≡ (file, source.now) ∷ [])) }
 {
     let mut sources = Table::new(alloc);
     sources.insert(file, source.clone()?)?;
@@ -194,11 +224,18 @@ pub fn parse_document(
     source: &Shared<SourceFile>,
     options: ParseOptions,
 ) -> Result<Document, ParseError>
-    ensures found { IfOk result (λ read. spells_document file options.max_depth read.definitions (words_of options.max_tokens source.now.text)) }
+    ensures found { IfOk result (λ read.
+        spells_document file options.max_depth read.definitions
+        (words_of options.max_tokens source.now.text)) }
     ensures sources { IfOk result (λ read. read.sources ≡ (file, source.now) ∷ []) }
-    ensures only { (definitions : List DefinitionOf) → file.0 ≢ 0 → spells_document file options.max_depth definitions (words_of options.max_tokens source.now.text) → MatchResult result (λ read. read.definitions ≡ definitions) (λ e. e.kind ≡ Memory) }
+    ensures only { (definitions : List DefinitionOf) → file.0 ≢ 0
+        → spells_document file options.max_depth definitions (words_of options.max_tokens source.now.text)
+        → MatchResult result (λ read. read.definitions ≡ definitions) (λ e. e.kind ≡ Memory) }
     ensures built_in { file.0 ≡ 0 → IsBuiltInFile result }
-    ensures refused { IfErr result (IsRefused (document file options.max_depth) (spells_document file options.max_depth) (document file (suc options.max_depth)).spells file (length source.now.text) (words_of options.max_tokens source.now.text)) }
+    ensures refused { IfErr result
+        (IsRefused (document file options.max_depth) (spells_document file options.max_depth)
+        (document file (suc options.max_depth)).spells file (length source.now.text)
+        (words_of options.max_tokens source.now.text)) }
 {
     match parse_definitions(alloc, file, source.text.as_str(), options) {
         Ok(definitions) => Ok(held(alloc, file, source, definitions)?),

@@ -3,7 +3,8 @@ ghost use Rattle.std.specs.Prelude.{◌≡◌, ◌++◌, codes, length, IfOk};
 ghost use Rattle.graphql_grammar.specs.declared.fault.FaultKind.TheVariants.{VariableInConstant};
 ghost use Rattle.graphql_grammar.specs.Standing.{standing};
 ghost use Rattle.graphql_text.specs.Parses.{Parsed, Reports, span_of};
-ghost use Rattle.graphql_text.specs.Said.{IsUnexpectedCharacter, Says, SaysNoToken, fault_said, first_text, found_text, item_text, kind_text, unexpected};
+ghost use Rattle.graphql_text.specs.Said.{IsUnexpectedCharacter, Says, SaysNoToken, fault_said, first_text};
+ghost use Rattle.graphql_text.specs.Said.{found_text, item_text, kind_text, unexpected};
 
 use crate::parse_error::{ParseError, ParseErrorKind};
 use graphql_grammar::fault::{FaultKind, Item, ReadError};
@@ -237,7 +238,8 @@ fn refusal(
     words: &Words<'_>,
     fault: FaultKind,
 ) -> Result<ParseError, AllocError>
-    ensures { IfOk result (Reports file (length text.now) (record { kind = fault; left = (standing words.now).left })) }
+    ensures { IfOk result
+        (Reports file (length text.now) (record { kind = fault; left = (standing words.now).left })) }
 {
     let kind = refused_kind(alloc, text, words, fault)?;
     let location = next_span(file, words, text.len());

@@ -50,7 +50,8 @@ flat_map-range : {Y : Type 0} (f g : ℕ → List Y) (a n : ℕ) → ((i : ℕ) 
 flat_map-range f g a zero agree = refl
 flat_map-range f g a (suc n) agree = rw (agree a (omega arith), flat_map-range f g (a + 1) n (λ i lt. agree i (omega (arith, lt))))
 
--- one more element leaves what was at each moment, and adds its own: seen from a place on, and from the first one
+-- one more element leaves what was at each moment, and adds its own: seen from a place on, and from the first
+-- one
 pub moments-on : {X Y : Type 0} (at : List X → ℕ → List Y) (before xs : List X) (x : X) → ((i : ℕ) → i < length (before ++ xs) → at ((before ++ xs) ++ x ∷ []) i ≡ at (before ++ xs) i)
     → flat_map (at (before ++ (xs ++ x ∷ []))) (range_with_len (length before) (length (xs ++ x ∷ [])))
     ≡ flat_map (at (before ++ xs)) (range_with_len (length before) (length xs)) ++ at ((before ++ xs) ++ x ∷ []) (length (before ++ xs))

@@ -6,7 +6,8 @@ use Rattle.std.specs.Map.{lookup}
 use Rattle.std.proofs.lemmas.List.{append-nil}
 use Rattle.std.proofs.lemmas.List.Elements.{filter-append, filter_map-append}
 
--- what holds of the empty list, and of a list with one more element if it holds of the list, holds of each list
+-- what holds of the empty list, and of a list with one more element if it holds of the list, holds of each
+-- list
 pub snoc_ind : {X : Type 0} (P : List X → Type 0) → P [] → ((xs : List X) (x : X) → P xs → P (xs ++ x ∷ [])) → (xs : List X) → P xs
 snoc_ind {X} P base step xs = go [] xs base
   where

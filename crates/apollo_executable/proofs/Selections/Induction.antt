@@ -1,4 +1,5 @@
--- What holds of no selections, and of each kind of selection before others of which it holds, holds of all selections.
+-- What holds of no selections, and of each kind of selection before others of which it holds, holds of all
+-- selections.
 use Rattle.std.proofs.Common.{List, [], ◌∷◌, None, map, subst, sym}
 use Rattle.graphql_nodes.specs.NodeView.{NodeView}
 use Rattle.apollo_executable.specs.declared.selection.Selection.{Selection, roll-Selection}

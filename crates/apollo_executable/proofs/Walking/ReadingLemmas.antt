@@ -1,4 +1,5 @@
--- What is read off selections, at each kind of selection: the fields that stand in them, and the names that are spread there.
+-- What is read off selections, at each kind of selection: the fields that stand in them, and the names that
+-- are spread there.
 use Rattle.std.proofs.Common.{◌≡◌, ℕ, Bool, List, [], ◌∷◌, ◌++◌, refl, sym, ap, ◌∙◌, append_assoc}
 use Rattle.graphql_nodes.specs.NodeView.{NodeView}
 use Rattle.apollo_walks.specs.Selections.{none, field, spread, inline, occurrences, spread_names}

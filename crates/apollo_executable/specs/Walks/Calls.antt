@@ -1,4 +1,5 @@
--- Calls of `next` of a walk, one after another: GraphQL specification of October 2021, sections 2.4, 2.8 and 6.3.2.
+-- Calls of `next` of a walk, one after another: GraphQL specification of October 2021, sections 2.4, 2.8 and
+-- 6.3.2.
 use Rattle.std.specs.Prelude.{Bool, List, [], ◌∷◌, ◌++◌, Some, Ok}
 use Rattle.std.specs.Borrow.{Bor}
 use Rattle.graphql_nodes.specs.NodeView.{NodeView}
@@ -17,8 +18,8 @@ pub data HasGiven (start : WalkView) : List (NodeView Field) → WalkView → Ty
       → HasGiven start fields now → IsNext now (Some (Ok field)) new
       → HasGiven start (fields ++ field.now ∷ []) new
 
--- a whole walk over the set: these fields are all that are reached, the turns are all, and the opened fragments are those that the
--- set leads to
+-- a whole walk over the set: these fields are all that are reached, the turns are all, and the opened
+-- fragments are those that the set leads to
 pub record IsWhole (deep : Bool) (document : ExecutableDocument) (set : SelectionSet)
     (fields : List (NodeView Field)) (end : WalkView) : Type 0 where
   pub walked : AreWalked deep document set fields

@@ -1,5 +1,6 @@
 -- What a call of `next` gives of a walk, and what it leaves.
-use Rattle.std.specs.Prelude.{◌≡◌, ◌<◌, ◌+◌, ℕ, true, false, [], ◌∷◌, length, Option, None, Some, IfNone, IfSome, cond, Result, Ok, Err}
+use Rattle.std.specs.Prelude.{◌≡◌, ◌<◌, ◌+◌, ℕ, true, false, [], ◌∷◌, length, Option, None, Some, IfNone}
+use Rattle.std.specs.Prelude.{IfSome, cond, Result, Ok, Err}
 use Rattle.std.specs.Borrow.{Bor}
 use Rattle.std.specs.declared.alloc.AllocError.{AllocError}
 use Rattle.graphql_nodes.specs.NodeView.{NodeView}

@@ -1,5 +1,5 @@
--- Typed selections as a walk sees them: GraphQL specification of October 2021, sections 2.4 to 2.8. A walk over root fields
--- sees nothing below a field.
+-- Typed selections as a walk sees them: GraphQL specification of October 2021, sections 2.4 to 2.8. A walk
+-- over root fields sees nothing below a field.
 use Rattle.std.specs.Prelude.{Bool, List, [], ◌∷◌, map, cond}
 use Rattle.graphql_nodes.specs.NodeView.{NodeView}
 use Rattle.apollo_walks.specs.Selections.{Selections, none, field, spread, inline, Fragments}

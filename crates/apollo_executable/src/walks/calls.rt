@@ -1,4 +1,5 @@
-//! Walks over selection sets and operations: GraphQL specification of October 2021, sections 2.3, 2.4 and 2.8.
+//! Walks over selection sets and operations: GraphQL specification of October 2021, sections 2.3, 2.4 and
+//! 2.8.
 ghost use Rattle.std.specs.Prelude.{◌≡◌, IfOk, map, true, false};
 ghost use Rattle.apollo_executable.specs.Walks.WalkView.{AreWalked, IsNewWalk};
 
@@ -21,8 +22,8 @@ fn collect<'doc>(alloc: Global, walk: FieldWalk<'doc>) -> Result<Vec<&'doc Node<
 }
 
 impl SelectionSet {
-    /// A walk over the root fields of this set: those that stand in it or are reached through fragments, and none below a
-    /// field. Making it takes no memory. GraphQL specification of October 2021, section 6.3.2.
+    /// A walk over the root fields of this set: those that stand in it or are reached through fragments, and
+    /// none below a field. Making it takes no memory. GraphQL specification of October 2021, section 6.3.2.
     ///
     /// That the set may belong to a fragment doesn't open that fragment.
     pub fn root_fields<'doc>(
@@ -35,8 +36,9 @@ impl SelectionSet {
         RootFields::new(alloc, document, self, false)
     }
 
-    /// A walk over all fields that this set reaches, through fragments and below fields: each field comes before those below
-    /// it. Making it takes no memory. GraphQL specification of October 2021, sections 2.4 and 2.8.
+    /// A walk over all fields that this set reaches, through fragments and below fields: each field comes
+    /// before those below it. Making it takes no memory. GraphQL specification of October 2021, sections 2.4
+    /// and 2.8.
     ///
     /// That the set may belong to a fragment doesn't open that fragment.
     pub fn all_fields<'doc>(
@@ -49,8 +51,8 @@ impl SelectionSet {
         AllFields::new(alloc, document, self, true)
     }
 
-    /// The fields of a whole walk over root fields, in order, as [`root_fields`](SelectionSet::root_fields) gives them. The error is
-    /// that memory ran out, and drops what was given.
+    /// The fields of a whole walk over root fields, in order, as [`root_fields`](SelectionSet::root_fields)
+    /// gives them. The error is that memory ran out, and drops what was given.
     pub fn collect_root<'doc>(
         &'doc self,
         alloc: Global,
@@ -62,8 +64,8 @@ impl SelectionSet {
         collect(alloc, self.root_fields(alloc, document))
     }
 
-    /// The fields of a whole walk over all fields, in order, as [`all_fields`](SelectionSet::all_fields) gives them. The error is
-    /// that memory ran out, and drops what was given.
+    /// The fields of a whole walk over all fields, in order, as [`all_fields`](SelectionSet::all_fields)
+    /// gives them. The error is that memory ran out, and drops what was given.
     pub fn collect_all<'doc>(
         &'doc self,
         alloc: Global,
@@ -77,7 +79,8 @@ impl SelectionSet {
 }
 
 impl Operation {
-    /// A walk over the root fields of the operation, as [`SelectionSet::root_fields`] makes it. Making it takes no memory.
+    /// A walk over the root fields of the operation, as [`SelectionSet::root_fields`] makes it. Making it
+    /// takes no memory.
     pub fn root_fields<'doc>(
         &'doc self,
         alloc: Global,
@@ -88,7 +91,8 @@ impl Operation {
         self.selection_set.root_fields(alloc, document)
     }
 
-    /// A walk over all fields that the operation reaches, as [`SelectionSet::all_fields`] makes it. Making it takes no memory.
+    /// A walk over all fields that the operation reaches, as [`SelectionSet::all_fields`] makes it. Making it
+    /// takes no memory.
     pub fn all_fields<'doc>(
         &'doc self,
         alloc: Global,

@@ -1,5 +1,6 @@
 //! Places of a list that are marked.
-ghost use Rattle.std.specs.Prelude.{◌≡◌, ◌<◌, ◌≤◌, ℕ, OnOk, length, nat_eq, slice_index_or, if◌then◌else◌, true, false};
+ghost use Rattle.std.specs.Prelude.{◌≡◌, ◌<◌, ◌≤◌, ℕ, OnOk, length, nat_eq, slice_index_or, if◌then◌else◌};
+ghost use Rattle.std.specs.Prelude.{true, false};
 
 use std::alloc::AllocError;
 

@@ -18,8 +18,9 @@ fn is_meta_name(name: &str) -> bool
 }
 
 impl Operation {
-    /// Whether the operation is a query all of whose root fields, those that are reached through fragments too, are `__type`,
-    /// `__schema` or `__typename`. It stops at the first other one. The error is that memory ran out, which comes of a query alone.
+    /// Whether the operation is a query all of whose root fields, those that are reached through fragments
+    /// too, are `__type`, `__schema` or `__typename`. It stops at the first other one. The error is that
+    /// memory ran out, which comes of a query alone.
     pub fn is_introspection(
         &self,
         alloc: Global,

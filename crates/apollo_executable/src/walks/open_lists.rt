@@ -9,8 +9,9 @@ use crate::walks::left::walks_are_left_by_turn;
 use graphql_nodes::node::Node;
 use std::alloc::{AllocError, Global};
 
-/// The lists that a walk has open: the innermost one, and those that wait until it is closed. A fragment that was opened is
-/// marked at its place in the map of fragments; there is room for the marks from the first fragment on that is opened.
+/// The lists that a walk has open: the innermost one, and those that wait until it is closed. A fragment that
+/// was opened is marked at its place in the map of fragments; there is room for the marks from the first
+/// fragment on that is opened.
 #[derive(Drop)]
 pub(crate) struct OpenLists<'doc> {
     document: &'doc ExecutableDocument,
@@ -24,7 +25,8 @@ pub(crate) struct OpenLists<'doc> {
 
 impl<'doc> OpenLists<'doc> {
     ghost use Rattle.apollo_executable.specs.Walks.Plain.{below_of};
-    ghost use Rattle.apollo_executable.specs.Walks.Left.{lists_of, names_opened, AreSameLists, IsSpreadTurn, IsTurn};
+    ghost use Rattle.apollo_executable.specs.Walks.Left.{lists_of, names_opened, AreSameLists, IsSpreadTurn};
+    ghost use Rattle.apollo_executable.specs.Walks.Left.{IsTurn};
 
     /// The list of this set.
     pub(crate) fn new(
@@ -49,7 +51,8 @@ impl<'doc> OpenLists<'doc> {
         }
     }
 
-    /// Opens a list, and leaves the rest of the innermost one for later. After the error, that memory ran out, all is as it was.
+    /// Opens a list, and leaves the rest of the innermost one for later. After the error, that memory ran
+    /// out, all is as it was.
     fn open(&mut self, list: &'doc [Selection], rest: &'doc [Selection]) -> Result<(), AllocError>
         ensures document { self.new.document ≡ self.old.document }
         ensures opened { self.new.opened ≡ self.old.opened }
@@ -64,8 +67,8 @@ impl<'doc> OpenLists<'doc> {
         Ok(())
     }
 
-    /// Opens the fragment of a spread, if there is one that is not opened yet, and leaves the rest of the innermost list for later.
-    /// After the error, that memory ran out, all is as it was.
+    /// Opens the fragment of a spread, if there is one that is not opened yet, and leaves the rest of the
+    /// innermost list for later. After the error, that memory ran out, all is as it was.
     fn open_fragment(
         &mut self,
         spread: &Node<FragmentSpread>,
@@ -104,8 +107,8 @@ impl<'doc> OpenLists<'doc> {
         }
     }
 
-    /// One turn: a look at the innermost open list. It answers the field that stands first there, if one does. After the error, that
-    /// memory ran out, all is as it was.
+    /// One turn: a look at the innermost open list. It answers the field that stands first there, if one
+    /// does. After the error, that memory ran out, all is as it was.
     pub(crate) fn turn(&mut self) -> Result<Option<&'doc Node<Field>>, AllocError>
         requires { self.old.ended ≡ false }
         ensures document { self.new.document ≡ self.old.document }

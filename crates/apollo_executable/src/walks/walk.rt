@@ -23,7 +23,8 @@ pub(crate) struct Walk<'doc> {
     ghost left_over: { (left_of lists).turns ≤ (whole_walk lists.deep lists.document.now start.now).turns },
     ghost left_open: { (left_of lists).opened ≡ (whole_walk lists.deep lists.document.now start.now).opened },
     ghost counted: { turns ≡ min
-        (turns_taken (whole_walk lists.deep lists.document.now start.now) (left_of lists) refused) (2 ^ 64 - 1) },
+        (turns_taken (whole_walk lists.deep lists.document.now start.now) (left_of lists) refused)
+        (2 ^ 64 - 1) },
     ghost bounded: { turns_taken (whole_walk lists.deep lists.document.now start.now) (left_of lists) refused
         ≤ (whole_walk lists.deep lists.document.now start.now).turns },
 }

@@ -2,7 +2,8 @@
 ghost use Rattle.apollo_folding.specs.Joins.{Lengthens, FindsIn};
 ghost use Rattle.std.specs.Prelude.{◌≡◌, [], ◌∷◌, ◌++◌, map, OnOk};
 ghost use Rattle.graphql_nodes.specs.Tables.{keys_of};
-ghost use Rattle.apollo_meaning.specs.Types.Components.{component, component_name, distinct_names, distinct_entries};
+ghost use Rattle.apollo_meaning.specs.Types.Components.{component, component_name, distinct_names};
+ghost use Rattle.apollo_meaning.specs.Types.Components.{distinct_entries};
 ghost use Rattle.apollo_meaning.specs.Faults.TypeFaults.{name_entries, named_entries};
 ghost use Rattle.apollo_meaning.specs.Faults.Collisions.{collision_at, collisions};
 
@@ -24,8 +25,8 @@ use std::alloc::AllocError;
 /// How many entries a table has room for once it has one.
 const FIRST_ROOM: usize = 9;
 
-/// Gives an empty table room for so many entries at once, where they are more than it would first have room for. The error
-/// is out of memory.
+/// Gives an empty table room for so many entries at once, where they are more than it would first have room
+/// for. The error is out of memory.
 fn make_room<T: Drop>(table: &mut Table<Name, Component<T>>, count: usize) -> Result<(), AllocError>
     ensures { OnOk result (table.new ≡ table.old) }
 {
@@ -60,7 +61,10 @@ fn note_listed(
     type_name: &Name,
     faults: &mut Items<Fault>,
 ) -> Result<(), AllocError>
-    ensures { OnOk result (FindsIn distinct_names set.now (λ ks. collision_at collection type_name.now (map (λ k. k.name) ks) (name.now, name.now.location)) faults.old faults.new) }
+    ensures { OnOk result
+        (FindsIn distinct_names set.now (λ ks.
+        collision_at collection type_name.now (map (λ k. k.name) ks) (name.now, name.now.location)) faults.old
+        faults.new) }
 {
     let component = ComponentName::with_origin(name.clone()?, ComponentOrigin::Definition);
     if let Some(kept) = set.get(&component) {
@@ -79,8 +83,12 @@ fn fold_name(
     type_name: &Name,
     faults: &mut Items<Fault>,
 ) -> Result<(), AllocError>
-    ensures added { OnOk result (Lengthens distinct_names set.old (component_name origin name.now ∷ []) set.new) }
-    ensures faults { OnOk result (FindsIn distinct_names set.old (λ ks. collision_at collection type_name.now (map (λ k. k.name) ks) (name.now, name.now.location)) faults.old faults.new) }
+    ensures added { OnOk result
+        (Lengthens distinct_names set.old (component_name origin name.now ∷ []) set.new) }
+    ensures faults { OnOk result
+        (FindsIn distinct_names set.old (λ ks.
+        collision_at collection type_name.now (map (λ k. k.name) ks) (name.now, name.now.location)) faults.old
+        faults.new) }
 {
     let component = ComponentName::with_origin(name.clone()?, origin);
     let is_new = set.insert(component)?;
@@ -91,8 +99,8 @@ fn fold_name(
     Ok(())
 }
 
-/// Adds names in order, with this origin, each unless it is there, and a fault at the end for each that is. The error is out of
-/// memory.
+/// Adds names in order, with this origin, each unless it is there, and a fault at the end for each that is.
+/// The error is out of memory.
 pub fn fold_names(
     set: &mut KeySet<ComponentName>,
     names: &[Name],
@@ -101,8 +109,12 @@ pub fn fold_names(
     type_name: &Name,
     faults: &mut Items<Fault>,
 ) -> Result<(), AllocError>
-    ensures added { OnOk result (Lengthens distinct_names set.old (map (component_name origin) names.now) set.new) }
-    ensures faults { OnOk result (FindsIn distinct_names set.old (λ ks. collisions collection type_name.now (map (λ k. k.name) ks) (name_entries names.now)) faults.old faults.new) }
+    ensures added { OnOk result
+        (Lengthens distinct_names set.old (map (component_name origin) names.now) set.new) }
+    ensures faults { OnOk result
+        (FindsIn distinct_names set.old (λ ks.
+        collisions collection type_name.now (map (λ k. k.name) ks) (name_entries names.now)) faults.old
+        faults.new) }
 {
     for name in names {
         fold_name(set, name, origin, collection, type_name, faults)?;
@@ -118,7 +130,10 @@ fn note_collision<T: Named + Drop>(
     type_name: &Name,
     faults: &mut Items<Fault>,
 ) -> Result<(), AllocError>
-    ensures { OnOk result (FindsIn distinct_entries table.now (λ es. collision_at collection type_name.now (keys_of es) (T.name_of node.now.value, node.now.location)) faults.old faults.new) }
+    ensures { OnOk result
+        (FindsIn distinct_entries table.now (λ es.
+        collision_at collection type_name.now (keys_of es) (T.name_of node.now.value, node.now.location))
+        faults.old faults.new) }
 {
     if let Some((kept, _)) = table.get_key_value(node.name()) {
         let error = collection.collision(kept, type_name)?;
@@ -127,8 +142,8 @@ fn note_collision<T: Named + Drop>(
     Ok(())
 }
 
-/// Adds a definition under its name, or notes the fault where the name is there. It looks once where the name is new, and
-/// else puts back what stood there.
+/// Adds a definition under its name, or notes the fault where the name is there. It looks once where the name
+/// is new, and else puts back what stood there.
 fn fold_entry<T: Named + Drop>(
     table: &mut Table<Name, Component<T>>,
     node: &Node<T>,
@@ -137,8 +152,13 @@ fn fold_entry<T: Named + Drop>(
     type_name: &Name,
     faults: &mut Items<Fault>,
 ) -> Result<(), AllocError>
-    ensures added { OnOk result (Lengthens distinct_entries table.old ((T.name_of node.now.value, component origin node.now) ∷ []) table.new) }
-    ensures faults { OnOk result (FindsIn distinct_entries table.old (λ es. collision_at collection type_name.now (keys_of es) (T.name_of node.now.value, node.now.location)) faults.old faults.new) }
+    ensures added { OnOk result
+        (Lengthens distinct_entries table.old ((T.name_of node.now.value, component origin node.now) ∷ [])
+        table.new) }
+    ensures faults { OnOk result
+        (FindsIn distinct_entries table.old (λ es.
+        collision_at collection type_name.now (keys_of es) (T.name_of node.now.value, node.now.location))
+        faults.old faults.new) }
 {
     let name = node.name().clone()?;
     let standing = table.insert(name, Component::with_origin(node.clone()?, origin))?;
@@ -160,8 +180,13 @@ pub fn fold_named<T: Named + Drop>(
     type_name: &Name,
     faults: &mut Items<Fault>,
 ) -> Result<(), AllocError>
-    ensures added { OnOk result (Lengthens distinct_entries table.old (map (λ n. (T.name_of n.value, component origin n)) nodes.now) table.new) }
-    ensures faults { OnOk result (FindsIn distinct_entries table.old (λ es. collisions collection type_name.now (keys_of es) (named_entries T.name_of nodes.now)) faults.old faults.new) }
+    ensures added { OnOk result
+        (Lengthens distinct_entries table.old (map (λ n. (T.name_of n.value, component origin n)) nodes.now)
+        table.new) }
+    ensures faults { OnOk result
+        (FindsIn distinct_entries table.old (λ es.
+        collisions collection type_name.now (keys_of es) (named_entries T.name_of nodes.now)) faults.old
+        faults.new) }
 {
     make_room(table, nodes.len())?;
     for node in nodes {

@@ -46,7 +46,8 @@ pub trait Kind: Clone + Drop {
     /// The type of any kind that a node of this kind is.
     ghost wrapped: { NodeView Self → ExtendedType };
 
-    /// The type of a definition without its components, whose tables hash by these keys. The error is out of memory.
+    /// The type of a definition without its components, whose tables hash by these keys. The error is out of
+    /// memory.
     fn bare(
         alloc: Global,
         keys: HashKeys,
@@ -71,13 +72,14 @@ pub trait Kind: Clone + Drop {
     /// Each of these types is of the kind.
     ghost alike: { (node : NodeView Self) → kind ≡ type_kind (wrapped node) };
 
-    /// A node of this kind that parts make has the value that they make, and their head's location; and under that head any parts
-    /// make a node of this kind.
-    ghost makes: { (head : TypePart) (done : List Sourced) (node : NodeView Self) → wrapped node ≡ type_from head done → IsOf wrapped made head.body head done node };
+    /// A node of this kind that parts make has the value that they make, and their head's location; and under
+    /// that head any parts make a node of this kind.
+    ghost makes: { (head : TypePart) (done : List Sourced) (node : NodeView Self)
+        → wrapped node ≡ type_from head done → IsOf wrapped made head.body head done node };
 }
 
-/// The type of a definition of this kind alone, at the definition's location. Components that are there already
-/// are left out, and their faults added at the end. The error is out of memory.
+/// The type of a definition of this kind alone, at the definition's location. Components that are there
+/// already are left out, and their faults added at the end. The error is out of memory.
 pub fn type_of_definition<K: Kind>(
     alloc: Global,
     keys: HashKeys,

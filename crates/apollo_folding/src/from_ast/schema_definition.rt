@@ -1,6 +1,7 @@
 //! The definition of the schema from its definitions and extensions.
 ghost use Rattle.apollo_folding.specs.Joins.{JoinsSchemaPart, FindsRoots, Joins, Finds};
-ghost use Rattle.std.specs.Prelude.{◌≡◌, ◌≤◌, List, [], ◌∷◌, ◌++◌, length, map, None, Some, IfOk, IfErr, OnOk};
+ghost use Rattle.std.specs.Prelude.{◌≡◌, ◌≤◌, List, [], ◌∷◌, ◌++◌, length, map, None, Some, IfOk, IfErr};
+ghost use Rattle.std.specs.Prelude.{OnOk};
 ghost use Rattle.std.specs.Option.{option_or};
 ghost use Rattle.apollo_component.specs.Extensions.{next_number};
 ghost use Rattle.apollo_component.specs.declared.extension.ComponentOrigin.TheVariants as origins;
@@ -10,8 +11,10 @@ ghost use Rattle.apollo_meaning.specs.Items.Parts.{schema_definition_part, schem
 ghost use Rattle.apollo_meaning.specs.Types.Components.{component_name};
 ghost use Rattle.apollo_meaning.specs.Schema.Definition.{schema_from};
 ghost use Rattle.apollo_meaning.specs.Faults.RootFaults.{schema_faults};
-ghost use Rattle.apollo_folding.specs.RootTables.{NamedRoot, root_with_origin, with_roots, put_root, dropped_root, held_fault, held_faults};
-ghost use Rattle.apollo_meaning.specs.Steps.Joining.{schema_numbered, schema_begun, schema_begun_faults, schema_joining_faults};
+ghost use Rattle.apollo_folding.specs.RootTables.{NamedRoot, root_with_origin, with_roots, put_root};
+ghost use Rattle.apollo_folding.specs.RootTables.{dropped_root, held_fault, held_faults};
+ghost use Rattle.apollo_meaning.specs.Steps.Joining.{schema_numbered, schema_begun, schema_begun_faults};
+ghost use Rattle.apollo_meaning.specs.Steps.Joining.{schema_joining_faults};
 ghost use Rattle.apollo_folding.specs.Refusals.{RefusedAs, SpentWith, after};
 
 use crate::builder_error::BuilderError;
@@ -49,7 +52,8 @@ fn name_root(
     origin: ComponentOrigin,
     faults: &mut Items<Fault>,
 ) -> Result<(), AllocError>
-    ensures named { OnOk result (held.new ≡ option_or held.old (Some (component_name origin root.now.value.1))) }
+    ensures named { OnOk result (held.new
+        ≡ option_or held.old (Some (component_name origin root.now.value.1))) }
     ensures faults { OnOk result (faults.new ≡ faults.old ++ held_fault held.old root.now) }
 {
     if let Some(kept) = &*held {
@@ -68,8 +72,10 @@ fn fold_root(
     origin: ComponentOrigin,
     faults: &mut Items<Fault>,
 ) -> Result<(), AllocError>
-    ensures named { OnOk result (definition.new ≡ put_root root.now.value.0 (component_name origin root.now.value.1) definition.old) }
-    ensures faults { OnOk result (faults.new ≡ faults.old ++ held_fault (root_of definition.old root.now.value.0) root.now) }
+    ensures named { OnOk result (definition.new
+        ≡ put_root root.now.value.0 (component_name origin root.now.value.1) definition.old) }
+    ensures faults { OnOk result (faults.new
+        ≡ faults.old ++ held_fault (root_of definition.old root.now.value.0) root.now) }
 {
     let (operation_type, _) = &**root;
     match *operation_type {
@@ -89,9 +95,11 @@ fn fold_roots(
     origin: ComponentOrigin,
     faults: &mut Items<Fault>,
 ) -> Result<(), AllocError>
-    ensures named { OnOk result ((base : AnyDefinition) (rs : List NamedRoot) → definition.old ≡ with_roots base rs
+    ensures named { OnOk result ((base : AnyDefinition) (rs : List NamedRoot)
+        → definition.old ≡ with_roots base rs
         → definition.new ≡ with_roots base (rs ++ map (root_with_origin origin) roots.now)) }
-    ensures faults { OnOk result ((base : AnyDefinition) (rs : List NamedRoot) → definition.old ≡ with_roots base rs
+    ensures faults { OnOk result ((base : AnyDefinition) (rs : List NamedRoot)
+        → definition.old ≡ with_roots base rs
         → faults.new ≡ faults.old ++ held_faults rs origin roots.now) }
 {
     for root in roots {
@@ -108,7 +116,8 @@ fn fold(
     origin: ComponentOrigin,
     faults: &mut Items<Fault>,
 ) -> Result<(), AllocError>
-    ensures folded { OnOk result (JoinsSchemaPart definition.old origin directives.now roots.now definition.new) }
+    ensures folded { OnOk result
+        (JoinsSchemaPart definition.old origin directives.now roots.now definition.new) }
     ensures faults { OnOk result (FindsRoots definition.old roots.now faults.old faults.new) }
 {
     fold_directives(&mut definition.directives, directives, origin)?;
@@ -118,7 +127,14 @@ fn fold(
 
 /// The schema definition of a definition without its components.
 fn bare(alloc: Global, definition: &ast::SchemaDefinition) -> Result<SchemaDefinition, AllocError>
-    ensures { IfOk result (λ made. made ≡ record { description = definition.now.description; directives = record { 0 = [] }; query = None; mutation = None; subscription = None }) }
+    ensures { IfOk result (λ made. made
+        ≡ record {
+          description = definition.now.description;
+          directives = record { 0 = [] };
+          query = None;
+          mutation = None;
+          subscription = None;
+        }) }
 {
     let mut made = SchemaDefinition::new(alloc);
     made.description = definition.description.clone()?;
@@ -131,8 +147,10 @@ fn schema_from_ast(
     node: &Node<ast::SchemaDefinition>,
     faults: &mut Items<Fault>,
 ) -> Result<Node<SchemaDefinition>, AllocError>
-    ensures made { IfOk result (λ made. let head = schema_definition_part node.now in made ≡ schema_from head ((origins.Definition, head) ∷ [])) }
-    ensures faults { OnOk result (faults.new ≡ faults.old ++ schema_faults [] (schema_definition_part node.now)) }
+    ensures made { IfOk result (λ made. let head = schema_definition_part node.now in
+        made ≡ schema_from head ((origins.Definition, head) ∷ [])) }
+    ensures faults { OnOk result (faults.new
+        ≡ faults.old ++ schema_faults [] (schema_definition_part node.now)) }
 {
     let mut definition = bare(alloc, node)?;
     fold(
@@ -146,8 +164,8 @@ fn schema_from_ast(
     Ok(made)
 }
 
-/// Folds an extension of the schema in under the source's next identity (section 3.3.2). A root whose operation has one is left
-/// out, and its fault added at the end.
+/// Folds an extension of the schema in under the source's next identity (section 3.3.2). A root whose
+/// operation has one is left out, and its fault added at the end.
 ///
 /// `Memory` is out of memory. `ExtensionIds` comes only where the source has no number left.
 pub fn extend_schema(
@@ -156,8 +174,12 @@ pub fn extend_schema(
     ids: &mut ExtensionSource,
     faults: &mut Items<Fault>,
 ) -> Result<(), BuilderError>
-    ensures folded { OnOk result (Joins schema_from node.old (λ _. schema_numbered (next_number ids.old) (schema_extension_part extension.now ∷ [])) node.new) }
-    ensures faults { OnOk result (Finds schema_from node.old (λ _ parts. schema_faults parts (schema_extension_part extension.now)) faults.old faults.new) }
+    ensures folded { OnOk result
+        (Joins schema_from node.old (λ _.
+        schema_numbered (next_number ids.old) (schema_extension_part extension.now ∷ [])) node.new) }
+    ensures faults { OnOk result
+        (Finds schema_from node.old (λ _ parts. schema_faults parts (schema_extension_part extension.now))
+        faults.old faults.new) }
     ensures next { OnOk result (ids.new ≡ after ids.old 1) }
     ensures grows { next_number ids.old ≤ next_number ids.new }
     ensures refused { IfErr result (λ error. RefusedAs error (SpentWith ids.old 1)) }
@@ -180,8 +202,12 @@ fn extend_schema_by_all(
     ids: &mut ExtensionSource,
     faults: &mut Items<Fault>,
 ) -> Result<(), BuilderError>
-    ensures folded { OnOk result (Joins schema_from node.old (λ _. schema_numbered (next_number ids.old) (map schema_extension_part extensions.now)) node.new) }
-    ensures faults { OnOk result (Finds schema_from node.old (λ _ parts. schema_joining_faults parts (map schema_extension_part extensions.now)) faults.old faults.new) }
+    ensures folded { OnOk result
+        (Joins schema_from node.old (λ _.
+        schema_numbered (next_number ids.old) (map schema_extension_part extensions.now)) node.new) }
+    ensures faults { OnOk result
+        (Finds schema_from node.old (λ _ parts.
+        schema_joining_faults parts (map schema_extension_part extensions.now)) faults.old faults.new) }
     ensures next { OnOk result (ids.new ≡ after ids.old (length extensions.now)) }
     ensures grows { next_number ids.old ≤ next_number ids.new }
     ensures refused { IfErr result (λ error. RefusedAs error (SpentWith ids.old (length extensions.now))) }
@@ -192,10 +218,12 @@ fn extend_schema_by_all(
     Ok(())
 }
 
-/// The schema definition of a definition with these extensions folded in, in order, as [`extend_schema`] does, at the
-/// location of the definition. The faults of the definition are added at the end, and then those of the extensions.
+/// The schema definition of a definition with these extensions folded in, in order, as [`extend_schema`]
+/// does, at the location of the definition. The faults of the definition are added at the end, and then those
+/// of the extensions.
 ///
-/// `Memory` is out of memory. `ExtensionIds` comes only where the source has fewer numbers left than there are extensions.
+/// `Memory` is out of memory. `ExtensionIds` comes only where the source has fewer numbers left than there
+/// are extensions.
 pub fn begin_schema(
     alloc: Global,
     node: &Node<ast::SchemaDefinition>,
@@ -203,8 +231,12 @@ pub fn begin_schema(
     ids: &mut ExtensionSource,
     faults: &mut Items<Fault>,
 ) -> Result<Node<SchemaDefinition>, BuilderError>
-    ensures made { IfOk result (λ made. made ≡ schema_begun (next_number ids.old) (schema_definition_part node.now) (map schema_extension_part extensions.now)) }
-    ensures faults { OnOk result (faults.new ≡ faults.old ++ schema_begun_faults (schema_definition_part node.now) (map schema_extension_part extensions.now)) }
+    ensures made { IfOk result (λ made. made
+        ≡ schema_begun (next_number ids.old) (schema_definition_part node.now)
+        (map schema_extension_part extensions.now)) }
+    ensures faults { OnOk result (faults.new
+        ≡ faults.old
+        ++ schema_begun_faults (schema_definition_part node.now) (map schema_extension_part extensions.now)) }
     ensures next { OnOk result (ids.new ≡ after ids.old (length extensions.now)) }
     ensures grows { next_number ids.old ≤ next_number ids.new }
     ensures refused { IfErr result (λ error. RefusedAs error (SpentWith ids.old (length extensions.now))) }

@@ -1,4 +1,5 @@
--- What is at fault among the components of a type, definition and extensions joined, is what `first_of_each` drops.
+-- What is at fault among the components of a type, definition and extensions joined, is what `first_of_each`
+-- drops.
 use Rattle.apollo_meaning.proofs.Prelude.{◌≡◌, ℕ, Bool, true, false, cond, ◌&&◌, List, [], ◌∷◌, ◌++◌, map, Option, Some, None, filter, refl, sym, ap, ◌∙◌, true≢false, append_assoc, find, flat_map, option_map, option_map_or, IsEquivalence, on_equiv, flat_map-append, append-nil, map-append, filter-append, map-map, NameView, same_text, first_of_each, each_after, each_after-append, Collection, TypePart, TypeBody, ScalarBody, ObjectBody, InterfaceBody, UnionBody, EnumBody, InputObjectBody, Fault, Entry, collision, collision_at, collisions, name_entries, field_entries, body_faults, part_faults}
 use Rattle.std.specs.Prelude.{nat_eq}
 use Rattle.std.proofs.lemmas.Cmp.{nat_eq_equiv}

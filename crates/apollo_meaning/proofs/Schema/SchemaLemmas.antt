@@ -64,7 +64,8 @@ schema-unfolded = snoc_ind Unfolded (λ start none. refl) step
     step xs (Extended p) before = plain xs (Extended p) (first_schema-push_undefined xs (Extended p) refl) (λ was. refl) before
     step xs (Other d) before = plain xs (Other d) (first_schema-push_undefined xs (Other d) refl) (λ was. refl) before
 
--- the folded extensions of the schema, their origins forgotten, are all its extensions once it has a definition
+-- the folded extensions of the schema, their origins forgotten, are all its extensions once it has a
+-- definition
 abbrev Forgets : List ListItem → Type 0
 Forgets xs = (start : ℕ) (s : SchemaPart) → first_schema xs ≡ Some s → map (λ (e : SourcedSchema). e.1) (schema_sourced start (folded xs)) ≡ schema_extensions xs
 

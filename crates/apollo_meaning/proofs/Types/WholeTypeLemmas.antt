@@ -1,4 +1,5 @@
--- The components that are dropped from a type of a list, by places, are those that are dropped from its parts, joined.
+-- The components that are dropped from a type of a list, by places, are those that are dropped from its
+-- parts, joined.
 use Rattle.apollo_meaning.proofs.Prelude.{◌≡◌, Bool, true, false, cond, ◌&&◌, List, [], ◌∷◌, ◌++◌, length, take, Some, filter, refl, sym, ap, ◌∙◌, true≢false, filter_map, flat_map, option_map_or, each_after, each_after-start, TypePart, kind_of, key_of, same_kind, ListItem, extended_part, same, extensions_of, of_kind, types, Placed, extension_places, first_place, Fault, part_faults, extension_faults, same-true, each-filter, flat_map-each}
 use Rattle.std.proofs.lemmas.List.Elements.{filter_agree}
 use Rattle.apollo_meaning.specs.Order.Places.{is_folded}

@@ -1,5 +1,5 @@
--- The definitions of types that a list is completed with where those that are extended only are adopted: GraphQL
--- specification of October 2021, section 3.4.3.
+-- The definitions of types that a list is completed with where those that are extended only are adopted:
+-- GraphQL specification of October 2021, section 3.4.3.
 --
 -- **Completed list.** The list, then what is adopted, then the implied schema definition. All that
 -- follows (types, numbers, places, faults) is said of the completed list, so neither needs a case of its
@@ -13,7 +13,8 @@ use Rattle.std.specs.List.{filter_map, flat_map}
 use Rattle.std.specs.Option.{option_map_or}
 use Rattle.graphql_nodes.specs.SameText.{same}
 use Rattle.apollo_component.specs.FirstOfEach.{first_of_each}
-use Rattle.apollo_meaning.specs.Items.Parts.{TypePart, SchemaPart, TypeBody, ScalarBody, ObjectBody, InterfaceBody, UnionBody, EnumBody, InputObjectBody, key_of}
+use Rattle.apollo_meaning.specs.Items.Parts.{TypePart, SchemaPart, TypeBody, ScalarBody, ObjectBody}
+use Rattle.apollo_meaning.specs.Items.Parts.{InterfaceBody, UnionBody, EnumBody, InputObjectBody, key_of}
 use Rattle.apollo_meaning.specs.Items.ListItems.{ListItem, Defined, extended_part}
 use Rattle.apollo_meaning.specs.Items.Named.{first, extensions_of, first_schema, schema_extensions}
 
@@ -38,7 +39,8 @@ empty_body (UnionBody members) = UnionBody []
 empty_body (EnumBody values) = EnumBody []
 empty_body (InputObjectBody fields) = InputObjectBody []
 
--- the empty definition that adoption gives a name: of the kind, with the name and at the location of its first extension
+-- the empty definition that adoption gives a name: of the kind, with the name and at the location of its
+-- first extension
 abbrev pub adopted_part : TypePart → TypePart
 adopted_part e = record {
   name = e.name;

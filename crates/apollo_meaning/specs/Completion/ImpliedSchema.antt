@@ -1,4 +1,5 @@
--- The definition of the schema that is implied where none stands: GraphQL specification of October 2021, section 3.3.1.
+-- The definition of the schema that is implied where none stands: GraphQL specification of October 2021,
+-- section 3.3.1.
 --
 -- **Implicit roots.** For query, mutation and subscription, in this order: the root of the default name
 -- (`Query`, `Mutation`, `Subscription`), if this name means an object type. An adopted type counts. Such a
@@ -18,7 +19,8 @@ use Rattle.std.specs.List.{flat_map}
 use Rattle.std.specs.Option.{option_map_or}
 use Rattle.graphql_nodes.specs.OperationTexts.{default_type_text}
 use Rattle.graphql_nodes.specs.declared.operation_type.OperationType.{OperationType}
-use Rattle.graphql_nodes.specs.declared.operation_type.OperationType.TheVariants.{Query, Mutation, Subscription}
+use Rattle.graphql_nodes.specs.declared.operation_type.OperationType.TheVariants.{Query, Mutation}
+use Rattle.graphql_nodes.specs.declared.operation_type.OperationType.TheVariants.{Subscription}
 use Rattle.apollo_types.specs.SchemaDefinitionWriteOut.{default_name}
 use Rattle.apollo_meaning.specs.Items.Parts.{SchemaPart, kind_of, same_kind, Root, roots_in}
 use Rattle.apollo_meaning.specs.Items.ListItems.{ListItem, SchemaDefined}
@@ -34,7 +36,8 @@ is_object_name xs n = option_map_or (λ p. same_kind kinds.Object (kind_of p)) (
 abbrev pub default_root : OperationType → Root
 default_root op = record { value = (op, default_name op); location = None }
 
--- the root that stands where no schema definition names one: the object type with the operation's default name
+-- the root that stands where no schema definition names one: the object type with the operation's default
+-- name
 abbrev pub implicit_root : List ListItem → OperationType → List Root
 implicit_root xs op = if is_object_name xs (default_type_text op) then default_root op ∷ [] else []
 

@@ -8,17 +8,26 @@ use Rattle.apollo_meaning.specs.declared.build_error.BuildError.TheVariants as e
 abbrev pub bare_build_error : BuildError → BuildError
 bare_build_error (e.ExecutableDefinition describe) = e.ExecutableDefinition describe
 bare_build_error (e.SchemaDefinitionCollision previous) = e.SchemaDefinitionCollision previous
-bare_build_error (e.DirectiveDefinitionCollision previous name) = e.DirectiveDefinitionCollision previous (bare_name name)
-bare_build_error (e.TypeDefinitionCollision previous name) = e.TypeDefinitionCollision previous (bare_name name)
+bare_build_error (e.DirectiveDefinitionCollision previous name) =
+    e.DirectiveDefinitionCollision previous (bare_name name)
+bare_build_error (e.TypeDefinitionCollision previous name) =
+    e.TypeDefinitionCollision previous (bare_name name)
 bare_build_error e.BuiltInScalarTypeRedefinition = e.BuiltInScalarTypeRedefinition
 bare_build_error e.OrphanSchemaExtension = e.OrphanSchemaExtension
 bare_build_error (e.OrphanTypeExtension name) = e.OrphanTypeExtension (bare_name name)
-bare_build_error (e.TypeExtensionKindMismatch name extension location definition) = e.TypeExtensionKindMismatch (bare_name name) extension location definition
+bare_build_error (e.TypeExtensionKindMismatch name extension location definition) =
+    e.TypeExtensionKindMismatch (bare_name name) extension location definition
 bare_build_error (e.DuplicateRootOperation previous operation) = e.DuplicateRootOperation previous operation
-bare_build_error (e.DuplicateImplementsInterfaceInObject kept ty) = e.DuplicateImplementsInterfaceInObject (bare_name kept) (bare_name ty)
-bare_build_error (e.DuplicateImplementsInterfaceInInterface kept ty) = e.DuplicateImplementsInterfaceInInterface (bare_name kept) (bare_name ty)
-bare_build_error (e.ObjectFieldNameCollision kept ty) = e.ObjectFieldNameCollision (bare_name kept) (bare_name ty)
-bare_build_error (e.InterfaceFieldNameCollision kept ty) = e.InterfaceFieldNameCollision (bare_name kept) (bare_name ty)
+bare_build_error (e.DuplicateImplementsInterfaceInObject kept ty) =
+    e.DuplicateImplementsInterfaceInObject (bare_name kept) (bare_name ty)
+bare_build_error (e.DuplicateImplementsInterfaceInInterface kept ty) =
+    e.DuplicateImplementsInterfaceInInterface (bare_name kept) (bare_name ty)
+bare_build_error (e.ObjectFieldNameCollision kept ty) =
+    e.ObjectFieldNameCollision (bare_name kept) (bare_name ty)
+bare_build_error (e.InterfaceFieldNameCollision kept ty) =
+    e.InterfaceFieldNameCollision (bare_name kept) (bare_name ty)
 bare_build_error (e.EnumValueNameCollision kept ty) = e.EnumValueNameCollision (bare_name kept) (bare_name ty)
-bare_build_error (e.UnionMemberNameCollision kept ty) = e.UnionMemberNameCollision (bare_name kept) (bare_name ty)
-bare_build_error (e.InputFieldNameCollision kept ty) = e.InputFieldNameCollision (bare_name kept) (bare_name ty)
+bare_build_error (e.UnionMemberNameCollision kept ty) =
+    e.UnionMemberNameCollision (bare_name kept) (bare_name ty)
+bare_build_error (e.InputFieldNameCollision kept ty) =
+    e.InputFieldNameCollision (bare_name kept) (bare_name ty)

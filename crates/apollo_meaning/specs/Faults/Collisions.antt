@@ -1,4 +1,5 @@
--- Named components that a name before them keeps out: GraphQL specification of October 2021, sections 3.6 to 3.10.
+-- Named components that a name before them keeps out: GraphQL specification of October 2021, sections 3.6 to
+-- 3.10.
 --
 -- **Collision.** Interfaces, fields, members, values of a type (`collisions`): a component is at fault if one
 -- of the same name is before it, in the same part or in an earlier one. The parts are the first definition,
@@ -28,15 +29,18 @@ use Rattle.apollo_component.specs.EachAfter.{each_after}
 use Rattle.apollo_component.specs.FirstOfEach.{same_key, kept_for}
 use Rattle.apollo_meaning.specs.declared.build_error.BuildError.{BuildError}
 use Rattle.apollo_meaning.specs.declared.collision.Collection.{Collection}
-use Rattle.apollo_meaning.specs.declared.collision.Collection.TheVariants.{ObjectInterfaces, InterfaceInterfaces, ObjectFields, InterfaceFields, EnumValues, UnionMembers, InputFields}
+use Rattle.apollo_meaning.specs.declared.collision.Collection.TheVariants.{ObjectInterfaces}
+use Rattle.apollo_meaning.specs.declared.collision.Collection.TheVariants.{InterfaceInterfaces, ObjectFields}
+use Rattle.apollo_meaning.specs.declared.collision.Collection.TheVariants.{InterfaceFields, EnumValues}
+use Rattle.apollo_meaning.specs.declared.collision.Collection.TheVariants.{UnionMembers, InputFields}
 use Rattle.apollo_meaning.specs.declared.build_error.BuildError.TheVariants as errors
 
 -- a fault, and the location that it is about
 abbrev pub Fault : Type 0
 Fault = Option SourceSpan × BuildError
 
--- what is wrong with a second component of a name in a collection: the name that is kept, and the name of the type
--- where the second one stands
+-- what is wrong with a second component of a name in a collection: the name that is kept, and the name of the
+-- type where the second one stands
 abbrev pub collision : Collection → NameView → NameView → BuildError
 collision ObjectInterfaces kept ty = errors.DuplicateImplementsInterfaceInObject kept ty
 collision InterfaceInterfaces kept ty = errors.DuplicateImplementsInterfaceInInterface kept ty
@@ -52,7 +56,8 @@ Entry = NameView × Option SourceSpan
 
 -- the fault of a component with these names before it: one if its name is among them, at the component
 abbrev pub collision_at : Collection → NameView → List NameView → Entry → List Fault
-collision_at c ty before e = option_map_or (λ kept. (e.1, collision c kept ty) ∷ []) (find (same_text e.0) before) []
+collision_at c ty before e =
+    option_map_or (λ kept. (e.1, collision c kept ty) ∷ []) (find (same_text e.0) before) []
 
 -- the faults of components with these names before them, in order
 abbrev pub collisions : Collection → NameView → List NameView → List Entry → List Fault
@@ -62,6 +67,7 @@ collisions c ty before = each_after (λ done. collision_at c ty (before ++ map (
 abbrev pub same_name : Entry → Entry → Bool
 same_name = same_key same_text
 
--- the fault of a component that is dropped where these are kept: at the component, with the name of the kept one
+-- the fault of a component that is dropped where these are kept: at the component, with the name of the kept
+-- one
 abbrev pub dropped_component : Collection → NameView → List Entry → Entry → Fault
 dropped_component c ty kept e = (e.1, collision c (kept_for same_name kept e).0 ty)

@@ -1,5 +1,5 @@
--- What is wrong with definitions that are of no type and not of the schema: GraphQL specification of October 2021,
--- sections 2.2, 3, 3.3 and 3.13.
+-- What is wrong with definitions that are of no type and not of the schema: GraphQL specification of October
+-- 2021, sections 2.2, 3, 3.3 and 3.13.
 --
 -- **Repeated directive definition.** `directive_faults`: a definition is at fault if a definition of its
 -- name that is handed in stands before it. `DirectiveDefinitionCollision`, at its name, with its name
@@ -23,13 +23,18 @@ use Rattle.graphql_ast.specs.declared.definition.Definition.TheVariants as ast
 -- handed in before
 abbrev pub directive_faults : Directives → NodeView DirectiveDefinition → List Fault
 directive_faults ds d = option_map_or
-    (λ kept. (d.value.name.location, errors.DirectiveDefinitionCollision kept.value.name.location d.value.name) ∷ [])
+    (λ kept. (
+      d.value.name.location,
+      errors.DirectiveDefinitionCollision kept.value.name.location d.value.name,
+    ) ∷ [])
     (find (λ e. has_text d.value.name.text e && is_handed_in e) ds) []
 
 -- what is wrong with something else than a definition or extension of a type or the schema, after these
 -- directive definitions
 abbrev pub other_faults : Directives → Definition → List Fault
 other_faults ds (ast.DirectiveDefinition n) = directive_faults ds n
-other_faults ds (ast.OperationDefinition n) = (n.location, errors.ExecutableDefinition (definition_text (ast.OperationDefinition n))) ∷ []
-other_faults ds (ast.FragmentDefinition n) = (n.location, errors.ExecutableDefinition (definition_text (ast.FragmentDefinition n))) ∷ []
+other_faults ds (ast.OperationDefinition n) =
+    (n.location, errors.ExecutableDefinition (definition_text (ast.OperationDefinition n))) ∷ []
+other_faults ds (ast.FragmentDefinition n) =
+    (n.location, errors.ExecutableDefinition (definition_text (ast.FragmentDefinition n))) ∷ []
 other_faults ds d = []

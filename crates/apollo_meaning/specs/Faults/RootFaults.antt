@@ -1,5 +1,5 @@
--- What is wrong with the definitions and extensions of the schema: GraphQL specification of October 2021, sections 3.3.1
--- and 3.3.2.
+-- What is wrong with the definitions and extensions of the schema: GraphQL specification of October 2021,
+-- sections 3.3.1 and 3.3.2.
 --
 -- **Repeated root.** `root_fault`: a root is at fault if one of the same operation is before it: in the same
 -- part of the schema or in an earlier one. The order of parts is that which collisions have.
@@ -27,7 +27,8 @@ use Rattle.apollo_meaning.specs.declared.build_error.BuildError.TheVariants as e
 -- what is wrong with a root with these before it: it is dropped where one of them is named for its operation
 abbrev pub root_fault : List Root → Root → List Fault
 root_fault before r = option_map_or
-    (λ kept. (r.location, errors.DuplicateRootOperation kept.value.1.location (operation_text r.value.0)) ∷ [])
+    (λ kept. (r.location, errors.DuplicateRootOperation kept.value.1.location (operation_text r.value.0))
+    ∷ [])
     (find (λ k. same_operation r.value.0 k.value.0) before) []
 
 -- the faults of roots with these before them, in order
@@ -40,7 +41,10 @@ same_root a b = same_operation a.value.0 b.value.0
 
 -- the fault of a root that is dropped where these are kept: at the root, with the location of the kept one
 abbrev pub dropped_root : List Root → Root → Fault
-dropped_root kept r = (r.location, errors.DuplicateRootOperation (kept_for same_root kept r).value.1.location (operation_text r.value.0))
+dropped_root kept r = (
+  r.location,
+  errors.DuplicateRootOperation (kept_for same_root kept r).value.1.location (operation_text r.value.0),
+)
 
 -- the roots that are dropped where a part joins these parts
 abbrev pub schema_faults : List SchemaPart → SchemaPart → List Fault

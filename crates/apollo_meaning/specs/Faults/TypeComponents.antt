@@ -1,17 +1,20 @@
--- The components of a type, those of its definition and of its extensions joined: GraphQL specification of October 2021,
--- section 3.4.3, and the type validation of sections 3.6 to 3.10.
+-- The components of a type, those of its definition and of its extensions joined: GraphQL specification of
+-- October 2021, section 3.4.3, and the type validation of sections 3.6 to 3.10.
 use Rattle.std.specs.Prelude.{ℕ, Bool, List, [], ◌++◌, map, ◌&&◌, nat_eq}
 use Rattle.std.specs.List.{flat_map}
 use Rattle.graphql_nodes.specs.NameView.{NameView}
 use Rattle.apollo_component.specs.EachAfter.{each_after}
 use Rattle.apollo_component.specs.FirstOfEach.{kept_for}
-use Rattle.apollo_meaning.specs.Items.Parts.{TypePart, TypeBody, ScalarBody, ObjectBody, InterfaceBody, UnionBody, EnumBody, InputObjectBody}
+use Rattle.apollo_meaning.specs.Items.Parts.{TypePart, TypeBody, ScalarBody, ObjectBody, InterfaceBody}
+use Rattle.apollo_meaning.specs.Items.Parts.{UnionBody, EnumBody, InputObjectBody}
 use Rattle.apollo_meaning.specs.declared.collision.Collection.{Collection}
 use Rattle.apollo_meaning.specs.Faults.Collisions.{Fault, Entry, collision, same_name}
-use Rattle.apollo_meaning.specs.Faults.TypeFaults.{part_faults, name_entries, field_entries, value_entries, input_field_entries}
+use Rattle.apollo_meaning.specs.Faults.TypeFaults.{part_faults, name_entries, field_entries, value_entries}
+use Rattle.apollo_meaning.specs.Faults.TypeFaults.{input_field_entries}
 use Rattle.apollo_meaning.specs.declared.collision.Collection.TheVariants as c
 
--- a component of a type: its collection, its name and location, and the type's name as the part has it where it stands
+-- a component of a type: its collection, its name and location, and the type's name as the part has it where
+-- it stands
 pub record TypeComponent : Type 0 where
   -- what it is there, as a field of an interface type
   pub collection : Collection
@@ -27,8 +30,12 @@ component_in c ty e = record { collection = c; entry = e; type_name = ty }
 -- the components of a body in a part of this type name, interfaces first
 abbrev pub body_components : TypeBody → NameView → List TypeComponent
 body_components ScalarBody ty = []
-body_components (ObjectBody interfaces fields) ty = map (component_in c.ObjectInterfaces ty) (name_entries interfaces) ++ map (component_in c.ObjectFields ty) (field_entries fields)
-body_components (InterfaceBody interfaces fields) ty = map (component_in c.InterfaceInterfaces ty) (name_entries interfaces) ++ map (component_in c.InterfaceFields ty) (field_entries fields)
+body_components (ObjectBody interfaces fields) ty =
+    map (component_in c.ObjectInterfaces ty) (name_entries interfaces)
+    ++ map (component_in c.ObjectFields ty) (field_entries fields)
+body_components (InterfaceBody interfaces fields) ty =
+    map (component_in c.InterfaceInterfaces ty) (name_entries interfaces)
+    ++ map (component_in c.InterfaceFields ty) (field_entries fields)
 body_components (UnionBody members) ty = map (component_in c.UnionMembers ty) (name_entries members)
 body_components (EnumBody values) ty = map (component_in c.EnumValues ty) (value_entries values)
 body_components (InputObjectBody fields) ty = map (component_in c.InputFields ty) (input_field_entries fields)
@@ -37,7 +44,8 @@ body_components (InputObjectBody fields) ty = map (component_in c.InputFields ty
 abbrev pub components_of : List TypePart → List TypeComponent
 components_of = flat_map (λ p. body_components p.body p.name)
 
--- a number for what a collection holds, whatever the kind of the type: interfaces, fields, values, members, input fields
+-- a number for what a collection holds, whatever the kind of the type: interfaces, fields, values, members,
+-- input fields
 abbrev pub what_is_held : Collection → ℕ
 what_is_held c.ObjectInterfaces = 0
 what_is_held c.InterfaceInterfaces = 0
@@ -49,11 +57,14 @@ what_is_held c.InputFields = 4
 
 -- components are the same if both are interfaces, or both fields, and so on, and by the texts of their names
 abbrev pub same_component : TypeComponent → TypeComponent → Bool
-same_component a b = nat_eq (what_is_held a.collection) (what_is_held b.collection) && same_name a.entry b.entry
+same_component a b = nat_eq (what_is_held a.collection) (what_is_held b.collection)
+    && same_name a.entry b.entry
 
--- the fault of a component that is dropped where these are kept: at the component, with the name of the kept one
+-- the fault of a component that is dropped where these are kept: at the component, with the name of the kept
+-- one
 abbrev pub dropped_from_type : List TypeComponent → TypeComponent → Fault
-dropped_from_type kept e = (e.entry.1, collision e.collection (kept_for same_component kept e).entry.0 e.type_name)
+dropped_from_type kept e =
+    (e.entry.1, collision e.collection (kept_for same_component kept e).entry.0 e.type_name)
 
 -- the components that are dropped from parts of a type, where each joins those before it
 abbrev pub joined_faults : List TypePart → List Fault

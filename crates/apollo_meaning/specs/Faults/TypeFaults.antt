@@ -1,5 +1,5 @@
--- What is wrong with the definitions and extensions of one type: GraphQL specification of October 2021, sections 3.3 and
--- 3.4.3, and the type validation of sections 3.5 to 3.10.
+-- What is wrong with the definitions and extensions of one type: GraphQL specification of October 2021,
+-- sections 3.3 and 3.4.3, and the type validation of sections 3.5 to 3.10.
 --
 -- **Further definition.** `further_definition`: a definition of a type's name that isn't the first one.
 -- If the first one is built-in, and the further one was added while further definitions of built-in
@@ -25,10 +25,12 @@ use Rattle.graphql_nodes.specs.KindTexts.{kind_text}
 use Rattle.graphql_ast.specs.declared.type_system.FieldDefinition.{FieldDefinition}
 use Rattle.graphql_ast.specs.declared.type_system.EnumValueDefinition.{EnumValueDefinition}
 use Rattle.graphql_ast.specs.declared.type_system.InputValueDefinition.{InputValueDefinition}
-use Rattle.apollo_meaning.specs.Items.Parts.{TypePart, TypeBody, ScalarBody, ObjectBody, InterfaceBody, UnionBody, EnumBody, InputObjectBody, kind_of, same_kind}
+use Rattle.apollo_meaning.specs.Items.Parts.{TypePart, TypeBody, ScalarBody, ObjectBody, InterfaceBody}
+use Rattle.apollo_meaning.specs.Items.Parts.{UnionBody, EnumBody, InputObjectBody, kind_of, same_kind}
 use Rattle.apollo_meaning.specs.Faults.Collisions.{Fault, Entry, collisions}
 use Rattle.apollo_meaning.specs.Items.Named.{of_kind}
-use Rattle.apollo_meaning.specs.Types.Components.{body_interfaces, body_members, body_fields, body_values, body_input_fields}
+use Rattle.apollo_meaning.specs.Types.Components.{body_interfaces, body_members, body_fields, body_values}
+use Rattle.apollo_meaning.specs.Types.Components.{body_input_fields}
 use Rattle.apollo_meaning.specs.declared.build_error.BuildError.TheVariants as errors
 use Rattle.apollo_meaning.specs.declared.collision.Collection.TheVariants as c
 use Rattle.graphql_nodes.specs.declared.type_kind.TypeKind.TheVariants as kinds
@@ -77,12 +79,16 @@ input_field_entries = named_entries (λ f. f.name)
 abbrev pub body_faults : TypeBody → NameView → List TypePart → List Fault
 body_faults ScalarBody ty parts = []
 body_faults (ObjectBody interfaces fields) ty parts =
-    collisions c.ObjectInterfaces ty (interface_names parts) (name_entries interfaces) ++ collisions c.ObjectFields ty (field_names parts) (field_entries fields)
+    collisions c.ObjectInterfaces ty (interface_names parts) (name_entries interfaces)
+    ++ collisions c.ObjectFields ty (field_names parts) (field_entries fields)
 body_faults (InterfaceBody interfaces fields) ty parts =
-    collisions c.InterfaceInterfaces ty (interface_names parts) (name_entries interfaces) ++ collisions c.InterfaceFields ty (field_names parts) (field_entries fields)
-body_faults (UnionBody members) ty parts = collisions c.UnionMembers ty (member_names parts) (name_entries members)
+    collisions c.InterfaceInterfaces ty (interface_names parts) (name_entries interfaces)
+    ++ collisions c.InterfaceFields ty (field_names parts) (field_entries fields)
+body_faults (UnionBody members) ty parts =
+    collisions c.UnionMembers ty (member_names parts) (name_entries members)
 body_faults (EnumBody values) ty parts = collisions c.EnumValues ty (value_names parts) (value_entries values)
-body_faults (InputObjectBody fields) ty parts = collisions c.InputFields ty (input_field_names parts) (input_field_entries fields)
+body_faults (InputObjectBody fields) ty parts =
+    collisions c.InputFields ty (input_field_names parts) (input_field_entries fields)
 
 -- components that are dropped, interfaces first, where a part joins these parts
 abbrev pub part_faults : List TypePart → TypePart → List Fault
@@ -90,12 +96,17 @@ part_faults parts p = body_faults p.body p.name parts
 
 -- the fault of an extension of another kind than its name's definition
 abbrev pub kind_mismatch : TypePart → TypePart → Fault
-kind_mismatch d e = (e.name.location, errors.TypeExtensionKindMismatch e.name (kind_text (kind_of e) ++ codes " extension") d.name.location (kind_text (kind_of d)))
+kind_mismatch d e = (
+  e.name.location,
+  errors.TypeExtensionKindMismatch e.name (kind_text (kind_of e) ++ codes " extension") d.name.location
+      (kind_text (kind_of d)),
+)
 
 -- what is wrong with an extension: it doesn't have the kind of this definition, or components are dropped
 -- where it joins these parts
 abbrev pub joining_fault : TypePart → List TypePart → TypePart → List Fault
-joining_fault d parts e = if same_kind (kind_of d) (kind_of e) then part_faults parts e else kind_mismatch d e ∷ []
+joining_fault d parts e = if same_kind (kind_of d) (kind_of e) then part_faults parts e
+    else kind_mismatch d e ∷ []
 
 -- what is wrong with an extension of a name with this first definition, where these extensions of the name
 -- stand before it
@@ -108,12 +119,14 @@ redefinition d e = (e.name.location, errors.TypeDefinitionCollision d.name.locat
 
 -- the fault of a further definition of a built-in type; where it defines a scalar it has an error of its own
 abbrev pub built_in_redefinition : TypePart → TypePart → Fault
-built_in_redefinition d e = if same_kind kinds.Scalar (kind_of e) then (e.location, errors.BuiltInScalarTypeRedefinition) else redefinition d e
+built_in_redefinition d e = if same_kind kinds.Scalar (kind_of e)
+    then (e.location, errors.BuiltInScalarTypeRedefinition) else redefinition d e
 
 -- what is wrong with a further definition of a name with this first one: nothing if it is ignored
 abbrev pub further_definition : TypePart → TypePart → List Fault
 further_definition d e =
-    if is_built_in d.location then (if e.ignorable then [] else built_in_redefinition d e ∷ []) else redefinition d e ∷ []
+    if is_built_in d.location then (if e.ignorable then [] else built_in_redefinition d e ∷ [])
+    else redefinition d e ∷ []
 
 -- the fault of an extension of a name without a definition
 abbrev pub orphan : TypePart → Fault

@@ -1,5 +1,5 @@
--- What a list of definitions says of types and of the schema: GraphQL specification of October 2021, sections 3, 3.3
--- and 3.4.
+-- What a list of definitions says of types and of the schema: GraphQL specification of October 2021, sections
+-- 3, 3.3 and 3.4.
 --
 -- **The list.** The built-in definitions, and after them the definitions of all documents, in the order
 -- in which these were added. Where one document ends and the next begins makes no difference. Each
@@ -18,7 +18,13 @@ use Rattle.graphql_nodes.specs.Tables.{lookup}
 use Rattle.graphql_nodes.specs.NameView.{NameView}
 use Rattle.graphql_nodes.specs.NodeView.{NodeView}
 use Rattle.graphql_ast.specs.declared.definition.Definition.{Definition}
-use Rattle.apollo_meaning.specs.Items.Parts.{TypePart, SchemaPart, scalar_definition_part, scalar_extension_part, object_definition_part, object_extension_part, interface_definition_part, interface_extension_part, union_definition_part, union_extension_part, enum_definition_part, enum_extension_part, input_object_definition_part, input_object_extension_part, schema_definition_part, schema_extension_part}
+use Rattle.apollo_meaning.specs.Items.Parts.{TypePart, SchemaPart, scalar_definition_part}
+use Rattle.apollo_meaning.specs.Items.Parts.{scalar_extension_part, object_definition_part}
+use Rattle.apollo_meaning.specs.Items.Parts.{object_extension_part, interface_definition_part}
+use Rattle.apollo_meaning.specs.Items.Parts.{interface_extension_part, union_definition_part}
+use Rattle.apollo_meaning.specs.Items.Parts.{union_extension_part, enum_definition_part, enum_extension_part}
+use Rattle.apollo_meaning.specs.Items.Parts.{input_object_definition_part, input_object_extension_part}
+use Rattle.apollo_meaning.specs.Items.Parts.{schema_definition_part, schema_extension_part}
 use Rattle.graphql_ast.specs.declared.definition.Definition.TheVariants as ast
 use Rattle.graphql_ast.specs.declared.type_system.SchemaDefinition.{SchemaDefinition}
 
@@ -133,4 +139,5 @@ held_under n waiting = items_held (lookup (by_text n) waiting)
 
 -- a definition of the schema, if there is one
 abbrev pub schema_item : Option (NodeView SchemaDefinition) → List ListItem
-schema_item definition = option_map_or (λ node. SchemaDefined (schema_definition_part node) ∷ []) definition []
+schema_item definition =
+    option_map_or (λ node. SchemaDefined (schema_definition_part node) ∷ []) definition []

@@ -1,5 +1,5 @@
--- Definitions and extensions of a name, and of the schema, in a list: GraphQL specification of October 2021, sections 3,
--- 3.3.2 and 3.4.3.
+-- Definitions and extensions of a name, and of the schema, in a list: GraphQL specification of October 2021,
+-- sections 3, 3.3.2 and 3.4.3.
 --
 -- **First definition.** The first definition of a name (a text) is the defining item of that name with
 -- the least place. Later ones are not used.
@@ -12,7 +12,8 @@ use Rattle.std.specs.Map.{lookup}
 use Rattle.graphql_nodes.specs.SameText.{same}
 use Rattle.graphql_nodes.specs.declared.type_kind.TypeKind.{TypeKind}
 use Rattle.apollo_meaning.specs.Items.Parts.{TypePart, SchemaPart, kind_of, key_of, same_kind}
-use Rattle.apollo_meaning.specs.Items.ListItems.{ListItem, extended_part, defined_part, defined_schema, extended_schema}
+use Rattle.apollo_meaning.specs.Items.ListItems.{ListItem, extended_part, defined_part, defined_schema}
+use Rattle.apollo_meaning.specs.Items.ListItems.{extended_schema}
 
 -- parts under their names
 abbrev pub named : List TypePart → List (List ℕ × TypePart)

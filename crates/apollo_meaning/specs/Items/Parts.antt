@@ -1,5 +1,5 @@
--- A definition or extension of a type, whatever its kind, and of the schema: GraphQL specification of October 2021,
--- sections 3.3, 3.4, and 3.5 to 3.10.
+-- A definition or extension of a type, whatever its kind, and of the schema: GraphQL specification of October
+-- 2021, sections 3.3, 3.4, and 3.5 to 3.10.
 --
 -- **Part.** The part of a type that one definition or extension holds: name, location, description (none for
 -- an extension), directives, and what belongs to its kind: interfaces and fields of an object or interface
@@ -12,7 +12,8 @@ use Rattle.graphql_nodes.specs.declared.operation_type.OperationType.{OperationT
 use Rattle.graphql_nodes.specs.NameView.{NameView}
 use Rattle.graphql_nodes.specs.declared.source.SourceSpan.{SourceSpan}
 use Rattle.graphql_nodes.specs.declared.type_kind.TypeKind.{TypeKind}
-use Rattle.graphql_nodes.specs.declared.type_kind.TypeKind.TheVariants.{Scalar, Object, Interface, Union, Enum, InputObject}
+use Rattle.graphql_nodes.specs.declared.type_kind.TypeKind.TheVariants.{Scalar, Object, Interface, Union}
+use Rattle.graphql_nodes.specs.declared.type_kind.TypeKind.TheVariants.{Enum, InputObject}
 use Rattle.graphql_nodes.specs.NodeView.{NodeView}
 use Rattle.graphql_ast.specs.declared.type_system.InterfaceTypeDefinition.{InterfaceTypeDefinition}
 use Rattle.graphql_ast.specs.declared.type_system.EnumTypeExtension.{EnumTypeExtension}
@@ -107,23 +108,32 @@ scalar_extension_part n = part_at n.location n.value.name None n.value.directive
 
 -- what an object type definition says of its type: name, description, directives, interfaces, fields
 abbrev pub object_definition_part : NodeView ObjectTypeDefinition → TypePart
-object_definition_part n = part_at n.location n.value.name n.value.description n.value.directives (ObjectBody n.value.implements_interfaces n.value.fields)
+object_definition_part n =
+    part_at n.location n.value.name n.value.description n.value.directives
+    (ObjectBody n.value.implements_interfaces n.value.fields)
 
 -- what an object type extension says of its type: name, directives, interfaces, fields
 abbrev pub object_extension_part : NodeView ObjectTypeExtension → TypePart
-object_extension_part n = part_at n.location n.value.name None n.value.directives (ObjectBody n.value.implements_interfaces n.value.fields)
+object_extension_part n =
+    part_at n.location n.value.name None n.value.directives
+    (ObjectBody n.value.implements_interfaces n.value.fields)
 
 -- what an interface type definition says of its type: name, description, directives, interfaces, fields
 abbrev pub interface_definition_part : NodeView InterfaceTypeDefinition → TypePart
-interface_definition_part n = part_at n.location n.value.name n.value.description n.value.directives (InterfaceBody n.value.implements_interfaces n.value.fields)
+interface_definition_part n =
+    part_at n.location n.value.name n.value.description n.value.directives
+    (InterfaceBody n.value.implements_interfaces n.value.fields)
 
 -- what an interface type extension says of its type: name, directives, interfaces, fields
 abbrev pub interface_extension_part : NodeView InterfaceTypeExtension → TypePart
-interface_extension_part n = part_at n.location n.value.name None n.value.directives (InterfaceBody n.value.implements_interfaces n.value.fields)
+interface_extension_part n =
+    part_at n.location n.value.name None n.value.directives
+    (InterfaceBody n.value.implements_interfaces n.value.fields)
 
 -- what a union type definition says of its type: name, description, directives, members
 abbrev pub union_definition_part : NodeView UnionTypeDefinition → TypePart
-union_definition_part n = part_at n.location n.value.name n.value.description n.value.directives (UnionBody n.value.members)
+union_definition_part n =
+    part_at n.location n.value.name n.value.description n.value.directives (UnionBody n.value.members)
 
 -- what a union type extension says of its type: name, directives, members
 abbrev pub union_extension_part : NodeView UnionTypeExtension → TypePart
@@ -131,7 +141,8 @@ union_extension_part n = part_at n.location n.value.name None n.value.directives
 
 -- what an enum type definition says of its type: name, description, directives, values
 abbrev pub enum_definition_part : NodeView EnumTypeDefinition → TypePart
-enum_definition_part n = part_at n.location n.value.name n.value.description n.value.directives (EnumBody n.value.values)
+enum_definition_part n =
+    part_at n.location n.value.name n.value.description n.value.directives (EnumBody n.value.values)
 
 -- what an enum type extension says of its type: name, directives, values
 abbrev pub enum_extension_part : NodeView EnumTypeExtension → TypePart
@@ -139,11 +150,13 @@ enum_extension_part n = part_at n.location n.value.name None n.value.directives 
 
 -- what an input object type definition says of its type: name, description, directives, fields
 abbrev pub input_object_definition_part : NodeView InputObjectTypeDefinition → TypePart
-input_object_definition_part n = part_at n.location n.value.name n.value.description n.value.directives (InputObjectBody n.value.fields)
+input_object_definition_part n =
+    part_at n.location n.value.name n.value.description n.value.directives (InputObjectBody n.value.fields)
 
 -- what an input object type extension says of its type: name, directives, fields
 abbrev pub input_object_extension_part : NodeView InputObjectTypeExtension → TypePart
-input_object_extension_part n = part_at n.location n.value.name None n.value.directives (InputObjectBody n.value.fields)
+input_object_extension_part n =
+    part_at n.location n.value.name None n.value.directives (InputObjectBody n.value.fields)
 
 -- what a schema definition says of the schema: description, directives, roots
 abbrev pub schema_definition_part : NodeView SchemaDefinition → SchemaPart

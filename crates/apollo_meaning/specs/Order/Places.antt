@@ -21,7 +21,8 @@ use Rattle.std.specs.Option.{option_map_or, option_map}
 use Rattle.std.specs.Map.{lookup}
 use Rattle.graphql_nodes.specs.SameText.{same}
 use Rattle.apollo_meaning.specs.Items.Parts.{TypePart, SchemaPart, kind_of, key_of, same_kind}
-use Rattle.apollo_meaning.specs.Items.ListItems.{ListItem, extended_part, defined_part, defined_schema, extended_schema, Folding, OfType, OfSchema}
+use Rattle.apollo_meaning.specs.Items.ListItems.{ListItem, extended_part, defined_part, defined_schema}
+use Rattle.apollo_meaning.specs.Items.ListItems.{extended_schema, Folding, OfType, OfSchema}
 
 -- what is defined and extended in a list under keys
 pub record Family (P : Type 0) : Type 0 where
@@ -79,11 +80,13 @@ met_when f xs i = filter (is_met f xs i) (extension_places f xs)
 
 -- an extension of a type is folded if its name has a definition, and the first one has its kind
 abbrev pub is_folded : List ListItem → Placed TypePart → Bool
-is_folded xs e = option_map_or (λ d. same_kind (kind_of d.1) (kind_of e.1)) (first_place types xs (key_of e.1)) false
+is_folded xs e =
+    option_map_or (λ d. same_kind (kind_of d.1) (kind_of e.1)) (first_place types xs (key_of e.1)) false
 
 -- the extensions that are folded at a moment, by their places: of types, or of the schema
 abbrev pub folded_when : List ListItem → ℕ → List Folding
-folded_when xs i = map (λ e. OfType e.1) (filter (is_folded xs) (met_when types xs i)) ++ map (λ e. OfSchema e.1) (met_when schemas xs i)
+folded_when xs i = map (λ e. OfType e.1) (filter (is_folded xs) (met_when types xs i))
+    ++ map (λ e. OfSchema e.1) (met_when schemas xs i)
 
 -- the extensions that are folded, by moment and then by place
 abbrev pub folding_order : List ListItem → List Folding

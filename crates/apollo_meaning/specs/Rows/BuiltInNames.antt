@@ -1,4 +1,5 @@
--- Names in the table of built-in definitions: GraphQL specification of October 2021, sections 3.5, 3.13 and 4.2.
+-- Names in the table of built-in definitions: GraphQL specification of October 2021, sections 3.5, 3.13 and
+-- 4.2.
 use Rattle.std.specs.Prelude.{ℕ, List, [], map, ◌≡◌}
 use Rattle.std.specs.List.{filter_map}
 use Rattle.graphql_nodes.specs.SameText.{same}

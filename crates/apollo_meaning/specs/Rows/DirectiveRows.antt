@@ -1,4 +1,5 @@
--- A list of directive definitions with what it means, computed. GraphQL specification of October 2021, section 3.13.
+-- A list of directive definitions with what it means, computed. GraphQL specification of October 2021,
+-- section 3.13.
 use Rattle.std.specs.Prelude.{ℕ, List, [], ◌∷◌, None, Option, false, codes}
 use Rattle.graphql_nodes.specs.NodeView.{NodeView}
 use Rattle.graphql_nodes.specs.declared.source.SourceSpan.{SourceSpan}
@@ -12,7 +13,17 @@ use Rattle.apollo_meaning.specs.declared.build_error.BuildError.TheVariants as e
 
 -- a directive definition of this name, whose name stands on a line, at a location
 abbrev pub directive_at : Option SourceSpan → List ℕ → ℕ → NodeView DirectiveDefinition
-directive_at location text n = record { value = record { description = None; name = name_on_line text n; arguments = []; repeatable = false; locations = [] }; location = location }
+directive_at location text n =
+    record {
+      value = record {
+        description = None;
+        name = name_on_line text n;
+        arguments = [];
+        repeatable = false;
+        locations = [];
+      };
+      location = location;
+    }
 
 -- two built-in directives; then the first of them is defined again, and a third time, and another one once
 abbrev pub directives_replaced : List Definition

@@ -39,7 +39,8 @@
 -- definition: the law `query_type_alone`.
 use Rattle.std.specs.Prelude.{ℕ, List, [], ◌∷◌, None, Option, Some, codes}
 use Rattle.graphql_nodes.specs.declared.operation_type.OperationType.{OperationType}
-use Rattle.graphql_nodes.specs.declared.operation_type.OperationType.TheVariants.{Query, Mutation, Subscription}
+use Rattle.graphql_nodes.specs.declared.operation_type.OperationType.TheVariants.{Query, Mutation}
+use Rattle.graphql_nodes.specs.declared.operation_type.OperationType.TheVariants.{Subscription}
 use Rattle.graphql_nodes.specs.NodeView.{NodeView}
 use Rattle.graphql_ast.specs.declared.definition.Definition.{Definition}
 use Rattle.graphql_ast.specs.declared.directive.Directive.{Directive}
@@ -47,10 +48,12 @@ use Rattle.apollo_component.specs.Extensions.{extension_id}
 use Rattle.apollo_component.specs.declared.component.ComponentName.{ComponentName}
 use Rattle.apollo_types.specs.declared.schema_definition.SchemaDefinition.{SchemaDefinition}
 use Rattle.apollo_meaning.specs.BuiltInNodes.{scalar}
-use Rattle.apollo_meaning.specs.Items.ListItems.{ListItem, Defined, SchemaDefined, Other, Extended, SchemaExtended}
+use Rattle.apollo_meaning.specs.Items.ListItems.{ListItem, Defined, SchemaDefined, Other, Extended}
+use Rattle.apollo_meaning.specs.Items.ListItems.{SchemaExtended}
 use Rattle.apollo_meaning.specs.Items.Parts.{key_of, Root}
 use Rattle.apollo_meaning.specs.Faults.Collisions.{Fault}
-use Rattle.apollo_meaning.specs.Rows.TypeRows.{line, name_on_line, field_on_line, definition_on_line, extension_on_line}
+use Rattle.apollo_meaning.specs.Rows.TypeRows.{line, name_on_line, field_on_line, definition_on_line}
+use Rattle.apollo_meaning.specs.Rows.TypeRows.{extension_on_line}
 use Rattle.apollo_component.specs.declared.extension.ComponentOrigin.TheVariants as origins
 use Rattle.apollo_meaning.specs.declared.build_error.BuildError.TheVariants as errors
 use Rattle.graphql_ast.specs.declared.definition.Definition.TheVariants as ast
@@ -61,7 +64,8 @@ root_on_line op text n = record { value = (op, name_on_line text n); location = 
 
 -- an applied directive that stands on a line, without arguments
 abbrev pub directive_on_line : List ℕ → ℕ → NodeView Directive
-directive_on_line text n = record { value = record { name = name_on_line text n; arguments = [] }; location = line n }
+directive_on_line text n =
+    record { value = record { name = name_on_line text n; arguments = [] }; location = line n }
 
 -- a schema definition that stands on a line, with these roots
 abbrev pub schema_on_line : ℕ → List Root → Definition
@@ -91,7 +95,8 @@ own_root text n = Some (record { origin = origins.Definition; name = name_on_lin
 
 -- the root that the schema extension with a number and a line names on a line of its own
 abbrev pub extension_root : ℕ → ℕ → List ℕ → ℕ → Option ComponentName
-extension_root number from text n = Some (record { origin = origins.Extension (extension_id number (line from)); name = name_on_line text n })
+extension_root number from text n =
+    Some (record { origin = origins.Extension (extension_id number (line from)); name = name_on_line text n })
 
 -- extensions alone: of the schema, twice, of an interface and of an object type
 abbrev pub extensions_alone : List Definition
@@ -99,19 +104,30 @@ extensions_alone =
     schema_extension_on_line 1 (directive_on_line (codes "d") 2 ∷ []) (root_on_line Query (codes "A") 3 ∷ [])
     ∷ schema_extension_on_line 4 [] (root_on_line Query (codes "B") 5 ∷ [])
     ∷ ast.InterfaceTypeExtension (record {
-      value = record { name = name_on_line (codes "B") 6; implements_interfaces = []; directives = record { 0 = [] }; fields = field_on_line (codes "x") 7 ∷ [] };
+      value = record {
+        name = name_on_line (codes "B") 6;
+        implements_interfaces = [];
+        directives = record { 0 = [] };
+        fields = field_on_line (codes "x") 7 ∷ [];
+      };
       location = line 6;
     })
     ∷ extension_on_line 8 (name_on_line (codes "A") 8) [] (field_on_line (codes "y") 9 ∷ [])
     ∷ []
 
--- the schema definition where they are adopted: it is at no location, and all of it comes of its extensions, which are folded
--- after those of types
+-- the schema definition where they are adopted: it is at no location, and all of it comes of its extensions,
+-- which are folded after those of types
 abbrev pub adopted_schema : NodeView SchemaDefinition
 adopted_schema = record {
   value = record {
     description = None;
-    directives = record { 0 = record { origin = origins.Extension (extension_id 2 (line 1)); node = directive_on_line (codes "d") 2 } ∷ [] };
+    directives =
+        record {
+          0 = record {
+            origin = origins.Extension (extension_id 2 (line 1));
+            node = directive_on_line (codes "d") 2;
+          } ∷ [];
+        };
     query = extension_root 2 1 (codes "A") 3;
     mutation = None;
     subscription = None;
@@ -142,7 +158,10 @@ implied_query = record {
   value = record {
     description = None;
     directives = record { 0 = [] };
-    query = Some (record { origin = origins.Definition; name = record { text = codes "Query"; location = None } });
+    query = Some (record {
+      origin = origins.Definition;
+      name = record { text = codes "Query"; location = None };
+    });
     mutation = None;
     subscription = None;
   };
@@ -180,7 +199,15 @@ built_in_int = scalar (codes "Int") ∷ []
 
 -- a further definition of it
 abbrev pub int_again : List Definition
-int_again = ast.ScalarTypeDefinition (record { value = record { description = None; name = name_on_line (codes "Int") 1; directives = record { 0 = [] } }; location = line 1 }) ∷ []
+int_again = ast.ScalarTypeDefinition
+    (record {
+      value = record {
+        description = None;
+        name = name_on_line (codes "Int") 1;
+        directives = record { 0 = [] };
+      };
+      location = line 1;
+    }) ∷ []
 
 -- the fault of that further definition
 abbrev pub redefinition_fault : List Fault

@@ -53,7 +53,9 @@ use Rattle.graphql_nodes.specs.declared.source.SourceSpan.{SourceSpan}
 use Rattle.graphql_nodes.specs.NodeView.{NodeView}
 use Rattle.graphql_ast.specs.declared.definition.Definition.{Definition}
 use Rattle.graphql_ast.specs.declared.type_system.FieldDefinition.{FieldDefinition}
-use Rattle.graphql_ast.specs.declared.definition.Definition.TheVariants.{ScalarTypeExtension, ObjectTypeDefinition, ObjectTypeExtension}
+use Rattle.graphql_ast.specs.declared.definition.Definition.TheVariants.{ScalarTypeExtension}
+use Rattle.graphql_ast.specs.declared.definition.Definition.TheVariants.{ObjectTypeDefinition}
+use Rattle.graphql_ast.specs.declared.definition.Definition.TheVariants.{ObjectTypeExtension}
 use Rattle.graphql_ast.specs.declared.type_reference.Type.{Named}
 use Rattle.apollo_meaning.specs.Items.ListItems.{Folding, OfType, OfSchema}
 
@@ -73,21 +75,38 @@ name_on_line text n = record { text = text; location = line n }
 -- a field of type `Int`
 abbrev pub field_on_line : List ℕ → ℕ → NodeView FieldDefinition
 field_on_line text n = record {
-  value = record { description = None; name = name_on_line text n; arguments = []; ty = Named (name_on_line (codes "Int") n); directives = record { 0 = [] } };
+  value = record {
+    description = None;
+    name = name_on_line text n;
+    arguments = [];
+    ty = Named (name_on_line (codes "Int") n);
+    directives = record { 0 = [] };
+  };
   location = line n;
 }
 
 -- an object type definition that stands on a line, with these interfaces and fields
 abbrev pub definition_on_line : ℕ → List ℕ → List NameView → List (NodeView FieldDefinition) → Definition
 definition_on_line n text interfaces fields = ObjectTypeDefinition (record {
-  value = record { description = None; name = name_on_line text n; implements_interfaces = interfaces; directives = record { 0 = [] }; fields = fields };
+  value = record {
+    description = None;
+    name = name_on_line text n;
+    implements_interfaces = interfaces;
+    directives = record { 0 = [] };
+    fields = fields;
+  };
   location = line n;
 })
 
 -- an object type extension that stands on a line, with these interfaces and fields
 abbrev pub extension_on_line : ℕ → NameView → List NameView → List (NodeView FieldDefinition) → Definition
 extension_on_line n name interfaces fields = ObjectTypeExtension (record {
-  value = record { name = name; implements_interfaces = interfaces; directives = record { 0 = [] }; fields = fields };
+  value = record {
+    name = name;
+    implements_interfaces = interfaces;
+    directives = record { 0 = [] };
+    fields = fields;
+  };
   location = line n;
 })
 
@@ -96,11 +115,12 @@ abbrev pub extensions_around : List Definition
 extensions_around =
     extension_on_line 1 (name_on_line (codes "Q") 1) [] (field_on_line (codes "b") 2 ∷ [])
     ∷ definition_on_line 3 (codes "Q") [] (field_on_line (codes "a") 4 ∷ [])
-    ∷ extension_on_line 5 (name_on_line (codes "Q") 5) (name_on_line (codes "N") 6 ∷ []) (field_on_line (codes "a") 7 ∷ [])
+    ∷ extension_on_line 5 (name_on_line (codes "Q") 5) (name_on_line (codes "N") 6 ∷ [])
+    (field_on_line (codes "a") 7 ∷ [])
     ∷ []
 
--- how they are written again: the repeated field is dropped, interfaces come before fields, each extension stands where
--- it stood, and the name is the type's, which its definition wrote
+-- how they are written again: the repeated field is dropped, interfaces come before fields, each extension
+-- stands where it stood, and the name is the type's, which its definition wrote
 abbrev pub written_around : List Definition
 written_around =
     definition_on_line 3 (codes "Q") [] (field_on_line (codes "a") 4 ∷ [])
@@ -124,5 +144,9 @@ extensions_that_wait =
 abbrev pub extension_of_another_kind : List Definition
 extension_of_another_kind =
     definition_on_line 1 (codes "Q") [] (field_on_line (codes "a") 2 ∷ [])
-    ∷ ScalarTypeExtension (record { value = record { name = name_on_line (codes "Q") 3; directives = record { 0 = [] } }; location = line 3 })
+    ∷ ScalarTypeExtension
+    (record {
+      value = record { name = name_on_line (codes "Q") 3; directives = record { 0 = [] } };
+      location = line 3;
+    })
     ∷ []

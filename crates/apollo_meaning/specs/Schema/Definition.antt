@@ -1,5 +1,5 @@
--- The schema definition that a list means: its first one with the schema extensions folded in. GraphQL specification of
--- October 2021, sections 3.3 and 3.3.2.
+-- The schema definition that a list means: its first one with the schema extensions folded in. GraphQL
+-- specification of October 2021, sections 3.3 and 3.3.2.
 --
 -- **Schema definition that a list means.** The **parts of the schema** are its first definition, with the
 -- origin "definition", and then its extensions by number. Each extension has its identity as origin. The
@@ -14,7 +14,8 @@ use Rattle.std.specs.Prelude.{ℕ, Bool, false, List, ◌∷◌, None, map, Opti
 use Rattle.std.specs.List.{filter_map, flat_map, find, enumerate_from}
 use Rattle.std.specs.Option.{option_map}
 use Rattle.graphql_nodes.specs.declared.operation_type.OperationType.{OperationType}
-use Rattle.graphql_nodes.specs.declared.operation_type.OperationType.TheVariants.{Query, Mutation, Subscription}
+use Rattle.graphql_nodes.specs.declared.operation_type.OperationType.TheVariants.{Query, Mutation}
+use Rattle.graphql_nodes.specs.declared.operation_type.OperationType.TheVariants.{Subscription}
 use Rattle.graphql_nodes.specs.NodeView.{NodeView}
 use Rattle.graphql_ast.specs.declared.directive.Directive.{Directive}
 use Rattle.apollo_component.specs.declared.extension.ComponentOrigin.TheVariants.{Definition, Extension}

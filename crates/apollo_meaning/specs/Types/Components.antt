@@ -1,4 +1,5 @@
--- The components of a part of a type, with their origins: GraphQL specification of October 2021, sections 3.6 to 3.10.
+-- The components of a part of a type, with their origins: GraphQL specification of October 2021, sections 3.6
+-- to 3.10.
 use Rattle.std.specs.Prelude.{Bool, List, [], map}
 use Rattle.graphql_nodes.specs.NameView.{NameView}
 use Rattle.graphql_nodes.specs.SameText.{same_text}
@@ -11,7 +12,8 @@ use Rattle.apollo_component.specs.FirstOfEach.{first_of_each, same_key}
 use Rattle.apollo_component.specs.declared.component.Component.{Component}
 use Rattle.apollo_component.specs.declared.component.ComponentName.{ComponentName}
 use Rattle.apollo_component.specs.declared.extension.ComponentOrigin.{ComponentOrigin}
-use Rattle.apollo_meaning.specs.Items.Parts.{TypePart, TypeBody, ObjectBody, InterfaceBody, UnionBody, EnumBody, InputObjectBody}
+use Rattle.apollo_meaning.specs.Items.Parts.{TypePart, TypeBody, ObjectBody, InterfaceBody, UnionBody}
+use Rattle.apollo_meaning.specs.Items.Parts.{EnumBody, InputObjectBody}
 
 -- a part, with the origin of its components
 abbrev pub Sourced : Type 0
@@ -34,11 +36,13 @@ abbrev pub field_entry : ComponentOrigin → NodeView FieldDefinition → NameVi
 field_entry o f = (f.value.name, component o f)
 
 -- an enum value under its name
-abbrev pub value_entry : ComponentOrigin → NodeView EnumValueDefinition → NameView × Component EnumValueDefinition
+abbrev pub value_entry : ComponentOrigin → NodeView EnumValueDefinition
+    → NameView × Component EnumValueDefinition
 value_entry o v = (v.value.value, component o v)
 
 -- an input field under its name
-abbrev pub input_field_entry : ComponentOrigin → NodeView InputValueDefinition → NameView × Component InputValueDefinition
+abbrev pub input_field_entry : ComponentOrigin → NodeView InputValueDefinition
+    → NameView × Component InputValueDefinition
 input_field_entry o f = (f.value.name, component o f)
 
 -- the interfaces that a part of an object or interface type lists; of other kinds none

@@ -1,5 +1,5 @@
--- The types that a list means: of each name its first definition, with its kind's extensions folded in. GraphQL
--- specification of October 2021, sections 3.4.3, and 3.5 to 3.10.
+-- The types that a list means: of each name its first definition, with its kind's extensions folded in.
+-- GraphQL specification of October 2021, sections 3.4.3, and 3.5 to 3.10.
 --
 -- **Number of an extension.** The builder's first number plus how many extensions stand before it in the
 -- folding order. So different extensions have different numbers, one extension has one number for all
@@ -31,7 +31,8 @@ use Rattle.graphql_nodes.specs.Tables.{lookup, keys_of}
 use Rattle.apollo_component.specs.FirstOfEach.{first_of_each, same_key}
 use Rattle.apollo_component.specs.declared.extension.ComponentOrigin.TheVariants.{Definition, Extension}
 use Rattle.apollo_component.specs.Extensions.{extension_id}
-use Rattle.apollo_types.specs.declared.extended_type.ExtendedType.TheVariants.{Scalar, Object, Interface, Union, Enum, InputObject}
+use Rattle.apollo_types.specs.declared.extended_type.ExtendedType.TheVariants.{Scalar, Object, Interface}
+use Rattle.apollo_types.specs.declared.extended_type.ExtendedType.TheVariants.{Union, Enum, InputObject}
 use Rattle.apollo_types.specs.declared.extended_type.ExtendedType.{ExtendedType}
 use Rattle.apollo_types.specs.declared.scalar_type.ScalarType.{ScalarType}
 use Rattle.apollo_types.specs.declared.object_type.ObjectType.{ObjectType}
@@ -39,10 +40,13 @@ use Rattle.apollo_types.specs.declared.interface_type.InterfaceType.{InterfaceTy
 use Rattle.apollo_types.specs.declared.union_type.UnionType.{UnionType}
 use Rattle.apollo_types.specs.declared.enum_type.EnumType.{EnumType}
 use Rattle.apollo_types.specs.declared.input_object_type.InputObjectType.{InputObjectType}
-use Rattle.apollo_meaning.specs.Items.Parts.{TypePart, TypeBody, ScalarBody, ObjectBody, InterfaceBody, UnionBody, EnumBody, InputObjectBody, key_of}
+use Rattle.apollo_meaning.specs.Items.Parts.{TypePart, TypeBody, ScalarBody, ObjectBody, InterfaceBody}
+use Rattle.apollo_meaning.specs.Items.Parts.{UnionBody, EnumBody, InputObjectBody, key_of}
 use Rattle.apollo_meaning.specs.Items.ListItems.{ListItem, Folding, OfType, OfSchema}
 use Rattle.apollo_meaning.specs.Items.Named.{first, definitions}
-use Rattle.apollo_meaning.specs.Types.Components.{Sourced, sourced_directives, interfaces_of, members_of, fields_of, values_of, input_fields_of, distinct_names, distinct_entries}
+use Rattle.apollo_meaning.specs.Types.Components.{Sourced, sourced_directives, interfaces_of, members_of}
+use Rattle.apollo_meaning.specs.Types.Components.{fields_of, values_of, input_fields_of, distinct_names}
+use Rattle.apollo_meaning.specs.Types.Components.{distinct_entries}
 
 -- the names that are defined, as their first definitions write them, in the order of those
 abbrev pub type_names : List ListItem → List NameView
@@ -59,7 +63,8 @@ of_type (i, OfSchema s) = None
 
 -- the folded extensions of a name, with their origins
 abbrev pub extensions_with_origin : List ℕ → ℕ → List Folding → List Sourced
-extensions_with_origin n start folded = map extension_part (filter (λ e. same n (key_of e.1)) (filter_map of_type (enumerate_from start folded)))
+extensions_with_origin n start folded =
+    map extension_part (filter (λ e. same n (key_of e.1)) (filter_map of_type (enumerate_from start folded)))
 
 -- the parts of a name with this first definition, where these extensions are folded, in this order
 abbrev pub parts : ℕ → List Folding → List ℕ → TypePart → List Sourced
@@ -122,12 +127,18 @@ input_object_of head parts = record {
 
 -- the type that these parts make, of this kind, with the description, name and location of the head
 abbrev pub type_of_kind : TypeBody → TypePart → List Sourced → ExtendedType
-type_of_kind ScalarBody head parts = Scalar (record { value = scalar_of head parts; location = head.location })
-type_of_kind (ObjectBody interfaces fields) head parts = Object (record { value = object_of head parts; location = head.location })
-type_of_kind (InterfaceBody interfaces fields) head parts = Interface (record { value = interface_of head parts; location = head.location })
-type_of_kind (UnionBody members) head parts = Union (record { value = union_of head parts; location = head.location })
-type_of_kind (EnumBody values) head parts = Enum (record { value = enum_of head parts; location = head.location })
-type_of_kind (InputObjectBody fields) head parts = InputObject (record { value = input_object_of head parts; location = head.location })
+type_of_kind ScalarBody head parts =
+    Scalar (record { value = scalar_of head parts; location = head.location })
+type_of_kind (ObjectBody interfaces fields) head parts =
+    Object (record { value = object_of head parts; location = head.location })
+type_of_kind (InterfaceBody interfaces fields) head parts =
+    Interface (record { value = interface_of head parts; location = head.location })
+type_of_kind (UnionBody members) head parts =
+    Union (record { value = union_of head parts; location = head.location })
+type_of_kind (EnumBody values) head parts =
+    Enum (record { value = enum_of head parts; location = head.location })
+type_of_kind (InputObjectBody fields) head parts =
+    InputObject (record { value = input_object_of head parts; location = head.location })
 
 -- the type that these parts make, with the description, name and location of the head
 abbrev pub type_from : TypePart → List Sourced → ExtendedType
@@ -137,9 +148,10 @@ type_from head parts = type_of_kind head.body head parts
 abbrev pub type_of : ℕ → List Folding → List ListItem → List ℕ → Option ExtendedType
 type_of start folded xs n = option_map (λ d. type_from d (parts start folded n d)) (first xs n)
 
--- these types are those of the list, where these extensions are folded, in this order: each under its name, in the
--- order of first definition
-pub record AreTypesOf (start : ℕ) (folded : List Folding) (xs : List ListItem) (types : List (NameView × ExtendedType)) : Type 0 where
+-- these types are those of the list, where these extensions are folded, in this order: each under its name,
+-- in the order of first definition
+pub record AreTypesOf (start : ℕ) (folded : List Folding) (xs : List ListItem) (types : List (NameView
+    × ExtendedType)) : Type 0 where
   -- the names that are defined, in order
   pub names : keys_of types ≡ type_names xs
   -- under each name the type that it means, and under each other text none

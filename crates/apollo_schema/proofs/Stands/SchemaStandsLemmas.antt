@@ -1,5 +1,5 @@
--- Tables that stand for a list stand for it with one more definition or extension of the schema, once the code has taken
--- it.
+-- Tables that stand for a list stand for it with one more definition or extension of the schema, once the
+-- code has taken it.
 use Rattle.apollo_meaning.proofs.Prelude.{◌≡◌, ℕ, ◌+◌, ◌^◌, ◌≤◌, List, [], ◌∷◌, ◌++◌, length, map, Option, Some, None, refl, sym, ap, ◌∙◌, arith, option_map, option_map_or, option_or, unwrap_or, keys_of, append-nil, map-append, NodeView, next_number, source_at, SchemaDefinition, filter_map-push_none, SchemaPart, schema_extension_part, ListItem, SchemaDefined, SchemaExtended, first_schema, schema_extensions, SourcedSchema, schema_from, schema_faults, further_schema, directive_definitions, AreDirectivesOf, schema_numbered, schema_begun, schema_begun_faults, schemas_folded_at, folded}
 use Rattle.std.proofs.lemmas.List.{length-map}
 use Rattle.graphql_nodes.specs.declared.source.SourceSpan.{SourceSpan}

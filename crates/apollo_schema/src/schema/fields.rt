@@ -1,7 +1,9 @@
-//! Fields by name, with the meta-fields: GraphQL specification of October 2021, sections 3.6, 3.7, 4.1 and 4.2.
+//! Fields by name, with the meta-fields: GraphQL specification of October 2021, sections 3.6, 3.7, 4.1 and
+//! 4.2.
 ghost use Rattle.std.specs.Prelude.{◌≡◌, None, Some, IfOk, IfErr, OnErr};
 ghost use Rattle.std.specs.Option.{option_copied};
-ghost use Rattle.apollo_schema.specs.Lookups.{declared_field, is_query_root, meta_field, field_of_type, field_at, IsMissingIn};
+ghost use Rattle.apollo_schema.specs.Lookups.{declared_field, is_query_root, meta_field, field_of_type};
+ghost use Rattle.apollo_schema.specs.Lookups.{field_at, IsMissingIn};
 
 use super::Schema;
 use crate::field_lookup_error::FieldLookupError;
@@ -59,8 +61,9 @@ impl Schema {
         None
     }
 
-    /// The field of this name in a type at hand, of which this is the name, if it has one: as [`type_field`](Schema::type_field)
-    /// finds it where the schema has the type under the name. So whoever looks up many fields of one type looks it up once.
+    /// The field of this name in a type at hand, of which this is the name, if it has one: as
+    /// [`type_field`](Schema::type_field) finds it where the schema has the type under the name. So whoever
+    /// looks up many fields of one type looks it up once.
     pub fn field_of<'schema>(
         &'schema self,
         type_name: &Name,
@@ -80,13 +83,15 @@ impl Schema {
     /// the root of queries has `__schema` and `__type`, whatever its kind (sections 4.1 and 4.2). It takes no
     /// memory.
     ///
-    /// `NoSuchType` comes where the schema has no type of the name; `NoSuchField` where it has, with its key and the type.
+    /// `NoSuchType` comes where the schema has no type of the name; `NoSuchField` where it has, with its key
+    /// and the type.
     pub fn type_field<'schema>(
         &'schema self,
         type_name: &Name,
         field_name: &Name,
     ) -> Result<&'schema Component<FieldDefinition>, FieldLookupError<'schema>>
-        ensures found { IfOk result (λ field. field_at self.now type_name.now field_name.now ≡ Some field.now) }
+        ensures found { IfOk result (λ field. field_at self.now type_name.now field_name.now
+            ≡ Some field.now) }
         ensures none { OnErr result (field_at self.now type_name.now field_name.now ≡ None) }
         ensures missing { IfErr result (IsMissingIn self.now.types type_name.now) }
     {

@@ -24,7 +24,8 @@ fn declared_interfaces(ty: &ExtendedType) -> &[ComponentName]
     }
 }
 
-/// Notes a name under an interface: that of an object type, or else of an interface type. The error is out of memory.
+/// Notes a name under an interface: that of an object type, or else of an interface type. The error is out of
+/// memory.
 fn note(
     alloc: Global,
     map: &mut Table<Name, Implementers>,
@@ -51,7 +52,8 @@ fn note_type(
     name: &Name,
     ty: &ExtendedType,
 ) -> Result<(), AllocError>
-    ensures { OnOk result (map.new ≡ noted_under (is_object ty.now) name.now map.old (declared_interfaces ty.now)) }
+    ensures { OnOk result (map.new
+        ≡ noted_under (is_object ty.now) name.now map.old (declared_interfaces ty.now)) }
 {
     let interfaces = declared_interfaces(ty);
     for interface in interfaces {
@@ -65,9 +67,9 @@ impl Schema {
     /// declare it (sections 3.6 and 3.7). The name is there whether the schema has that interface or not.
     /// Nothing is there through another interface.
     ///
-    /// The names of interfaces stand in the order in which the types, in the schema's order, declare them first, each as it is
-    /// written there. The types under each stand in the schema's order, by their keys. The map hashes as the schema's types do.
-    /// The error is out of memory.
+    /// The names of interfaces stand in the order in which the types, in the schema's order, declare them
+    /// first, each as it is written there. The types under each stand in the schema's order, by their keys.
+    /// The map hashes as the schema's types do. The error is out of memory.
     pub fn implementers_map(&self, alloc: Global) -> Result<Table<Name, Implementers>, AllocError>
         ensures { IfOk result (λ map. map ≡ implementers_map self.now.types) }
     {

@@ -12,7 +12,8 @@ use graphql_nodes::name::Name;
 fn is_listed(name: &Name, names: &KeySet<ComponentName>) -> bool
     ensures { result ≡ is_listed name.now names.now }
 {
-    // The key shares the name's text, and takes no memory. A text that can't be shared once more is compared with each.
+    // The key shares the name's text, and takes no memory. A text that can't be shared once more is compared
+    // with each.
     match ComponentName::from_name(name) {
         Ok(key) => names.contains(&key),
         Err(_) => names.as_slice().iter().any(|listed| *name == listed.name),
@@ -31,9 +32,10 @@ fn declares(interface: &Name, ty: &ExtendedType) -> bool
 }
 
 impl Schema {
-    /// Whether the one name is that of an interface, and the other that of an object or interface type that declares it;
-    /// or the one name is that of a union that lists the other, whether that has a type or not (sections 3.7 and 3.8). Nothing
-    /// is a subtype through something else. It answers where there is no memory, too.
+    /// Whether the one name is that of an interface, and the other that of an object or interface type that
+    /// declares it; or the one name is that of a union that lists the other, whether that has a type or not
+    /// (sections 3.7 and 3.8). Nothing is a subtype through something else. It answers where there is no
+    /// memory, too.
     pub fn is_subtype(&self, abstract_type: &Name, maybe_subtype: &Name) -> bool
         ensures { result ≡ is_subtype self.now.types abstract_type.now maybe_subtype.now }
     {

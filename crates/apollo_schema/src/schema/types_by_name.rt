@@ -2,7 +2,8 @@
 ghost use Rattle.std.specs.Prelude.{◌≡◌};
 ghost use Rattle.std.specs.Option.{option_copied};
 ghost use Rattle.apollo_types.specs.TypeKinds.{is_input_type, is_output_type};
-ghost use Rattle.apollo_schema.specs.Lookups.{type_at, scalar_node, object_node, interface_node, union_node, enum_node, input_object_node, refers_to};
+ghost use Rattle.apollo_schema.specs.Lookups.{type_at, scalar_node, object_node, interface_node, union_node};
+ghost use Rattle.apollo_schema.specs.Lookups.{enum_node, input_object_node, refers_to};
 
 use super::Schema;
 use apollo_types::enum_type::EnumType;
@@ -77,8 +78,8 @@ impl Schema {
         }
     }
 
-    /// Whether the type inside all lists is a scalar, an enum or an input object (section 3.4.2). A name without a type is
-    /// none.
+    /// Whether the type inside all lists is a scalar, an enum or an input object (section 3.4.2). A name
+    /// without a type is none.
     pub fn is_input_type(&self, ty: &Type) -> bool
         ensures { result ≡ refers_to is_input_type self.now.types ty.now }
     {
@@ -88,8 +89,8 @@ impl Schema {
         }
     }
 
-    /// Whether the type inside all lists is a scalar, an object, an interface, a union or an enum (section 3.4.2). A name
-    /// without a type is none.
+    /// Whether the type inside all lists is a scalar, an object, an interface, a union or an enum (section
+    /// 3.4.2). A name without a type is none.
     pub fn is_output_type(&self, ty: &Type) -> bool
         ensures { result ≡ refers_to is_output_type self.now.types ty.now }
     {

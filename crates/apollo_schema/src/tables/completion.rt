@@ -47,7 +47,8 @@ impl Tables {
         &self,
         adopts: bool,
     ) -> Result<Option<Node<ast::SchemaDefinition>>, AllocError>
-        ensures { IfOk result (λ implied. (start : ℕ) (xs : List ListItem) → Stands start xs self.now → schema_item implied ≡ implied_schema adopts xs) }
+        ensures { IfOk result (λ implied. (start : ℕ) (xs : List ListItem) → Stands start xs self.now
+            → schema_item implied ≡ implied_schema adopts xs) }
     {
         if self.schema_definition.is_some() {
             return Ok(None);
@@ -63,8 +64,10 @@ impl Tables {
 
     /// Ends a list: what still waits is at fault, and a schema definition may be implied.
     fn end(&mut self, adopts: bool) -> Result<(), BuilderError>
-        ensures ends { OnOk result ((start : ℕ) (xs : List ListItem) → Stands start xs self.old → Ends start (implied_schema adopts xs) xs self.new) }
-        ensures refused { IfErr result (λ error. RefusedAs error (SpentOn self.old (λ xs. xs ++ implied_schema adopts xs))) }
+        ensures ends { OnOk result ((start : ℕ) (xs : List ListItem) → Stands start xs self.old
+            → Ends start (implied_schema adopts xs) xs self.new) }
+        ensures refused { IfErr result (λ error.
+            RefusedAs error (SpentOn self.old (λ xs. xs ++ implied_schema adopts xs))) }
         ensures sources { self.new.sources ≡ self.old.sources }
     {
         let implied = self.implied_schema(adopts)?;
@@ -79,7 +82,8 @@ impl Tables {
 
     /// Completes a list: types are adopted, and it ends.
     fn complete(&mut self, adopts: bool) -> Result<(), BuilderError>
-        ensures completes { OnOk result ((start : ℕ) (xs : List ListItem) → Stands start xs self.old → Completes start adopts xs self.new) }
+        ensures completes { OnOk result ((start : ℕ) (xs : List ListItem) → Stands start xs self.old
+            → Completes start adopts xs self.new) }
         ensures refused { IfErr result (λ error. RefusedAs error (SpentOn self.old (completed adopts))) }
         ensures sources { self.new.sources ≡ self.old.sources }
     {
@@ -114,12 +118,15 @@ fn refusal(error: BuilderError) -> BuildFailure
 }
 
 impl Tables {
-    /// What was built, and the source: the schema where nothing was found, or else what could be built beside the faults.
-    /// The error is out of memory, and puts the source back at this number.
+    /// What was built, and the source: the schema where nothing was found, or else what could be built beside
+    /// the faults. The error is out of memory, and puts the source back at this number.
     fn into_schema(self, before: u64) -> (Result<Schema, BuildFailure>, ExtensionSource)
-        ensures built { IfOk result.0 (λ schema. ForCompleted self (λ start adopts xs. MeansSchema start adopts xs schema)) }
+        ensures built { IfOk result.0 (λ schema.
+            ForCompleted self (λ start adopts xs. MeansSchema start adopts xs schema)) }
         ensures faultless { OnOk result.0 (ForCompleted self (λ start adopts xs. faults_of adopts xs ≡ [])) }
-        ensures faults { IfErr result.0 (λ failure. IfFaults failure (λ partial faults. ForCompleted self (λ start adopts xs. IsPartOf start adopts xs self.sources partial faults))) }
+        ensures faults { IfErr result.0 (λ failure.
+            IfFaults failure (λ partial faults.
+            ForCompleted self (λ start adopts xs. IsPartOf start adopts xs self.sources partial faults))) }
         ensures sources { IfOk result.0 (λ schema. schema.sources ≡ self.sources) }
         ensures failed { result.0 ≢ Err BuildFailure.Failed }
         ensures unspent { result.0 ≢ Err BuildFailure.ExtensionIds }
@@ -165,16 +172,21 @@ impl Tables {
         (Err(BuildFailure::Faults(found)), ids)
     }
 
-    /// Completes the list, and answers what was built, and the source. After a refusal that is the one from before the
-    /// call.
+    /// Completes the list, and answers what was built, and the source. After a refusal that is the one from
+    /// before the call.
     pub fn finish(self, adopts: bool) -> (Result<Schema, BuildFailure>, ExtensionSource)
-        ensures built { IfOk result.0 (λ schema. ForLists self (λ start xs. MeansSchema start adopts xs schema)) }
+        ensures built { IfOk result.0 (λ schema.
+            ForLists self (λ start xs. MeansSchema start adopts xs schema)) }
         ensures faultless { OnOk result.0 (ForLists self (λ start xs. faults_of adopts xs ≡ [])) }
-        ensures faults { IfErr result.0 (λ failure. IfFaults failure (λ partial faults. ForLists self (λ start xs. IsPartOf start adopts xs self.sources partial faults))) }
+        ensures faults { IfErr result.0 (λ failure.
+            IfFaults failure (λ partial faults.
+            ForLists self (λ start xs. IsPartOf start adopts xs self.sources partial faults))) }
         ensures sources { IfOk result.0 (λ schema. schema.sources ≡ self.sources) }
         ensures failed { result.0 ≢ Err BuildFailure.Failed }
-        ensures spent { result.0 ≡ Err BuildFailure.ExtensionIds → ForLists self (λ start xs. SpendsIds start adopts xs) }
-        ensures source { HasBuilt result.0 → ForLists self (λ start xs. result.1 ≡ source_at (start + folds adopts xs)) }
+        ensures spent { result.0 ≡ Err BuildFailure.ExtensionIds
+            → ForLists self (λ start xs. SpendsIds start adopts xs) }
+        ensures source { HasBuilt result.0
+            → ForLists self (λ start xs. result.1 ≡ source_at (start + folds adopts xs)) }
         ensures rolled_back { WasRefused result.0 → result.1 ≡ self.ids }
         ensures not_below { ForLists self (λ start xs. start ≤ next_number result.1) }
     {

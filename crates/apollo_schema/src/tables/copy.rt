@@ -16,7 +16,8 @@ fn copy_into<T: Clone + Drop>(target: &mut T, original: &T) -> Result<(), AllocE
 impl Tables {
     /// Takes over copies of all that others hold, but for their source.
     fn copy_from(&mut self, original: &Tables) -> Result<(), AllocError>
-        ensures { OnOk result (self.new ≡ record original.now { alloc = self.old.alloc; ids = self.old.ids }) }
+        ensures { OnOk result (self.new
+            ≡ record original.now { alloc = self.old.alloc; ids = self.old.ids }) }
     {
         copy_into(&mut self.sources, &original.sources)?;
         copy_into(&mut self.schema_definition, &original.schema_definition)?;

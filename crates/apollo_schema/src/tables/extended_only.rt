@@ -9,8 +9,8 @@ use super::Tables;
 use crate::orphan_names::OrphanNames;
 
 impl Tables {
-    /// The names that are extended and not defined so far, in order of first extension, each as its first extension has
-    /// it.
+    /// The names that are extended and not defined so far, in order of first extension, each as its first
+    /// extension has it.
     pub fn orphan_names(&self) -> OrphanNames<'_>
         ensures { (start : ℕ) (xs : List ListItem)
             → Stands start xs self.now → names_left result ≡ orphan_names xs }

@@ -4,7 +4,9 @@ ghost use Rattle.std.specs.Prelude.{◌≡◌, true, IfOk};
 ghost use Rattle.graphql_grammar.specs.Pieces.{Gives, GivesSeen, mapped, seq};
 ghost use Rattle.graphql_productions.specs.Directives.{directives};
 ghost use Rattle.graphql_grammar.specs.Standing.{standing};
-ghost use Rattle.graphql_productions.specs.TypeSystem.{described, directive_body, extended, extension_body, no_described, optional_roots, schema_body, schema_extension_body, schema_parts, type_body};
+ghost use Rattle.graphql_productions.specs.TypeSystem.{described, directive_body, extended, extension_body};
+ghost use Rattle.graphql_productions.specs.TypeSystem.{no_described, optional_roots, schema_body};
+ghost use Rattle.graphql_productions.specs.TypeSystem.{schema_extension_body, schema_parts, type_body};
 ghost use Rattle.graphql_text.specs.Seen.{seen_body, seen_extension};
 
 use crate::reading::directives::directives;
@@ -127,7 +129,8 @@ impl Extension {
 
 #[tactic(auto, unfolding(graphql_productions::specs::TypeSystem::type_body))]
 fn type_body(target: Target, words: &mut Words<'_>, kind: TypeKind) -> Result<Body, ReadError>
-    ensures { GivesSeen seen_body result (standing words.new) ((type_body target.file kind target.depth).read (standing words.old)) }
+    ensures { GivesSeen seen_body result (standing words.new)
+        ((type_body target.file kind target.depth).read (standing words.old)) }
 {
     sign(words, keyword(kind))?;
     let name = target.name(words)?;
@@ -137,7 +140,8 @@ fn type_body(target: Target, words: &mut Words<'_>, kind: TypeKind) -> Result<Bo
 
 #[tactic(auto, unfolding(graphql_productions::specs::TypeSystem::schema_body))]
 fn schema_body(target: Target, words: &mut Words<'_>) -> Result<Body, ReadError>
-    ensures { GivesSeen seen_body result (standing words.new) ((schema_body target.file target.depth).read (standing words.old)) }
+    ensures { GivesSeen seen_body result (standing words.new)
+        ((schema_body target.file target.depth).read (standing words.old)) }
 {
     sign(words, Kind::Schema)?;
     let mut parts = Parts::new(target.alloc);
@@ -148,7 +152,8 @@ fn schema_body(target: Target, words: &mut Words<'_>) -> Result<Body, ReadError>
 
 #[tactic(auto, unfolding(graphql_productions::specs::TypeSystem::directive_body))]
 fn directive_body(target: Target, words: &mut Words<'_>) -> Result<Body, ReadError>
-    ensures { GivesSeen seen_body result (standing words.new) ((directive_body target.file target.depth).read (standing words.old)) }
+    ensures { GivesSeen seen_body result (standing words.new)
+        ((directive_body target.file target.depth).read (standing words.old)) }
 {
     sign(words, Kind::Directive)?;
     sign(words, Kind::At)?;
@@ -179,7 +184,8 @@ fn no_described(words: &Words<'_>) -> FaultKind
 
 /// Reads a definition of the type system behind its description.
 pub(crate) fn described(target: Target, words: &mut Words<'_>) -> Result<Body, ReadError>
-    ensures { GivesSeen seen_body result (standing words.new) ((described target.file target.depth).read (standing words.old)) }
+    ensures { GivesSeen seen_body result (standing words.new)
+        ((described target.file target.depth).read (standing words.old)) }
 {
     match words.next_kind() {
         Some(Kind::Schema) => schema_body(target, words),
@@ -200,7 +206,8 @@ fn extension_body(
     words: &mut Words<'_>,
     kind: TypeKind,
 ) -> Result<Extension, ReadError>
-    ensures { GivesSeen seen_extension result (standing words.new) ((extension_body target.file kind target.depth).read (standing words.old)) }
+    ensures { GivesSeen seen_extension result (standing words.new)
+        ((extension_body target.file kind target.depth).read (standing words.old)) }
 {
     sign(words, keyword(kind))?;
     let name = target.name(words)?;
@@ -215,7 +222,8 @@ fn optional_roots(
     target: Target,
     words: &mut Words<'_>,
 ) -> Result<Items<Node<(OperationType, NamedType)>>, ReadError>
-    ensures { Gives result (standing words.new) ((optional_roots target.file target.depth).read (standing words.old)) }
+    ensures { Gives result (standing words.new)
+        ((optional_roots target.file target.depth).read (standing words.old)) }
 {
     if words.next_is(Kind::LeftBrace) {
         roots(target, words)
@@ -225,7 +233,10 @@ fn optional_roots(
 }
 
 fn schema_parts(target: Target, words: &mut Words<'_>) -> Result<Parts, ReadError>
-    ensures { Gives result (standing words.new) ((mapped schema_parts (seq (directives target.file true target.depth) (optional_roots target.file target.depth))).read (standing words.old)) }
+    ensures { Gives result (standing words.new)
+        ((mapped schema_parts
+        (seq (directives target.file true target.depth) (optional_roots target.file target.depth))).read
+        (standing words.old)) }
 {
     let mut parts = Parts::new(target.alloc);
     parts.directives = directives(target.constant(), words)?.into_items();
@@ -235,7 +246,8 @@ fn schema_parts(target: Target, words: &mut Words<'_>) -> Result<Parts, ReadErro
 
 #[tactic(auto, unfolding(graphql_productions::specs::TypeSystem::schema_extension_body))]
 fn schema_extension_body(target: Target, words: &mut Words<'_>) -> Result<Extension, ReadError>
-    ensures { GivesSeen seen_extension result (standing words.new) ((schema_extension_body target.file target.depth).read (standing words.old)) }
+    ensures { GivesSeen seen_extension result (standing words.new)
+        ((schema_extension_body target.file target.depth).read (standing words.old)) }
 {
     sign(words, Kind::Schema)?;
     let parts = schema_parts(target, words)?;
@@ -247,7 +259,8 @@ fn schema_extension_body(target: Target, words: &mut Words<'_>) -> Result<Extens
 
 /// Reads an extension behind `extend`.
 pub(crate) fn extended(target: Target, words: &mut Words<'_>) -> Result<Extension, ReadError>
-    ensures { GivesSeen seen_extension result (standing words.new) ((extended target.file target.depth).read (standing words.old)) }
+    ensures { GivesSeen seen_extension result (standing words.new)
+        ((extended target.file target.depth).read (standing words.old)) }
 {
     match words.next_kind() {
         Some(Kind::Schema) => schema_extension_body(target, words),

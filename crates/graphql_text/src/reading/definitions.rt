@@ -2,7 +2,8 @@
 ghost use Rattle.std.specs.Prelude.{◌≡◌, false, true};
 ghost use Rattle.graphql_grammar.specs.Pieces.{Gives};
 ghost use Rattle.graphql_grammar.specs.Standing.{standing};
-ghost use Rattle.graphql_productions.specs.Documents.{definition, fragment, operation_definition, shorthand_definition};
+ghost use Rattle.graphql_productions.specs.Documents.{definition, fragment, operation_definition};
+ghost use Rattle.graphql_productions.specs.Documents.{shorthand_definition};
 ghost use Rattle.graphql_productions.specs.TypeSystem.{extension, system_definition};
 
 use crate::reading::bodies::{described, extended};
@@ -16,7 +17,8 @@ use graphql_grammar::words::Words;
 
 #[tactic(auto, unfolding(graphql_productions::specs::Documents::operation_definition))]
 fn operation_definition(target: Target, words: &mut Words<'_>) -> Result<Definition, ReadError>
-    ensures { Gives result (standing words.new) ((operation_definition target.file target.depth).read (standing words.old)) }
+    ensures { Gives result (standing words.new)
+        ((operation_definition target.file target.depth).read (standing words.old)) }
 {
     let start = words.start();
     let operation = operation(target, words)?;
@@ -25,7 +27,8 @@ fn operation_definition(target: Target, words: &mut Words<'_>) -> Result<Definit
 
 #[tactic(auto, unfolding(graphql_productions::specs::Documents::shorthand_definition))]
 fn shorthand_definition(target: Target, words: &mut Words<'_>) -> Result<Definition, ReadError>
-    ensures { Gives result (standing words.new) ((shorthand_definition target.file target.depth).read (standing words.old)) }
+    ensures { Gives result (standing words.new)
+        ((shorthand_definition target.file target.depth).read (standing words.old)) }
 {
     let start = words.start();
     let operation = shorthand(target, words)?;
@@ -34,7 +37,8 @@ fn shorthand_definition(target: Target, words: &mut Words<'_>) -> Result<Definit
 
 #[tactic(auto, unfolding(graphql_productions::specs::Documents::fragment))]
 fn fragment(target: Target, words: &mut Words<'_>) -> Result<Definition, ReadError>
-    ensures { Gives result (standing words.new) ((fragment target.file target.depth).read (standing words.old)) }
+    ensures { Gives result (standing words.new)
+        ((fragment target.file target.depth).read (standing words.old)) }
 {
     let start = words.start();
     let fragment = fragment_definition(target, words)?;
@@ -43,7 +47,8 @@ fn fragment(target: Target, words: &mut Words<'_>) -> Result<Definition, ReadErr
 
 #[tactic(auto, unfolding(graphql_productions::specs::TypeSystem::system_definition))]
 fn system_definition(target: Target, words: &mut Words<'_>) -> Result<Definition, ReadError>
-    ensures { Gives result (standing words.new) ((system_definition target.file target.depth).read (standing words.old)) }
+    ensures { Gives result (standing words.new)
+        ((system_definition target.file target.depth).read (standing words.old)) }
 {
     let start = words.start();
     let description = optional_description(target, words)?;
@@ -57,7 +62,8 @@ fn system_definition(target: Target, words: &mut Words<'_>) -> Result<Definition
 
 #[tactic(auto, unfolding(graphql_productions::specs::TypeSystem::extension))]
 fn extension(target: Target, words: &mut Words<'_>) -> Result<Definition, ReadError>
-    ensures { Gives result (standing words.new) ((extension target.file target.depth).read (standing words.old)) }
+    ensures { Gives result (standing words.new)
+        ((extension target.file target.depth).read (standing words.old)) }
 {
     let start = words.start();
     sign(words, Kind::Extend)?;
@@ -67,7 +73,8 @@ fn extension(target: Target, words: &mut Words<'_>) -> Result<Definition, ReadEr
 
 /// Reads a definition, by its first word.
 pub(crate) fn definition(target: Target, words: &mut Words<'_>) -> Result<Definition, ReadError>
-    ensures { Gives result (standing words.new) ((definition target.file target.depth).read (standing words.old)) }
+    ensures { Gives result (standing words.new)
+        ((definition target.file target.depth).read (standing words.old)) }
 {
     match words.next_kind() {
         Some(Kind::LeftBrace) => shorthand_definition(target, words),

@@ -34,7 +34,8 @@ fn next_is_description(words: &Words<'_>) -> bool
 
 /// The text of these, at a word.
 fn placed(target: Target, text: &str, word: Word<'_>) -> Result<NodeStr, AllocError>
-    ensures { IfOk result (λ made. made ≡ record { text = text.now; location = span_at target.file (word.entry.start, word.entry.end) }) }
+    ensures { IfOk result (λ made. made
+        ≡ record { text = text.now; location = span_at target.file (word.entry.start, word.entry.end) }) }
 {
     let text = NodeStr::new(target.alloc, text)?;
     Ok(text.with_location(target.span(word.start, word.end)))
@@ -66,7 +67,8 @@ pub(crate) fn optional_description(
     target: Target,
     words: &mut Words<'_>,
 ) -> Result<Option<NodeStr>, ReadError>
-    ensures { Gives result (standing words.new) ((optional (description target.file)).read (standing words.old)) }
+    ensures { Gives result (standing words.new)
+        ((optional (description target.file)).read (standing words.old)) }
 {
     if next_is_description(words) {
         Ok(Some(description(target, words)?))

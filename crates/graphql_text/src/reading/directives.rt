@@ -4,7 +4,8 @@ ghost use Rattle.graphql_grammar.specs.Kinds.{is_name, only};
 ghost use Rattle.graphql_grammar.specs.Pieces.{Gives};
 ghost use Rattle.graphql_grammar.specs.Standing.{standing};
 ghost use Rattle.graphql_grammar.specs.declared.kind.Kind.TheVariants.{At};
-ghost use Rattle.graphql_productions.specs.Directives.{argument_node, arguments, directive_node, directives, no_argument, no_directive};
+ghost use Rattle.graphql_productions.specs.Directives.{argument_node, arguments, directive_node, directives};
+ghost use Rattle.graphql_productions.specs.Directives.{no_argument, no_directive};
 ghost use Rattle.graphql_productions.proofs.DirectiveLaws.{argument_law, directive_law};
 
 use crate::reading::lists::{Read, optional_items, push_items};
@@ -50,7 +51,8 @@ pub(crate) fn arguments(
     target: Target,
     words: &mut Words<'_>,
 ) -> Result<Items<Node<Argument>>, ReadError>
-    ensures { Gives result (standing words.new) ((arguments target.file target.constant target.depth).read (standing words.old)) }
+    ensures { Gives result (standing words.new)
+        ((arguments target.file target.constant target.depth).read (standing words.old)) }
 {
     optional_items(target, words, Kind::LeftParen, Kind::RightParen)
 }
@@ -85,7 +87,8 @@ impl Read for Node<Directive> {
 /// Reads directives, if there are any.
 #[tactic(auto, unfolding(graphql_productions::specs::Directives::directives), using(graphql_grammar::proofs::LoopLaws::no_front))]
 pub(crate) fn directives(target: Target, words: &mut Words<'_>) -> Result<DirectiveList, ReadError>
-    ensures { Gives result (standing words.new) ((directives target.file target.constant target.depth).read (standing words.old)) }
+    ensures { Gives result (standing words.new)
+        ((directives target.file target.constant target.depth).read (standing words.old)) }
 {
     let mut directives = Items::new(target.alloc);
     push_items(target, words, &mut directives)?;

@@ -5,7 +5,9 @@ ghost use Rattle.graphql_grammar.specs.Pieces.{Gives, mapped, seq};
 ghost use Rattle.graphql_grammar.specs.Standing.{standing};
 ghost use Rattle.graphql_grammar.specs.declared.kind.Kind.TheVariants.{Equals, LeftBrace, Pipe, RightBrace};
 ghost use Rattle.graphql_productions.specs.Directives.{directives};
-ghost use Rattle.graphql_productions.specs.TypeSystem.{enum_parts, enum_values, fielded, has_part, input_parts, input_values, keyword, names_behind, parts, scalar_parts, union_parts};
+ghost use Rattle.graphql_productions.specs.TypeSystem.{enum_parts, enum_values, fielded, has_part};
+ghost use Rattle.graphql_productions.specs.TypeSystem.{input_parts, input_values, keyword, names_behind};
+ghost use Rattle.graphql_productions.specs.TypeSystem.{parts, scalar_parts, union_parts};
 
 use crate::reading::directives::directives;
 use crate::reading::parts::{enum_values, fields, input_values};
@@ -45,7 +47,8 @@ pub(crate) fn has_part(parts: &Parts) -> bool
 
 #[tactic(auto, unfolding(graphql_productions::specs::TypeSystem::fielded))]
 fn fielded(target: Target, words: &mut Words<'_>) -> Result<Parts, ReadError>
-    ensures { Gives result (standing words.new) ((fielded target.file target.depth).read (standing words.old)) }
+    ensures { Gives result (standing words.new)
+        ((fielded target.file target.depth).read (standing words.old)) }
 {
     let mut parts = Parts::new(target.alloc);
     parts.names = names_behind(target, words, Kind::Implements, Kind::Ampersand)?;
@@ -55,7 +58,10 @@ fn fielded(target: Target, words: &mut Words<'_>) -> Result<Parts, ReadError>
 }
 
 fn union_parts(target: Target, words: &mut Words<'_>) -> Result<Parts, ReadError>
-    ensures { Gives result (standing words.new) ((mapped union_parts (seq (directives target.file true target.depth) (names_behind target.file Equals Pipe))).read (standing words.old)) }
+    ensures { Gives result (standing words.new)
+        ((mapped union_parts
+        (seq (directives target.file true target.depth) (names_behind target.file Equals Pipe))).read
+        (standing words.old)) }
 {
     let mut parts = Parts::new(target.alloc);
     parts.directives = directives(target.constant(), words)?.into_items();
@@ -64,7 +70,10 @@ fn union_parts(target: Target, words: &mut Words<'_>) -> Result<Parts, ReadError
 }
 
 fn enum_parts(target: Target, words: &mut Words<'_>) -> Result<Parts, ReadError>
-    ensures { Gives result (standing words.new) ((mapped enum_parts (seq (directives target.file true target.depth) (enum_values target.file target.depth))).read (standing words.old)) }
+    ensures { Gives result (standing words.new)
+        ((mapped enum_parts
+        (seq (directives target.file true target.depth) (enum_values target.file target.depth))).read
+        (standing words.old)) }
 {
     let mut parts = Parts::new(target.alloc);
     parts.directives = directives(target.constant(), words)?.into_items();
@@ -73,7 +82,10 @@ fn enum_parts(target: Target, words: &mut Words<'_>) -> Result<Parts, ReadError>
 }
 
 fn input_parts(target: Target, words: &mut Words<'_>) -> Result<Parts, ReadError>
-    ensures { Gives result (standing words.new) ((mapped input_parts (seq (directives target.file true target.depth) (input_values target.file LeftBrace RightBrace target.depth))).read (standing words.old)) }
+    ensures { Gives result (standing words.new)
+        ((mapped input_parts
+        (seq (directives target.file true target.depth)
+        (input_values target.file LeftBrace RightBrace target.depth))).read (standing words.old)) }
 {
     let mut parts = Parts::new(target.alloc);
     parts.directives = directives(target.constant(), words)?.into_items();
@@ -82,7 +94,8 @@ fn input_parts(target: Target, words: &mut Words<'_>) -> Result<Parts, ReadError
 }
 
 fn scalar_parts(target: Target, words: &mut Words<'_>) -> Result<Parts, ReadError>
-    ensures { Gives result (standing words.new) ((mapped scalar_parts (directives target.file true target.depth)).read (standing words.old)) }
+    ensures { Gives result (standing words.new)
+        ((mapped scalar_parts (directives target.file true target.depth)).read (standing words.old)) }
 {
     let mut parts = Parts::new(target.alloc);
     parts.directives = directives(target.constant(), words)?.into_items();
@@ -96,7 +109,8 @@ pub(crate) fn parts(
     words: &mut Words<'_>,
     kind: TypeKind,
 ) -> Result<Parts, ReadError>
-    ensures { Gives result (standing words.new) ((parts target.file kind target.depth).read (standing words.old)) }
+    ensures { Gives result (standing words.new)
+        ((parts target.file kind target.depth).read (standing words.old)) }
 {
     match kind {
         TypeKind::Scalar => scalar_parts(target, words),

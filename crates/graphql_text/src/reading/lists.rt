@@ -35,10 +35,12 @@ pub(crate) trait Read: Drop {
 
     /// Reads an item.
     fn read(target: Target, words: &mut Words<'_>) -> Result<Self, ReadError>
-        ensures { Gives result (standing words.new) ((piece target.file target.constant target.depth).read (standing words.old)) };
+        ensures { Gives result (standing words.new)
+            ((piece target.file target.constant target.depth).read (standing words.old)) };
 
     /// What is read is spelled so, and the other way round.
-    ghost law: { (file : File) (constant : Bool) (depth : ℕ) → Lawful (item first wrong (piece file constant depth)) };
+    ghost law: { (file : File) (constant : Bool) (depth : ℕ)
+        → Lawful (item first wrong (piece file constant depth)) };
 }
 
 /// Whether an item comes next.
@@ -53,7 +55,9 @@ fn comes_next<R: Read>(words: &Words<'_>) -> bool
 
 /// Reads an item, which has to be there.
 fn read_item<R: Read>(target: Target, words: &mut Words<'_>) -> Result<R, ReadError>
-    ensures { Gives result (standing words.new) ((item R.first R.wrong (R.piece target.file target.constant target.depth)).read (standing words.old)) }
+    ensures { Gives result (standing words.new)
+        ((item R.first R.wrong (R.piece target.file target.constant target.depth)).read
+        (standing words.old)) }
 {
     if !comes_next::<R>(words) {
         return Err(ReadError::Fault(R::fault(words)));
@@ -67,7 +71,9 @@ pub(crate) fn push_items<R: Read>(
     words: &mut Words<'_>,
     items: &mut Items<R>,
 ) -> Result<(), ReadError>
-    ensures { Adds result items.old items.new (standing words.new) ((many (item R.first R.wrong (R.piece target.file target.constant target.depth))).read (standing words.old)) }
+    ensures { Adds result items.old items.new (standing words.new)
+        ((many (item R.first R.wrong (R.piece target.file target.constant target.depth))).read
+        (standing words.old)) }
 {
     'items: while comes_next::<R>(words) {
         let next = read_item::<R>(target, words)?;
@@ -81,7 +87,9 @@ pub(crate) fn some_items<R: Read>(
     target: Target,
     words: &mut Words<'_>,
 ) -> Result<Items<R>, ReadError>
-    ensures { Gives result (standing words.new) ((some (item R.first R.wrong (R.piece target.file target.constant target.depth))).read (standing words.old)) }
+    ensures { Gives result (standing words.new)
+        ((some (item R.first R.wrong (R.piece target.file target.constant target.depth))).read
+        (standing words.old)) }
 {
     let first = read_item::<R>(target, words)?;
     let mut items = Items::new(target.alloc);
@@ -97,7 +105,10 @@ fn between_items<R: Read>(
     opening: Kind,
     closing: Kind,
 ) -> Result<Items<R>, ReadError>
-    ensures { Gives result (standing words.new) ((between opening closing R.wrong (some (item R.first R.wrong (R.piece inside.file inside.constant inside.depth)))).read (standing words.old)) }
+    ensures { Gives result (standing words.new)
+        ((between opening closing R.wrong
+        (some (item R.first R.wrong (R.piece inside.file inside.constant inside.depth)))).read
+        (standing words.old)) }
 {
     sign(words, opening)?;
     let items = some_items(inside, words)?;
@@ -113,7 +124,10 @@ pub(crate) fn enclosed_items<R: Read>(
     opening: Kind,
     closing: Kind,
 ) -> Result<Items<R>, ReadError>
-    ensures { Gives result (standing words.new) ((enclosed opening closing R.wrong target.depth (λ inside. some (item R.first R.wrong (R.piece target.file target.constant inside)))).read (standing words.old)) }
+    ensures { Gives result (standing words.new)
+        ((enclosed opening closing R.wrong target.depth (λ inside.
+        some (item R.first R.wrong (R.piece target.file target.constant inside)))).read
+        (standing words.old)) }
 {
     if target.depth == 0 {
         return Err(ReadError::Fault(FaultKind::TooDeep));
@@ -132,7 +146,11 @@ pub(crate) fn optional_items<R: Read>(
     opening: Kind,
     closing: Kind,
 ) -> Result<Items<R>, ReadError>
-    ensures { Gives result (standing words.new) ((mapped or_none (optional (enclosed opening closing R.wrong target.depth (λ inside. some (item R.first R.wrong (R.piece target.file target.constant inside)))))).read (standing words.old)) }
+    ensures { Gives result (standing words.new)
+        ((mapped or_none
+        (optional (enclosed opening closing R.wrong target.depth (λ inside.
+        some (item R.first R.wrong (R.piece target.file target.constant inside)))))).read
+        (standing words.old)) }
 {
     if words.next_is(opening) {
         enclosed_items(target, words, opening, closing)

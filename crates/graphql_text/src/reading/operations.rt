@@ -4,7 +4,9 @@ ghost use Rattle.graphql_grammar.specs.Kinds.{only};
 ghost use Rattle.graphql_grammar.specs.Pieces.{Gives, GivesSeen, optional};
 ghost use Rattle.graphql_grammar.specs.Standing.{standing};
 ghost use Rattle.graphql_grammar.specs.declared.kind.Kind.TheVariants.{Dollar};
-ghost use Rattle.graphql_productions.specs.Operations.{default_value, fragment_definition, no_variable, operation, operation_name, operation_type, shorthand, typed, variable_node, variables};
+ghost use Rattle.graphql_productions.specs.Operations.{default_value, fragment_definition, no_variable};
+ghost use Rattle.graphql_productions.specs.Operations.{operation, operation_name, operation_type, shorthand};
+ghost use Rattle.graphql_productions.specs.Operations.{typed, variable_node, variables};
 ghost use Rattle.graphql_text.specs.Seen.{seen_typed};
 ghost use Rattle.graphql_productions.proofs.OperationLaws.{variable_definition_law};
 
@@ -49,14 +51,16 @@ pub(crate) fn operation_type(words: &mut Words<'_>) -> Result<OperationType, Rea
 
 #[tactic(auto, unfolding(graphql_productions::specs::Operations::default_body))]
 fn default_value(target: Target, words: &mut Words<'_>) -> Result<Node<Value>, ReadError>
-    ensures { Gives result (standing words.new) ((default_value target.file target.depth).read (standing words.old)) }
+    ensures { Gives result (standing words.new)
+        ((default_value target.file target.depth).read (standing words.old)) }
 {
     sign(words, Kind::Equals)?;
     value_node(target.constant(), words)
 }
 
 fn optional_default(target: Target, words: &mut Words<'_>) -> Result<Option<Node<Value>>, ReadError>
-    ensures { Gives result (standing words.new) ((optional (default_value target.file target.depth)).read (standing words.old)) }
+    ensures { Gives result (standing words.new)
+        ((optional (default_value target.file target.depth)).read (standing words.old)) }
 {
     if words.next_is(Kind::Equals) {
         Ok(Some(default_value(target, words)?))
@@ -75,7 +79,8 @@ pub(crate) struct AfterName {
 /// Reads a type behind `:`, with a default value, if there is one, and directives.
 #[tactic(auto, unfolding(graphql_productions::specs::Operations::typed))]
 pub(crate) fn typed(target: Target, words: &mut Words<'_>) -> Result<AfterName, ReadError>
-    ensures { GivesSeen seen_typed result (standing words.new) ((typed target.file target.depth).read (standing words.old)) }
+    ensures { GivesSeen seen_typed result (standing words.new)
+        ((typed target.file target.depth).read (standing words.old)) }
 {
     sign(words, Kind::Colon)?;
     let ty = type_node(target, words)?;
@@ -129,14 +134,16 @@ fn variables(
     target: Target,
     words: &mut Words<'_>,
 ) -> Result<Items<Node<VariableDefinition>>, ReadError>
-    ensures { Gives result (standing words.new) ((variables target.file target.depth).read (standing words.old)) }
+    ensures { Gives result (standing words.new)
+        ((variables target.file target.depth).read (standing words.old)) }
 {
     optional_items(target, words, Kind::LeftParen, Kind::RightParen)
 }
 
 #[tactic(auto, unfolding(graphql_productions::specs::Nodes::name))]
 fn optional_name(target: Target, words: &mut Words<'_>) -> Result<Option<Name>, ReadError>
-    ensures { Gives result (standing words.new) ((optional (operation_name target.file)).read (standing words.old)) }
+    ensures { Gives result (standing words.new)
+        ((optional (operation_name target.file)).read (standing words.old)) }
 {
     if words.next_is_name(Names::Any) {
         Ok(Some(target.name(words)?))
@@ -151,7 +158,8 @@ pub(crate) fn operation(
     target: Target,
     words: &mut Words<'_>,
 ) -> Result<OperationDefinition, ReadError>
-    ensures { Gives result (standing words.new) ((operation target.file target.depth).read (standing words.old)) }
+    ensures { Gives result (standing words.new)
+        ((operation target.file target.depth).read (standing words.old)) }
 {
     let operation_type = operation_type(words)?;
     let name = optional_name(target, words)?;
@@ -173,7 +181,8 @@ pub(crate) fn shorthand(
     target: Target,
     words: &mut Words<'_>,
 ) -> Result<OperationDefinition, ReadError>
-    ensures { Gives result (standing words.new) ((shorthand target.file target.depth).read (standing words.old)) }
+    ensures { Gives result (standing words.new)
+        ((shorthand target.file target.depth).read (standing words.old)) }
 {
     let selection_set = selection_set(target, words)?;
     Ok(OperationDefinition {
@@ -191,7 +200,8 @@ pub(crate) fn fragment_definition(
     target: Target,
     words: &mut Words<'_>,
 ) -> Result<FragmentDefinition, ReadError>
-    ensures { Gives result (standing words.new) ((fragment_definition target.file target.depth).read (standing words.old)) }
+    ensures { Gives result (standing words.new)
+        ((fragment_definition target.file target.depth).read (standing words.old)) }
 {
     sign(words, Kind::Fragment)?;
     let name = fragment_name(target, words)?;

@@ -6,9 +6,14 @@ ghost use Rattle.graphql_grammar.specs.Standing.{standing};
 ghost use Rattle.graphql_grammar.specs.Words.{begins};
 ghost use Rattle.graphql_productions.specs.Nodes.{name};
 ghost use Rattle.graphql_productions.specs.Operations.{is_operation_type, no_root};
-ghost use Rattle.graphql_productions.specs.TypeSystem.{enum_value_name, enum_value_node, enum_values, expecting, field_node, fielded, fields, input_node, input_values, is_described_name, is_enum_value, names_behind, no_enum_value, parts, root_node, roots};
-ghost use Rattle.graphql_productions.proofs.TypeSystemLaws.{enum_value_law, field_definition_law, input_value_law, root_law};
-ghost use Rattle.graphql_grammar.specs.declared.fault.Item.TheVariants.{FieldDefinition as FieldItem, InputValue};
+ghost use Rattle.graphql_productions.specs.TypeSystem.{enum_value_name, enum_value_node, enum_values};
+ghost use Rattle.graphql_productions.specs.TypeSystem.{expecting, field_node, fielded, fields, input_node};
+ghost use Rattle.graphql_productions.specs.TypeSystem.{input_values, is_described_name, is_enum_value};
+ghost use Rattle.graphql_productions.specs.TypeSystem.{names_behind, no_enum_value, parts, root_node, roots};
+ghost use Rattle.graphql_productions.proofs.TypeSystemLaws.{enum_value_law, field_definition_law};
+ghost use Rattle.graphql_productions.proofs.TypeSystemLaws.{input_value_law, root_law};
+ghost use Rattle.graphql_grammar.specs.declared.fault.Item.TheVariants.{FieldDefinition as FieldItem};
+ghost use Rattle.graphql_grammar.specs.declared.fault.Item.TheVariants.{InputValue};
 
 use crate::reading::descriptions::{is_description, optional_description};
 use crate::reading::directives::directives;
@@ -81,7 +86,8 @@ pub(crate) fn input_values(
     opening: Kind,
     closing: Kind,
 ) -> Result<Items<Node<InputValueDefinition>>, ReadError>
-    ensures { Gives result (standing words.new) ((input_values target.file opening closing target.depth).read (standing words.old)) }
+    ensures { Gives result (standing words.new)
+        ((input_values target.file opening closing target.depth).read (standing words.old)) }
 {
     optional_items(target, words, opening, closing)
 }
@@ -128,7 +134,8 @@ pub(crate) fn fields(
     target: Target,
     words: &mut Words<'_>,
 ) -> Result<Items<Node<FieldDefinition>>, ReadError>
-    ensures { Gives result (standing words.new) ((fields target.file target.depth).read (standing words.old)) }
+    ensures { Gives result (standing words.new)
+        ((fields target.file target.depth).read (standing words.old)) }
 {
     optional_items(target, words, Kind::LeftBrace, Kind::RightBrace)
 }
@@ -190,7 +197,8 @@ pub(crate) fn enum_values(
     target: Target,
     words: &mut Words<'_>,
 ) -> Result<Items<Node<EnumValueDefinition>>, ReadError>
-    ensures { Gives result (standing words.new) ((enum_values target.file target.depth).read (standing words.old)) }
+    ensures { Gives result (standing words.new)
+        ((enum_values target.file target.depth).read (standing words.old)) }
 {
     optional_items(target, words, Kind::LeftBrace, Kind::RightBrace)
 }

@@ -4,7 +4,10 @@ ghost use Rattle.graphql_grammar.specs.Pieces.{Adds, Gives, many, optional, some
 ghost use Rattle.graphql_grammar.specs.Standing.{standing};
 ghost use Rattle.graphql_grammar.specs.Words.{begins};
 ghost use Rattle.graphql_productions.specs.Nodes.{or_none};
-ghost use Rattle.graphql_productions.specs.Selections.{alias, field, field_of, field_selection, fragment, fragment_name, inline_body, is_selection, nested_set, selection, selection_set, selections_of, spread_body, type_condition};
+ghost use Rattle.graphql_productions.specs.Selections.{alias, field, field_of, field_selection, fragment};
+ghost use Rattle.graphql_productions.specs.Selections.{fragment_name, inline_body, is_selection, nested_set};
+ghost use Rattle.graphql_productions.specs.Selections.{selection, selection_set, selections_of, spread_body};
+ghost use Rattle.graphql_productions.specs.Selections.{type_condition};
 
 use crate::reading::directives::{arguments, directives};
 use crate::reading::target::{Target, sign};
@@ -87,7 +90,8 @@ pub(crate) fn fragment_name(target: Target, words: &mut Words<'_>) -> Result<Nam
 
 #[tactic(auto, unfolding(graphql_productions::specs::Selections::spread_body))]
 fn spread_body(target: Target, words: &mut Words<'_>) -> Result<FragmentSpread, ReadError>
-    ensures { Gives result (standing words.new) ((spread_body target.file target.depth).read (standing words.old)) }
+    ensures { Gives result (standing words.new)
+        ((spread_body target.file target.depth).read (standing words.old)) }
 {
     let fragment_name = fragment_name(target, words)?;
     let directives = directives(target.with_variables(), words)?;
@@ -107,7 +111,8 @@ pub(crate) fn type_condition(target: Target, words: &mut Words<'_>) -> Result<Na
 }
 
 fn optional_condition(target: Target, words: &mut Words<'_>) -> Result<Option<Name>, ReadError>
-    ensures { Gives result (standing words.new) ((optional (type_condition target.file)).read (standing words.old)) }
+    ensures { Gives result (standing words.new)
+        ((optional (type_condition target.file)).read (standing words.old)) }
 {
     if words.next_is(Kind::On) {
         Ok(Some(type_condition(target, words)?))
@@ -133,7 +138,8 @@ pub(crate) fn selection_set(
     target: Target,
     words: &mut Words<'_>,
 ) -> Result<Items<Selection>, ReadError>
-    ensures { Gives result (standing words.new) ((selection_set target.file target.depth).read (standing words.old)) }
+    ensures { Gives result (standing words.new)
+        ((selection_set target.file target.depth).read (standing words.old)) }
 {
     if target.depth == 0 {
         return Err(ReadError::Fault(FaultKind::TooDeep));
@@ -148,7 +154,9 @@ pub(crate) fn selection_set(
 #[cycle(selections)]
 #[tactic(auto, unfolding(graphql_productions::specs::Selections::selections_of))]
 fn selections(target: Target, words: &mut Words<'_>) -> Result<Items<Selection>, ReadError>
-    ensures { Gives result (standing words.new) ((selections_of (selection target.file target.depth (selection_set target.file target.depth))).read (standing words.old)) }
+    ensures { Gives result (standing words.new)
+        ((selections_of (selection target.file target.depth (selection_set target.file target.depth))).read
+        (standing words.old)) }
 {
     sign(words, Kind::LeftBrace)?;
     let selections = some_selections(target, words)?;
@@ -162,7 +170,9 @@ pub(crate) fn some_selections(
     target: Target,
     words: &mut Words<'_>,
 ) -> Result<Items<Selection>, ReadError>
-    ensures { Gives result (standing words.new) ((some (selection target.file target.depth (selection_set target.file target.depth))).read (standing words.old)) }
+    ensures { Gives result (standing words.new)
+        ((some (selection target.file target.depth (selection_set target.file target.depth))).read
+        (standing words.old)) }
 {
     let first = selection(target, words)?;
     let mut selections = Items::new(target.alloc);
@@ -178,7 +188,9 @@ fn push_selections(
     words: &mut Words<'_>,
     selections: &mut Items<Selection>,
 ) -> Result<(), ReadError>
-    ensures { Adds result selections.old selections.new (standing words.new) ((many (selection target.file target.depth (selection_set target.file target.depth))).read (standing words.old)) }
+    ensures { Adds result selections.old selections.new (standing words.new)
+        ((many (selection target.file target.depth (selection_set target.file target.depth))).read
+        (standing words.old)) }
 {
     'selections: while next_is_selection(words) {
         let next = selection(target, words)?;
@@ -190,7 +202,9 @@ fn push_selections(
 /// Reads a selection, by its first word.
 #[cycle(selections)]
 fn selection(target: Target, words: &mut Words<'_>) -> Result<Selection, ReadError>
-    ensures { Gives result (standing words.new) ((selection target.file target.depth (selection_set target.file target.depth)).read (standing words.old)) }
+    ensures { Gives result (standing words.new)
+        ((selection target.file target.depth (selection_set target.file target.depth)).read
+        (standing words.old)) }
 {
     match words.next_kind() {
         Some(Kind::Spread) => fragment(target, words),
@@ -202,7 +216,9 @@ fn selection(target: Target, words: &mut Words<'_>) -> Result<Selection, ReadErr
 #[cycle(selections)]
 #[tactic(auto, unfolding(graphql_productions::specs::Selections::field_selection))]
 fn field_selection(target: Target, words: &mut Words<'_>) -> Result<Selection, ReadError>
-    ensures { Gives result (standing words.new) ((field_selection target.file target.depth (selection_set target.file target.depth)).read (standing words.old)) }
+    ensures { Gives result (standing words.new)
+        ((field_selection target.file target.depth (selection_set target.file target.depth)).read
+        (standing words.old)) }
 {
     let start = words.start();
     let field = field(target, words)?;
@@ -212,7 +228,9 @@ fn field_selection(target: Target, words: &mut Words<'_>) -> Result<Selection, R
 #[cycle(selections)]
 #[tactic(auto, unfolding(graphql_productions::specs::Selections::field))]
 fn field(target: Target, words: &mut Words<'_>) -> Result<Field, ReadError>
-    ensures { Gives result (standing words.new) ((field target.file target.depth (selection_set target.file target.depth)).read (standing words.old)) }
+    ensures { Gives result (standing words.new)
+        ((field target.file target.depth (selection_set target.file target.depth)).read
+        (standing words.old)) }
 {
     let first = target.name(words)?;
     let second = optional_alias(target, words)?;
@@ -233,7 +251,8 @@ fn optional_set(
     target: Target,
     words: &mut Words<'_>,
 ) -> Result<Option<Items<Selection>>, ReadError>
-    ensures { Gives result (standing words.new) ((optional (selection_set target.file target.depth)).read (standing words.old)) }
+    ensures { Gives result (standing words.new)
+        ((optional (selection_set target.file target.depth)).read (standing words.old)) }
 {
     if words.next_is(Kind::LeftBrace) {
         Ok(Some(selection_set(target, words)?))
@@ -245,7 +264,9 @@ fn optional_set(
 #[cycle(selections)]
 #[tactic(auto, unfolding(graphql_productions::specs::Selections::inline_body))]
 fn inline_body(target: Target, words: &mut Words<'_>) -> Result<InlineFragment, ReadError>
-    ensures { Gives result (standing words.new) ((inline_body target.file target.depth (selection_set target.file target.depth)).read (standing words.old)) }
+    ensures { Gives result (standing words.new)
+        ((inline_body target.file target.depth (selection_set target.file target.depth)).read
+        (standing words.old)) }
 {
     let type_condition = optional_condition(target, words)?;
     let directives = directives(target.with_variables(), words)?;
@@ -261,7 +282,9 @@ fn inline_body(target: Target, words: &mut Words<'_>) -> Result<InlineFragment, 
 #[cycle(selections)]
 #[tactic(auto, unfolding(graphql_productions::specs::Selections::fragment))]
 fn fragment(target: Target, words: &mut Words<'_>) -> Result<Selection, ReadError>
-    ensures { Gives result (standing words.new) ((fragment target.file target.depth (selection_set target.file target.depth)).read (standing words.old)) }
+    ensures { Gives result (standing words.new)
+        ((fragment target.file target.depth (selection_set target.file target.depth)).read
+        (standing words.old)) }
 {
     let start = words.start();
     sign(words, Kind::Spread)?;

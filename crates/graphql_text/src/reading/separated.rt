@@ -1,7 +1,8 @@
 //! Reading items with a sign between them, and one before the first or not.
 ghost use Rattle.std.specs.Prelude.{◌≡◌};
 ghost use Rattle.graphql_nodes.specs.declared.source.FileId.{FileId as File};
-ghost use Rattle.graphql_grammar.specs.Pieces.{Adds, Gives, GivesSeen, Piece, behind_sign, many, mapped, optional, separated, seq, sign};
+ghost use Rattle.graphql_grammar.specs.Pieces.{Adds, Gives, GivesSeen, Piece, behind_sign, many, mapped};
+ghost use Rattle.graphql_grammar.specs.Pieces.{optional, separated, seq, sign};
 ghost use Rattle.graphql_grammar.specs.Standing.{standing};
 ghost use Rattle.graphql_grammar.proofs.PieceLaws.{Lawful};
 ghost use Rattle.graphql_productions.specs.Nodes.{name};
@@ -41,7 +42,8 @@ impl Single for Name {
 
 /// Takes a sign, if it is there; whether it was.
 pub(crate) fn optional_sign(words: &mut Words<'_>, kind: Kind) -> Result<bool, ReadError>
-    ensures { GivesSeen seen_flag result (standing words.new) ((optional (sign kind)).read (standing words.old)) }
+    ensures { GivesSeen seen_flag result (standing words.new)
+        ((optional (sign kind)).read (standing words.old)) }
 {
     if !words.next_is(kind) {
         return Ok(false);
@@ -52,7 +54,8 @@ pub(crate) fn optional_sign(words: &mut Words<'_>, kind: Kind) -> Result<bool, R
 
 /// Reads what stands behind a sign.
 fn behind<S: Single>(target: Target, words: &mut Words<'_>, separator: Kind) -> Result<S, ReadError>
-    ensures { Gives result (standing words.new) ((mapped behind_sign (seq (sign separator) (S.piece target.file))).read (standing words.old)) }
+    ensures { Gives result (standing words.new)
+        ((mapped behind_sign (seq (sign separator) (S.piece target.file))).read (standing words.old)) }
 {
     sign(words, separator)?;
     S::read(target, words)
@@ -65,7 +68,9 @@ fn push_separated<S: Single>(
     separator: Kind,
     items: &mut Items<S>,
 ) -> Result<(), ReadError>
-    ensures { Adds result items.old items.new (standing words.new) ((many (mapped behind_sign (seq (sign separator) (S.piece target.file)))).read (standing words.old)) }
+    ensures { Adds result items.old items.new (standing words.new)
+        ((many (mapped behind_sign (seq (sign separator) (S.piece target.file)))).read
+        (standing words.old)) }
 {
     'items: while words.next_is(separator) {
         let next = behind::<S>(target, words, separator)?;
@@ -80,7 +85,8 @@ pub(crate) fn separated<S: Single>(
     words: &mut Words<'_>,
     separator: Kind,
 ) -> Result<Items<S>, ReadError>
-    ensures { Gives result (standing words.new) ((separated separator (S.piece target.file)).read (standing words.old)) }
+    ensures { Gives result (standing words.new)
+        ((separated separator (S.piece target.file)).read (standing words.old)) }
 {
     optional_sign(words, separator)?;
     let first = S::read(target, words)?;
@@ -96,7 +102,8 @@ fn names_body(
     opening: Kind,
     separator: Kind,
 ) -> Result<Items<Name>, ReadError>
-    ensures { Gives result (standing words.new) ((names_body target.file opening separator).read (standing words.old)) }
+    ensures { Gives result (standing words.new)
+        ((names_body target.file opening separator).read (standing words.old)) }
 {
     sign(words, opening)?;
     separated(target, words, separator)
@@ -110,7 +117,8 @@ pub(crate) fn names_behind(
     opening: Kind,
     separator: Kind,
 ) -> Result<Items<Name>, ReadError>
-    ensures { Gives result (standing words.new) ((names_behind target.file opening separator).read (standing words.old)) }
+    ensures { Gives result (standing words.new)
+        ((names_behind target.file opening separator).read (standing words.old)) }
 {
     if words.next_is(opening) {
         names_body(target, words, opening, separator)

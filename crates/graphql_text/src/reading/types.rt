@@ -5,7 +5,8 @@ ghost use Rattle.graphql_grammar.specs.Kinds.{only};
 ghost use Rattle.graphql_grammar.specs.Standing.{standing};
 ghost use Rattle.graphql_grammar.specs.declared.kind.Kind.TheVariants.{LeftBracket};
 ghost use Rattle.graphql_productions.specs.Nodes.{node};
-ghost use Rattle.graphql_productions.specs.Types.{is_type, list_type_of, named_type, nested_list_type, no_type, type, type_pick};
+ghost use Rattle.graphql_productions.specs.Types.{is_type, list_type_of, named_type, nested_list_type};
+ghost use Rattle.graphql_productions.specs.Types.{no_type, type, type_pick};
 
 use crate::reading::target::{Target, sign};
 use graphql_ast::type_reference::Type;
@@ -37,7 +38,10 @@ pub(crate) fn type_reference(target: Target, words: &mut Words<'_>) -> Result<Ty
 /// Reads a name or a list.
 #[cycle(type_reference)]
 fn nullable_type(target: Target, words: &mut Words<'_>) -> Result<Type, ReadError>
-    ensures { Gives result (standing words.new) ((branch is_type (λ _. false) (type_pick target.file (headed (only LeftBracket) (nested_list_type target.file target.depth))) no_type).read (standing words.old)) }
+    ensures { Gives result (standing words.new)
+        ((branch is_type (λ _. false)
+        (type_pick target.file (headed (only LeftBracket) (nested_list_type target.file target.depth)))
+        no_type).read (standing words.old)) }
 {
     match words.next_kind() {
         Some(Kind::LeftBracket) => nested_list_type(target, words),
@@ -49,7 +53,8 @@ fn nullable_type(target: Target, words: &mut Words<'_>) -> Result<Type, ReadErro
 #[cycle(type_reference)]
 #[tactic(auto, using(graphql_productions::proofs::NestedLemmas::no_list_type, graphql_productions::proofs::NestedLemmas::one_list_type))]
 fn nested_list_type(target: Target, words: &mut Words<'_>) -> Result<Type, ReadError>
-    ensures { Gives result (standing words.new) ((nested_list_type target.file target.depth).read (standing words.old)) }
+    ensures { Gives result (standing words.new)
+        ((nested_list_type target.file target.depth).read (standing words.old)) }
 {
     if target.depth == 0 {
         return Err(ReadError::Fault(FaultKind::TooDeep));
@@ -65,7 +70,8 @@ fn nested_list_type(target: Target, words: &mut Words<'_>) -> Result<Type, ReadE
 #[cycle(type_reference)]
 #[tactic(auto, unfolding(graphql_productions::specs::Types::list_type_of))]
 fn list_type(target: Target, words: &mut Words<'_>) -> Result<Type, ReadError>
-    ensures { Gives result (standing words.new) ((list_type_of (type target.file target.depth)).read (standing words.old)) }
+    ensures { Gives result (standing words.new)
+        ((list_type_of (type target.file target.depth)).read (standing words.old)) }
 {
     sign(words, Kind::LeftBracket)?;
     let item = type_reference(target, words)?;
@@ -75,7 +81,8 @@ fn list_type(target: Target, words: &mut Words<'_>) -> Result<Type, ReadError>
 
 /// Reads a type, at its location.
 pub(crate) fn type_node(target: Target, words: &mut Words<'_>) -> Result<Node<Type>, ReadError>
-    ensures { Gives result (standing words.new) ((node target.file (type target.file target.depth)).read (standing words.old)) }
+    ensures { Gives result (standing words.new)
+        ((node target.file (type target.file target.depth)).read (standing words.old)) }
 {
     let start = words.start();
     let read = type_reference(target, words)?;

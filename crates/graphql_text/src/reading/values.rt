@@ -3,7 +3,10 @@ ghost use Rattle.std.specs.Prelude.{◌≡◌, ◌-◌};
 ghost use Rattle.graphql_grammar.specs.Pieces.{Adds, Gives, many};
 ghost use Rattle.graphql_grammar.specs.Standing.{standing};
 ghost use Rattle.graphql_grammar.specs.Words.{begins};
-ghost use Rattle.graphql_productions.specs.Values.{block_value, enum_value, false_value, float_value, group, int_value, is_value, list_of, member, nested_group, null_value, object_of, quoted_value, true_value, value, value_node, variable, variable_value};
+ghost use Rattle.graphql_productions.specs.Values.{block_value, enum_value, false_value, float_value, group};
+ghost use Rattle.graphql_productions.specs.Values.{int_value, is_value, list_of, member, nested_group};
+ghost use Rattle.graphql_productions.specs.Values.{null_value, object_of, quoted_value, true_value, value};
+ghost use Rattle.graphql_productions.specs.Values.{value_node, variable, variable_value};
 
 use crate::reading::target::{Target, sign};
 use graphql_ast::value::Value;
@@ -94,7 +97,8 @@ pub(crate) fn variable(target: Target, words: &mut Words<'_>) -> Result<Name, Re
 /// Reads a variable, where the value isn't constant.
 #[tactic(auto, unfolding(graphql_productions::specs::Values::variable_or_none))]
 fn variable_value(target: Target, words: &mut Words<'_>) -> Result<Value, ReadError>
-    ensures { Gives result (standing words.new) ((variable_value target.file target.constant).read (standing words.old)) }
+    ensures { Gives result (standing words.new)
+        ((variable_value target.file target.constant).read (standing words.old)) }
 {
     if target.constant {
         return Err(ReadError::Fault(FaultKind::VariableInConstant));
@@ -129,7 +133,8 @@ fn next_is_value(words: &Words<'_>) -> bool
 /// Reads a value, by its first word.
 #[cycle(value)]
 fn value(target: Target, words: &mut Words<'_>) -> Result<Value, ReadError>
-    ensures { Gives result (standing words.new) ((value target.file target.constant target.depth).read (standing words.old)) }
+    ensures { Gives result (standing words.new)
+        ((value target.file target.constant target.depth).read (standing words.old)) }
 {
     match words.next_kind() {
         Some(Kind::Int) => int_value(target, words),
@@ -150,7 +155,8 @@ fn value(target: Target, words: &mut Words<'_>) -> Result<Value, ReadError>
 #[cycle(value)]
 #[tactic(auto, using(graphql_productions::proofs::NestedLemmas::no_group, graphql_productions::proofs::NestedLemmas::one_group))]
 fn nested_group(target: Target, words: &mut Words<'_>) -> Result<Value, ReadError>
-    ensures { Gives result (standing words.new) ((nested_group target.file target.constant target.depth).read (standing words.old)) }
+    ensures { Gives result (standing words.new)
+        ((nested_group target.file target.constant target.depth).read (standing words.old)) }
 {
     if target.depth == 0 {
         return Err(ReadError::Fault(FaultKind::TooDeep));
@@ -165,7 +171,9 @@ fn nested_group(target: Target, words: &mut Words<'_>) -> Result<Value, ReadErro
 /// Reads a list or an object, whose values may be such.
 #[cycle(value)]
 fn group(target: Target, words: &mut Words<'_>) -> Result<Value, ReadError>
-    ensures { Gives result (standing words.new) ((group target.file (value_node target.file target.constant target.depth)).read (standing words.old)) }
+    ensures { Gives result (standing words.new)
+        ((group target.file (value_node target.file target.constant target.depth)).read
+        (standing words.old)) }
 {
     match words.next_kind() {
         Some(Kind::LeftBracket) => list(target, words),
@@ -177,7 +185,8 @@ fn group(target: Target, words: &mut Words<'_>) -> Result<Value, ReadError>
 #[cycle(value)]
 #[tactic(auto, unfolding(graphql_productions::specs::Values::list_of))]
 fn list(target: Target, words: &mut Words<'_>) -> Result<Value, ReadError>
-    ensures { Gives result (standing words.new) ((list_of (value_node target.file target.constant target.depth)).read (standing words.old)) }
+    ensures { Gives result (standing words.new)
+        ((list_of (value_node target.file target.constant target.depth)).read (standing words.old)) }
 {
     sign(words, Kind::LeftBracket)?;
     let values = values(target, words)?;
@@ -187,7 +196,8 @@ fn list(target: Target, words: &mut Words<'_>) -> Result<Value, ReadError>
 
 #[cycle(value)]
 fn values(target: Target, words: &mut Words<'_>) -> Result<Items<Node<Value>>, ReadError>
-    ensures { Gives result (standing words.new) ((many (value_node target.file target.constant target.depth)).read (standing words.old)) }
+    ensures { Gives result (standing words.new)
+        ((many (value_node target.file target.constant target.depth)).read (standing words.old)) }
 {
     let mut values = Items::new(target.alloc);
     'values: while next_is_value(words) {
@@ -200,7 +210,9 @@ fn values(target: Target, words: &mut Words<'_>) -> Result<Items<Node<Value>>, R
 #[cycle(value)]
 #[tactic(auto, unfolding(graphql_productions::specs::Values::object_of))]
 fn object(target: Target, words: &mut Words<'_>) -> Result<Value, ReadError>
-    ensures { Gives result (standing words.new) ((object_of target.file (value_node target.file target.constant target.depth)).read (standing words.old)) }
+    ensures { Gives result (standing words.new)
+        ((object_of target.file (value_node target.file target.constant target.depth)).read
+        (standing words.old)) }
 {
     sign(words, Kind::LeftBrace)?;
     let members = members(target, words)?;
@@ -210,7 +222,9 @@ fn object(target: Target, words: &mut Words<'_>) -> Result<Value, ReadError>
 
 #[cycle(value)]
 fn members(target: Target, words: &mut Words<'_>) -> Result<Items<(Name, Node<Value>)>, ReadError>
-    ensures { Gives result (standing words.new) ((many (member target.file (value_node target.file target.constant target.depth))).read (standing words.old)) }
+    ensures { Gives result (standing words.new)
+        ((many (member target.file (value_node target.file target.constant target.depth))).read
+        (standing words.old)) }
 {
     let mut members = Items::new(target.alloc);
     'members: while words.next_is_name(Names::Any) {
@@ -223,7 +237,9 @@ fn members(target: Target, words: &mut Words<'_>) -> Result<Items<(Name, Node<Va
 #[cycle(value)]
 #[tactic(auto, unfolding(graphql_productions::specs::Values::member_body))]
 fn member(target: Target, words: &mut Words<'_>) -> Result<(Name, Node<Value>), ReadError>
-    ensures { Gives result (standing words.new) ((member target.file (value_node target.file target.constant target.depth)).read (standing words.old)) }
+    ensures { Gives result (standing words.new)
+        ((member target.file (value_node target.file target.constant target.depth)).read
+        (standing words.old)) }
 {
     let name = target.name(words)?;
     sign(words, Kind::Colon)?;
@@ -234,7 +250,8 @@ fn member(target: Target, words: &mut Words<'_>) -> Result<(Name, Node<Value>), 
 /// Reads a value, at its location.
 #[cycle(value)]
 pub(crate) fn value_node(target: Target, words: &mut Words<'_>) -> Result<Node<Value>, ReadError>
-    ensures { Gives result (standing words.new) ((value_node target.file target.constant target.depth).read (standing words.old)) }
+    ensures { Gives result (standing words.new)
+        ((value_node target.file target.constant target.depth).read (standing words.old)) }
 {
     let start = words.start();
     let value = value(target, words)?;

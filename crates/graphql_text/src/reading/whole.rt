@@ -6,12 +6,14 @@ ghost use Rattle.graphql_grammar.specs.Standing.{standing};
 ghost use Rattle.graphql_grammar.specs.Words.{WordView};
 ghost use Rattle.graphql_grammar.specs.declared.fault.Item.TheVariants.{Definition as DefinitionItem};
 ghost use Rattle.graphql_grammar.proofs.Judged.{Judged};
-ghost use Rattle.graphql_productions.specs.Documents.{any_kind, definition, document, selections, spells_document};
+ghost use Rattle.graphql_productions.specs.Documents.{any_kind, definition, document, selections};
+ghost use Rattle.graphql_productions.specs.Documents.{spells_document};
 ghost use Rattle.graphql_productions.specs.Types.{type};
 ghost use Rattle.graphql_productions.specs.TypeSystem.{expecting};
 ghost use Rattle.graphql_productions.specs.Values.{value_node};
 ghost use Rattle.graphql_productions.proofs.DocumentLaws.{one_law};
-ghost use Rattle.graphql_productions.proofs.JudgedProductions.{document_judged, selections_judged, type_judged, value_node_judged};
+ghost use Rattle.graphql_productions.proofs.JudgedProductions.{document_judged, selections_judged};
+ghost use Rattle.graphql_productions.proofs.JudgedProductions.{type_judged, value_node_judged};
 
 use crate::reading::definitions::definition;
 use crate::reading::lists::{Read, some_items};
@@ -39,15 +41,18 @@ pub(crate) trait Tree: Drop {
 
     /// Reads it, and leaves what stands behind it.
     fn read(target: Target, words: &mut Words<'_>) -> Result<Self, ReadError>
-        ensures { Gives result (standing words.new) ((piece target.file target.depth).read (standing words.old)) };
+        ensures { Gives result (standing words.new)
+            ((piece target.file target.depth).read (standing words.old)) };
 
     /// What is read is spelled so, and the other way round; what is refused is refused for all words so far.
-    ghost law: { (file : File) (depth : ℕ) → Judged (piece file depth) (spells file depth) (piece file (suc depth)).spells };
+    ghost law: { (file : File) (depth : ℕ)
+        → Judged (piece file depth) (spells file depth) (piece file (suc depth)).spells };
 }
 
 /// Reads what a whole text is, and nothing behind it.
 pub(crate) fn whole<T: Tree>(target: Target, words: &mut Words<'_>) -> Result<T, ReadError>
-    ensures { GivesAll result (standing words.new).left (read_whole (T.piece target.file target.depth) (standing words.old)) }
+    ensures { GivesAll result (standing words.new).left
+        (read_whole (T.piece target.file target.depth) (standing words.old)) }
 {
     let read = T::read(target, words)?;
     match words.next_kind() {

@@ -1,4 +1,5 @@
--- The lines so far, and whatever lines follow, say what has become of the lines so far with those that follow.
+-- The lines so far, and whatever lines follow, say what has become of the lines so far with those that
+-- follow.
 use Rattle.std.proofs.Common.{◌≡◌, ◌++◌, List}
 use Rattle.bench_notation.specs.Nesting.{selections_at}
 use Rattle.bench_notation.specs.OpenSelections.{combined}

@@ -1,4 +1,5 @@
--- A line feed and the first of three quotes are written at once, with what is wanted there; any other byte waits.
+-- A line feed and the first of three quotes are written at once, with what is wanted there; any other byte
+-- waits.
 use Rattle.std.proofs.Common.{◌≡◌, ◌+◌, ◌-◌, ◌<◌, false, true, [], ◌∷◌, ◌++◌, length, get_or, nat_eq, take, drop, refl, rules, arith, append_assoc, length-drop}
 use Rattle.std.proofs.lemmas.Grind.{common_steps}
 use Rattle.std.proofs.lemmas.Str.{IsCharBoundary-start, IsCharBoundary-after_ascii, IsCharBoundary-before_ascii}

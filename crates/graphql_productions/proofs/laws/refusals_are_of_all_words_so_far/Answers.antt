@@ -1,4 +1,5 @@
--- Each production looks at one word ahead only, so what is refused at a word is refused with all that goes on from it.
+-- Each production looks at one word ahead only, so what is refused at a word is refused with all that goes on
+-- from it.
 use Rattle.graphql_grammar.proofs.WholeBlind.{refusal_law}
 use Rattle.graphql_productions.specs.Documents.{definition, selections}
 use Rattle.graphql_productions.specs.Selections.{bare_selections, selection_set}

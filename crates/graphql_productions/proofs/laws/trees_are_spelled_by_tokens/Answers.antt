@@ -1,4 +1,5 @@
--- What a production spells is tokens alone, and words that are tokens are the words at the tokens of their text.
+-- What a production spells is tokens alone, and words that are tokens are the words at the tokens of their
+-- text.
 use Rattle.graphql_grammar.specs.WordsOfText.{words_of}
 use Rattle.graphql_grammar.proofs.WordsOfTokens.{words_are_at_tokens}
 use Rattle.graphql_productions.proofs.CleanDefinitions.{document_clean}

@@ -1,4 +1,5 @@
--- What holds of the refusal holds of the error that it is answered as, and a refusal for the format alone is answered so.
+-- What holds of the refusal holds of the error that it is answered as, and a refusal for the format alone is
+-- answered so.
 use Rattle.std.proofs.Common.{Err, ap}
 use Rattle.apollo_coordinate.specs.Refusals.{IsNoAttribute}
 use Rattle.apollo_coordinate.proofs.FormatLemmas.{attribute_format, attribute_said}
