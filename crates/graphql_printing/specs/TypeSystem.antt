@@ -9,7 +9,6 @@ use Rattle.graphql_nodes.specs.OperationTexts.{operation_text}
 use Rattle.graphql_nodes.specs.declared.operation_type.OperationType.{OperationType}
 use Rattle.graphql_nodes.specs.declared.type_kind.TypeKind.{TypeKind}
 use Rattle.graphql_nodes.specs.declared.type_kind.TypeKind.TheVariants as t
-use Rattle.graphql_ast.specs.declared.directive.DirectiveList.{DirectiveList}
 use Rattle.graphql_ast.specs.declared.parts.Parts.{Parts}
 use Rattle.graphql_ast.specs.declared.type_system.DirectiveDefinition.{DirectiveDefinition}
 use Rattle.graphql_ast.specs.declared.type_system.EnumValueDefinition.{EnumValueDefinition}
@@ -115,9 +114,9 @@ abbrev pub type_shape : TypeKind → NameView → Parts → List ℕ
 type_shape kind name parts = keyword_text kind ++ codes " " ++ name.text ++ behind_name kind parts
 
 -- the schema, defined or extended: section 3.3
-abbrev pub schema_shape : DirectiveList → List (NodeView (OperationType × NameView)) → List ℕ
-schema_shape directives roots =
-    codes "schema" ++ directives_text directives.0 ++ braces (codes " {") 0 root_text roots
+abbrev pub schema_shape : Parts → List ℕ
+schema_shape parts =
+    codes "schema" ++ directives_text parts.directives ++ braces (codes " {") 0 root_text parts.roots
 
 -- that a directive may be repeated
 abbrev pub repeatable_text : Bool → List ℕ

@@ -1,17 +1,22 @@
 //! Definitions and documents: GraphQL specification of October 2021, section 2.2.
 ghost use Rattle.std.specs.Prelude.{◌≡◌};
 ghost use Rattle.std.specs.Fmt.{WritesOnOk};
-ghost use Rattle.graphql_productions.specs.Documents.{takes_braces};
-ghost use Rattle.graphql_printing.specs.Documents.{definition_text, definitions_behind, definitions_text};
-ghost use Rattle.graphql_printing.specs.Documents.{operation_behind};
+ghost use Rattle.std.specs.Option.{option_copied};
+ghost use Rattle.graphql_ast.specs.DeclarationsSeen.{declaration_seen};
+ghost use Rattle.graphql_ast.specs.PartsSeen.{parts_seen};
+ghost use Rattle.graphql_productions.specs.Documents.{declaration_takes_braces, takes_braces};
+ghost use Rattle.graphql_productions.specs.TypeSystem.{parts_take};
+ghost use Rattle.graphql_printing.specs.Documents.{declaration_text, definition_text, definitions_behind};
+ghost use Rattle.graphql_printing.specs.Documents.{definitions_text, front_text, operation_behind};
 
 use crate::operations::{write_fragment, write_long, write_operation};
-use crate::type_system::{
-    write_described, write_directive_shape, write_enum, write_fielded, write_input_object,
-    write_scalar, write_schema, write_union,
-};
+use crate::type_system::{write_described, write_directive_shape, write_schema, write_type_shape};
+use graphql_ast::declaration_ref::DeclarationRef;
 use graphql_ast::definition::Definition;
 use graphql_ast::operation::OperationDefinition;
+use graphql_ast::parts::PartsRef;
+use graphql_nodes::node_str::NodeStr;
+use graphql_nodes::type_kind::TypeKind;
 use std::fmt;
 use std::fmt::{Formatter, Write};
 
@@ -30,6 +35,49 @@ fn write_operation_behind<W: Write>(
     }
 }
 
+/// Writes what stands in front of what is defined or extended: its description, or `extend`.
+fn write_front<W: Write>(
+    f: &mut Formatter<W>,
+    is_extension: bool,
+    description: Option<&NodeStr>,
+) -> fmt::Result
+    ensures { let text = front_text is_extension (option_copied description.entry) in
+        WritesOnOk W.write_str_gives f.old result text f.new }
+{
+    if is_extension {
+        f.write_str("extend ")
+    } else {
+        write_described(f, description, 0)
+    }
+}
+
+/// Writes what says this, behind a definition that would take a `{` for its own where the flag is set.
+fn write_declaration<W: Write>(
+    f: &mut Formatter<W>,
+    declaration: DeclarationRef<'_>,
+    braces: bool,
+) -> fmt::Result
+    ensures { let text = declaration_text braces (declaration_seen declaration.entry) in
+        WritesOnOk W.write_str_gives f.old result text f.new }
+{
+    match declaration {
+        DeclarationRef::Operation(node) => write_operation_behind(f, node, braces),
+        DeclarationRef::Fragment(node) => write_fragment(f, node),
+        DeclarationRef::Directive(node) => {
+            write_described(f, node.description.as_ref(), 0)?;
+            write_directive_shape(f, node)
+        }
+        DeclarationRef::Schema(schema) => {
+            write_front(f, schema.is_extension, schema.description)?;
+            write_schema(f, schema.parts)
+        }
+        DeclarationRef::Type(ty) => {
+            write_front(f, ty.is_extension, ty.description)?;
+            write_type_shape(f, ty.kind, ty.name, ty.parts)
+        }
+    }
+}
+
 /// Writes a definition or extension, which stands behind one that would take a `{` for its own where the
 /// flag is set.
 pub fn write_definition<W: Write>(
@@ -39,101 +87,29 @@ pub fn write_definition<W: Write>(
 ) -> fmt::Result
     ensures { WritesOnOk W.write_str_gives f.old result (definition_text braces definition.now) f.new }
 {
-    match definition {
-        Definition::OperationDefinition(node) => write_operation_behind(f, node, braces),
-        Definition::FragmentDefinition(node) => write_fragment(f, node),
-        Definition::DirectiveDefinition(node) => {
-            write_described(f, &node.description, 0)?;
-            write_directive_shape(f, node)
-        }
-        Definition::SchemaDefinition(node) => {
-            write_described(f, &node.description, 0)?;
-            write_schema(f, &node.directives, node.root_operations.as_slice())
-        }
-        Definition::ScalarTypeDefinition(node) => {
-            write_described(f, &node.description, 0)?;
-            write_scalar(f, &node.name, &node.directives)
-        }
-        Definition::ObjectTypeDefinition(node) => {
-            write_described(f, &node.description, 0)?;
-            let interfaces = node.implements_interfaces.as_slice();
-            write_fielded(
-                f,
-                "type",
-                &node.name,
-                interfaces,
-                &node.directives,
-                node.fields.as_slice(),
-            )
-        }
-        Definition::InterfaceTypeDefinition(node) => {
-            write_described(f, &node.description, 0)?;
-            let interfaces = node.implements_interfaces.as_slice();
-            write_fielded(
-                f,
-                "interface",
-                &node.name,
-                interfaces,
-                &node.directives,
-                node.fields.as_slice(),
-            )
-        }
-        Definition::UnionTypeDefinition(node) => {
-            write_described(f, &node.description, 0)?;
-            write_union(f, &node.name, &node.directives, node.members.as_slice())
-        }
-        Definition::EnumTypeDefinition(node) => {
-            write_described(f, &node.description, 0)?;
-            write_enum(f, &node.name, &node.directives, node.values.as_slice())
-        }
-        Definition::InputObjectTypeDefinition(node) => {
-            write_described(f, &node.description, 0)?;
-            write_input_object(f, &node.name, &node.directives, node.fields.as_slice())
-        }
-        Definition::SchemaExtension(node) => {
-            f.write_str("extend ")?;
-            write_schema(f, &node.directives, node.root_operations.as_slice())
-        }
-        Definition::ScalarTypeExtension(node) => {
-            f.write_str("extend ")?;
-            write_scalar(f, &node.name, &node.directives)
-        }
-        Definition::ObjectTypeExtension(node) => {
-            f.write_str("extend ")?;
-            let interfaces = node.implements_interfaces.as_slice();
-            write_fielded(
-                f,
-                "type",
-                &node.name,
-                interfaces,
-                &node.directives,
-                node.fields.as_slice(),
-            )
-        }
-        Definition::InterfaceTypeExtension(node) => {
-            f.write_str("extend ")?;
-            let interfaces = node.implements_interfaces.as_slice();
-            write_fielded(
-                f,
-                "interface",
-                &node.name,
-                interfaces,
-                &node.directives,
-                node.fields.as_slice(),
-            )
-        }
-        Definition::UnionTypeExtension(node) => {
-            f.write_str("extend ")?;
-            write_union(f, &node.name, &node.directives, node.members.as_slice())
-        }
-        Definition::EnumTypeExtension(node) => {
-            f.write_str("extend ")?;
-            write_enum(f, &node.name, &node.directives, node.values.as_slice())
-        }
-        Definition::InputObjectTypeExtension(node) => {
-            f.write_str("extend ")?;
-            write_input_object(f, &node.name, &node.directives, node.fields.as_slice())
-        }
+    write_declaration(f, DeclarationRef::of(definition), braces)
+}
+
+/// Whether a `{` behind these parts of such a type would still be its own.
+fn parts_take(kind: TypeKind, parts: PartsRef<'_>) -> bool
+    ensures { result ≡ parts_take kind (parts_seen parts.entry) }
+{
+    match kind {
+        TypeKind::Scalar | TypeKind::Union => false,
+        TypeKind::Object | TypeKind::Interface => parts.fields.is_empty(),
+        TypeKind::Enum => parts.values.is_empty(),
+        TypeKind::InputObject => parts.input_fields.is_empty(),
+    }
+}
+
+/// Whether a `{` behind what says this would still be its own.
+fn declaration_takes_braces(declaration: DeclarationRef<'_>) -> bool
+    ensures { result ≡ declaration_takes_braces (declaration_seen declaration.entry) }
+{
+    match declaration {
+        DeclarationRef::Type(ty) => parts_take(ty.kind, ty.parts),
+        DeclarationRef::Schema(schema) => schema.is_extension && schema.parts.roots.is_empty(),
+        _ => false,
     }
 }
 
@@ -141,18 +117,7 @@ pub fn write_definition<W: Write>(
 fn takes_braces(definition: &Definition) -> bool
     ensures { result ≡ takes_braces definition.now }
 {
-    match definition {
-        Definition::SchemaExtension(node) => node.root_operations.is_empty(),
-        Definition::ObjectTypeDefinition(node) => node.fields.is_empty(),
-        Definition::ObjectTypeExtension(node) => node.fields.is_empty(),
-        Definition::InterfaceTypeDefinition(node) => node.fields.is_empty(),
-        Definition::InterfaceTypeExtension(node) => node.fields.is_empty(),
-        Definition::EnumTypeDefinition(node) => node.values.is_empty(),
-        Definition::EnumTypeExtension(node) => node.values.is_empty(),
-        Definition::InputObjectTypeDefinition(node) => node.fields.is_empty(),
-        Definition::InputObjectTypeExtension(node) => node.fields.is_empty(),
-        _ => false,
-    }
+    declaration_takes_braces(DeclarationRef::of(definition))
 }
 
 /// Writes definitions with an empty line between each two.

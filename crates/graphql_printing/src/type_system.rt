@@ -1,18 +1,16 @@
 //! Definitions and extensions of the type system: GraphQL specification of October 2021, section 3.
-ghost use Rattle.std.specs.Prelude.{◌≡◌, ◌++◌, codes};
+ghost use Rattle.std.specs.Prelude.{◌≡◌};
 ghost use Rattle.std.specs.Fmt.{WritesOnOk};
 ghost use Rattle.std.specs.List.{list_any};
+ghost use Rattle.std.specs.Option.{option_copied};
 ghost use Rattle.graphql_nodes.specs.LocationTexts.{location_text};
-ghost use Rattle.graphql_nodes.specs.declared.type_kind.TypeKind.TheVariants as t;
-ghost use Rattle.graphql_ast.specs.Parts.{directed, fielded};
-ghost use Rattle.graphql_printing.specs.Texts.{directives_text};
-ghost use Rattle.graphql_printing.specs.TypeSystem.{argument_definitions_text, described, directive_shape};
-ghost use Rattle.graphql_printing.specs.TypeSystem.{enum_value_further_in, enum_value_text};
-ghost use Rattle.graphql_printing.specs.TypeSystem.{field_definition_text, field_further_in, fielded_text};
-ghost use Rattle.graphql_printing.specs.TypeSystem.{input_value_further_in, input_value_text};
-ghost use Rattle.graphql_printing.specs.TypeSystem.{interfaces_text, members_text, name_text};
-ghost use Rattle.graphql_printing.specs.TypeSystem.{repeatable_text, root_text, schema_shape, takes_lines};
-ghost use Rattle.graphql_printing.specs.TypeSystem.{type_shape};
+ghost use Rattle.graphql_ast.specs.PartsSeen.{parts_seen};
+ghost use Rattle.graphql_printing.specs.TypeSystem.{argument_definitions_text, behind_name, described};
+ghost use Rattle.graphql_printing.specs.TypeSystem.{directive_shape, enum_value_further_in, enum_value_text};
+ghost use Rattle.graphql_printing.specs.TypeSystem.{field_definition_text, field_further_in};
+ghost use Rattle.graphql_printing.specs.TypeSystem.{input_value_further_in, input_value_text, keyword_text};
+ghost use Rattle.graphql_printing.specs.TypeSystem.{name_text, repeatable_text, root_text, schema_shape};
+ghost use Rattle.graphql_printing.specs.TypeSystem.{takes_lines, type_shape};
 
 use crate::arguments::write_directives;
 use crate::descriptions::write_description;
@@ -21,7 +19,7 @@ use crate::lists::{Written, write_braces, write_enclosed, write_on_lines, write_
 use crate::operations::write_default;
 use crate::types::write_type;
 use crate::values::write_label;
-use graphql_ast::directive::DirectiveList;
+use graphql_ast::parts::PartsRef;
 use graphql_ast::type_system::{
     DirectiveDefinition, EnumValueDefinition, FieldDefinition, InputValueDefinition,
 };
@@ -30,6 +28,7 @@ use graphql_nodes::name::{Name, NamedType};
 use graphql_nodes::node::Node;
 use graphql_nodes::node_str::NodeStr;
 use graphql_nodes::operation_type::OperationType;
+use graphql_nodes::type_kind::TypeKind;
 use std::fmt;
 use std::fmt::{Formatter, Write};
 
@@ -37,10 +36,11 @@ use std::fmt::{Formatter, Write};
 /// there is none.
 pub(crate) fn write_described<W: Write>(
     f: &mut Formatter<W>,
-    description: &Option<NodeStr>,
+    description: Option<&NodeStr>,
     indent: usize,
 ) -> fmt::Result
-    ensures { WritesOnOk W.write_str_gives f.old result (described indent description.now) f.new }
+    ensures { let text = described indent (option_copied description.entry) in
+        WritesOnOk W.write_str_gives f.old result text f.new }
 {
     match description {
         Some(text) => {
@@ -59,7 +59,7 @@ pub(crate) fn write_input_value<W: Write>(
 ) -> fmt::Result
     ensures { WritesOnOk W.write_str_gives f.old result (input_value_further_in indent input.now) f.new }
 {
-    write_described(f, &input.description, indent)?;
+    write_described(f, input.description.as_ref(), indent)?;
     write_label(f, &input.name)?;
     write_type(f, &input.ty)?;
     write_default(f, &input.default_value)?;
@@ -104,7 +104,7 @@ pub(crate) fn write_field_definition<W: Write>(
 ) -> fmt::Result
     ensures { WritesOnOk W.write_str_gives f.old result (field_further_in indent field.now) f.new }
 {
-    write_described(f, &field.description, indent)?;
+    write_described(f, field.description.as_ref(), indent)?;
     f.write_str(field.name.as_str())?;
     write_argument_definitions(f, field.arguments.as_slice(), indent)?;
     f.write_str(": ")?;
@@ -128,7 +128,7 @@ pub(crate) fn write_enum_value<W: Write>(
 ) -> fmt::Result
     ensures { WritesOnOk W.write_str_gives f.old result (enum_value_further_in indent value.now) f.new }
 {
-    write_described(f, &value.description, indent)?;
+    write_described(f, value.description.as_ref(), indent)?;
     f.write_str(value.value.as_str())?;
     write_directives(f, value.directives.0.as_slice())
 }
@@ -167,113 +167,69 @@ impl Written for DirectiveLocation {
     }
 }
 
-/// Writes the keyword and name of a type.
-fn write_keyword<W: Write>(f: &mut Formatter<W>, keyword: &str, name: &Name) -> fmt::Result
-    ensures { WritesOnOk W.write_str_gives f.old result (keyword.now ++ codes " " ++ name.now.text) f.new }
+/// The word of a kind of types.
+fn keyword(kind: TypeKind) -> &'static str
+    ensures { result.now ≡ keyword_text kind }
 {
-    f.write_str(keyword)?;
+    match kind {
+        TypeKind::Scalar => "scalar",
+        TypeKind::Object => "type",
+        TypeKind::Interface => "interface",
+        TypeKind::Union => "union",
+        TypeKind::Enum => "enum",
+        TypeKind::InputObject => "input",
+    }
+}
+
+/// Writes what a type of this kind has behind its name.
+fn write_parts<W: Write>(f: &mut Formatter<W>, kind: TypeKind, parts: PartsRef<'_>) -> fmt::Result
+    ensures { WritesOnOk W.write_str_gives f.old result (behind_name kind (parts_seen parts.entry)) f.new }
+{
+    match kind {
+        TypeKind::Scalar => write_directives(f, parts.directives),
+        TypeKind::Object | TypeKind::Interface => {
+            write_enclosed(f, " implements ", " & ", "", parts.names, 0)?;
+            write_directives(f, parts.directives)?;
+            write_braces(f, " {", parts.fields, 0)
+        }
+        TypeKind::Union => {
+            write_directives(f, parts.directives)?;
+            write_enclosed(f, " = ", " | ", "", parts.names, 0)
+        }
+        TypeKind::Enum => {
+            write_directives(f, parts.directives)?;
+            write_braces(f, " {", parts.values, 0)
+        }
+        TypeKind::InputObject => {
+            write_directives(f, parts.directives)?;
+            write_braces(f, " {", parts.input_fields, 0)
+        }
+    }
+}
+
+/// Writes a type, defined or extended.
+pub(crate) fn write_type_shape<W: Write>(
+    f: &mut Formatter<W>,
+    kind: TypeKind,
+    name: &Name,
+    parts: PartsRef<'_>,
+) -> fmt::Result
+    ensures { let text = type_shape kind name.now (parts_seen parts.entry) in
+        WritesOnOk W.write_str_gives f.old result text f.new }
+{
+    f.write_str(keyword(kind))?;
     f.write_str(" ")?;
-    f.write_str(name.as_str())
-}
-
-/// Writes the keyword, name and directives of a type.
-fn write_head<W: Write>(
-    f: &mut Formatter<W>,
-    keyword: &str,
-    name: &Name,
-    directives: &DirectiveList,
-) -> fmt::Result
-    ensures { WritesOnOk W.write_str_gives f.old result (keyword.now ++ codes " " ++ name.now.text
-        ++ directives_text directives.now.0) f.new }
-{
-    write_keyword(f, keyword, name)?;
-    write_directives(f, directives.0.as_slice())
-}
-
-/// Writes a scalar type, defined or extended.
-pub(crate) fn write_scalar<W: Write>(
-    f: &mut Formatter<W>,
-    name: &Name,
-    directives: &DirectiveList,
-) -> fmt::Result
-    ensures { WritesOnOk W.write_str_gives f.old result
-        (type_shape t.Scalar name.now (directed directives.now)) f.new }
-{
-    write_head(f, "scalar", name, directives)
-}
-
-/// Writes the keyword, name, interfaces, directives and fields of a type.
-pub(crate) fn write_fielded<W: Write>(
-    f: &mut Formatter<W>,
-    keyword: &str,
-    name: &Name,
-    interfaces: &[Name],
-    directives: &DirectiveList,
-    fields: &[Node<FieldDefinition>],
-) -> fmt::Result
-    ensures { WritesOnOk W.write_str_gives f.old result (keyword.now ++ codes " " ++ name.now.text
-        ++ fielded_text (fielded interfaces.now directives.now fields.now)) f.new }
-{
-    write_keyword(f, keyword, name)?;
-    write_enclosed(f, " implements ", " & ", "", interfaces, 0)?;
-    write_directives(f, directives.0.as_slice())?;
-    write_braces(f, " {", fields, 0)
-}
-
-/// Writes a union type, defined or extended.
-pub(crate) fn write_union<W: Write>(
-    f: &mut Formatter<W>,
-    name: &Name,
-    directives: &DirectiveList,
-    members: &[NamedType],
-) -> fmt::Result
-    ensures { WritesOnOk W.write_str_gives f.old result
-        (type_shape t.Union name.now (record (directed directives.now) { names = members.now })) f.new }
-{
-    write_head(f, "union", name, directives)?;
-    write_enclosed(f, " = ", " | ", "", members, 0)
-}
-
-/// Writes an enum type, defined or extended.
-pub(crate) fn write_enum<W: Write>(
-    f: &mut Formatter<W>,
-    name: &Name,
-    directives: &DirectiveList,
-    values: &[Node<EnumValueDefinition>],
-) -> fmt::Result
-    ensures { WritesOnOk W.write_str_gives f.old result
-        (type_shape t.Enum name.now (record (directed directives.now) { values = values.now })) f.new }
-{
-    write_head(f, "enum", name, directives)?;
-    write_braces(f, " {", values, 0)
-}
-
-/// Writes an input object type, defined or extended.
-pub(crate) fn write_input_object<W: Write>(
-    f: &mut Formatter<W>,
-    name: &Name,
-    directives: &DirectiveList,
-    fields: &[Node<InputValueDefinition>],
-) -> fmt::Result
-    ensures { WritesOnOk W.write_str_gives f.old result
-        (type_shape t.InputObject name.now (record (directed directives.now) { input_fields = fields.now }))
-        f.new }
-{
-    write_head(f, "input", name, directives)?;
-    write_braces(f, " {", fields, 0)
+    f.write_str(name.as_str())?;
+    write_parts(f, kind, parts)
 }
 
 /// Writes the schema, defined or extended.
-pub(crate) fn write_schema<W: Write>(
-    f: &mut Formatter<W>,
-    directives: &DirectiveList,
-    roots: &[Node<(OperationType, NamedType)>],
-) -> fmt::Result
-    ensures { WritesOnOk W.write_str_gives f.old result (schema_shape directives.now roots.now) f.new }
+pub(crate) fn write_schema<W: Write>(f: &mut Formatter<W>, parts: PartsRef<'_>) -> fmt::Result
+    ensures { WritesOnOk W.write_str_gives f.old result (schema_shape (parts_seen parts.entry)) f.new }
 {
     f.write_str("schema")?;
-    write_directives(f, directives.0.as_slice())?;
-    write_braces(f, " {", roots, 0)
+    write_directives(f, parts.directives)?;
+    write_braces(f, " {", parts.roots, 0)
 }
 
 /// Writes that a directive may be repeated, if it may.

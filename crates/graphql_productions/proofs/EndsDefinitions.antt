@@ -24,9 +24,9 @@ use Rattle.graphql_productions.specs.Documents.{definition, definition_pick, fra
 use Rattle.graphql_productions.specs.Nodes.{name, node, span_at}
 use Rattle.graphql_productions.specs.Operations.{fragment_definition, is_operation_type, operation, shorthand, variables}
 use Rattle.graphql_productions.specs.Selections.{fragment_name}
-use Rattle.graphql_productions.specs.TypeSystem.{Described, definition_made, described, described_pick, description, directive_body, directive_of, enum_values, expecting, extended, extended_pick, extension, extension_body, extension_made, extension_of, fielded, fields, goes_on_type, has_part, input_values, is_described, is_description, is_extended, is_none, keyword, location, names_behind, no_described, optional_roots, parts, roots, schema_body, schema_extension_body, schema_extension_of, schema_of, schema_parts, system_definition, type_body, type_of}
+use Rattle.graphql_productions.specs.TypeSystem.{definition_made, Described, described, described_pick, description, directive_body, directive_of, enum_values, expecting, extended, extended_pick, extension, extension_body, extension_made, extension_of, fielded, fields, goes_on_type, has_part, input_values, is_described, is_description, is_extended, is_none, keyword, location, names_behind, no_described, optional_roots, parts, parts_take, roots, schema_body, schema_extension_body, schema_extension_of, schema_of, schema_parts, system_definition, type_body, type_of}
 use Rattle.graphql_productions.proofs.DefinitionLaws.{locations_law}
-use Rattle.graphql_productions.proofs.EndsTypeSystem.{Braced, as_well, behind_directives, behind_name, behind_word, limits, parts_braced, parts_take, plain, schema_extension_parts_braced}
+use Rattle.graphql_productions.proofs.EndsTypeSystem.{Braced, as_well, behind_directives, behind_name, behind_word, limits, parts_braced, plain, schema_extension_parts_braced}
 use Rattle.graphql_productions.proofs.NodeLaws.{node_law}
 use Rattle.graphql_productions.proofs.OperationLaws.{fragment_definition_law, operation_law, shorthand_law}
 use Rattle.graphql_productions.proofs.TypeSystemLaws.{argument_definitions_law, optional_description_law, roots_law}
@@ -35,11 +35,7 @@ use Rattle.graphql_productions.proofs.TypeSystemLaws.{argument_definitions_law, 
 
 type_takes : (kind : TypeKind) (about : Option NameView) (n : NameView) (x : Parts) (at : Option SourceSpan) → parts_take kind x ≡ takes_braces (type_definition kind about n x at)
 type_takes t.Scalar about n x at = refl
-type_takes t.Object about n x at = refl
-type_takes t.Interface about n x at = refl
-type_takes t.Union about n x at = refl
-type_takes t.Enum about n x at = refl
-type_takes t.InputObject about n x at = refl
+type_takes kind about n x at = refl
 
 module _ (file : FileId) (depth : ℕ) (about : Option NameView) (at : Option SourceSpan) where
   -- whether a definition that is so described and stands there takes braces
@@ -107,11 +103,7 @@ system_definition_braced file depth =
 
 extension_takes : (kind : TypeKind) (n : NameView) (x : Parts) (at : Option SourceSpan) → parts_take kind x ≡ takes_braces (type_extension kind n x at)
 extension_takes t.Scalar n x at = refl
-extension_takes t.Object n x at = refl
-extension_takes t.Interface n x at = refl
-extension_takes t.Union n x at = refl
-extension_takes t.Enum n x at = refl
-extension_takes t.InputObject n x at = refl
+extension_takes kind n x at = refl
 
 module _ (file : FileId) (depth : ℕ) (at : Option SourceSpan) where
   -- whether an extension that stands there takes braces

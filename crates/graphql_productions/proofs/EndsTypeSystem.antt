@@ -8,7 +8,6 @@ use Rattle.graphql_nodes.specs.declared.type_kind.TypeKind.TheVariants as t
 use Rattle.graphql_nodes.specs.NameView.{NameView}
 use Rattle.graphql_nodes.specs.NodeView.{NodeView}
 use Rattle.graphql_ast.specs.declared.directive.DirectiveList.{DirectiveList}
-use Rattle.graphql_ast.specs.declared.parts.Parts.{Parts}
 use Rattle.graphql_ast.specs.declared.type_system.EnumValueDefinition.{EnumValueDefinition}
 use Rattle.graphql_ast.specs.declared.type_system.FieldDefinition.{FieldDefinition}
 use Rattle.graphql_ast.specs.declared.type_system.InputValueDefinition.{InputValueDefinition}
@@ -23,7 +22,7 @@ use Rattle.graphql_grammar.proofs.PieceLaws.{Apart, Lawful, Stops, apart, if_the
 use Rattle.graphql_productions.specs.Directives.{arguments, directive_node, directives}
 use Rattle.graphql_productions.specs.Nodes.{enclosed, name, or_none}
 use Rattle.graphql_productions.specs.Operations.{no_root, typed}
-use Rattle.graphql_productions.specs.TypeSystem.{enum_parts, enum_value_definition, enum_value_name, enum_value_node, enum_values, expecting, field_definition, field_node, fielded, fielded_parts, fields, goes_on_type, input_node, input_parts, input_value, input_values, is_none, names_behind, no_enum_value, optional_roots, parts, root, root_node, schema_parts}
+use Rattle.graphql_productions.specs.TypeSystem.{enum_parts, enum_value_definition, enum_value_name, enum_value_node, enum_values, expecting, field_definition, field_node, fielded, fielded_parts, fields, goes_on_type, input_node, input_parts, input_value, input_values, is_none, names_behind, no_enum_value, optional_roots, parts, parts_take, root, root_node, schema_parts}
 use Rattle.graphql_productions.proofs.DirectiveLaws.{directives_law}
 use Rattle.graphql_productions.proofs.ListLaws.{enclosed_law}
 use Rattle.graphql_productions.proofs.NodeLaws.{name_law}
@@ -128,15 +127,6 @@ fielded_braced file depth =
     let n : Piece (List NameView) = names_behind file k.Implements k.Ampersand in
     mapped_bounded fielded_parts (seq n d) (λ x. limits (is_none x.fields))
     (seq_bounded n d (implementing_law file) db.lawful (λ x. limits (is_none x.1.1)) (λ _. db) (apart n.more d.first refl) (λ x empty. less n.more refl (is_none x.1.1)))
-
--- whether these parts of such a type take braces
-abbrev pub parts_take : TypeKind → Parts → Bool
-parts_take t.Scalar x = false
-parts_take t.Object x = is_none x.fields
-parts_take t.Interface x = is_none x.fields
-parts_take t.Union x = false
-parts_take t.Enum x = is_none x.values
-parts_take t.InputObject x = is_none x.input_fields
 
 pub parts_braced : (file : FileId) (kind : TypeKind) (depth : ℕ) → Braced (parts file kind depth) (parts_take kind)
 unfolding parts names_behind enum_values input_values directives directive_node arguments name

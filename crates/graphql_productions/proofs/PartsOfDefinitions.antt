@@ -44,11 +44,7 @@ module _ {asked : TreePart → Type 0} {file : FileId} {Known : List WordView �
   type_made : (kind : TypeKind) (p : Parts) → IsBody serves kind p → (name : NameView) → asked (Name name)
       → IsDescribed (λ description location. type_definition kind description name p location)
   type_made t.Scalar p body text n o at d l = (l, join asked (description_parts o) _ d (n, body.0))
-  type_made t.Object p body text n o at d l = (l, join asked (description_parts o) _ d (n, body.0))
-  type_made t.Interface p body text n o at d l = (l, join asked (description_parts o) _ d (n, body.0))
-  type_made t.Union p body text n o at d l = (l, join asked (description_parts o) _ d (n, body.0))
-  type_made t.Enum p body text n o at d l = (l, join asked (description_parts o) _ d (n, body.0))
-  type_made t.InputObject p body text n o at d l = (l, join asked (description_parts o) _ d (n, body.0))
+  type_made kind p body text n o at d l = (l, join asked (description_parts o) _ d (n, body.0))
 
   type_yields : (kind : TypeKind) (depth : ℕ) → Yields Known (type_body file kind depth) IsDescribed
   unfolding type_body
@@ -131,11 +127,8 @@ module _ {asked : TreePart → Type 0} {file : FileId} {Known : List WordView �
 
   extension_there : (kind : TypeKind) (p : Parts) → IsBody serves kind p → has_part p ≡ true → (name : NameView) → asked (Name name) → IsExtension (type_extension kind name p)
   extension_there t.Scalar p body passes text n at l = (l, (wanted_there _ (has_part p) body.1 passes, (n, body.0)))
-  extension_there t.Object p body passes text n at l = (l, (wanted_there _ (has_part p) body.1 passes, (n, body.0)))
-  extension_there t.Interface p body passes text n at l = (l, (wanted_there _ (has_part p) body.1 passes, (n, body.0)))
-  extension_there t.Union p body passes text n at l = (l, (wanted_there _ (has_part p) body.1 passes, (n, body.0)))
-  extension_there t.Enum p body passes text n at l = (l, (wanted_there _ (has_part p) body.1 passes, (n, body.0)))
-  extension_there t.InputObject p body passes text n at l = (l, (wanted_there _ (has_part p) body.1 passes, (n, body.0)))
+  extension_there kind p body passes text n at l =
+      (l, (wanted_there _ (has_part p) body.1 passes, (n, body.0)))
 
   extension_yields : (kind : TypeKind) (depth : ℕ) → Yields Known (extension_body file kind depth) IsExtension
   unfolding extension_body

@@ -5,7 +5,6 @@ use Rattle.graphql_nodes.specs.NodeView.{NodeView}
 use Rattle.graphql_nodes.specs.declared.source.FileId.{FileId}
 use Rattle.graphql_nodes.specs.declared.type_kind.TypeKind.{TypeKind}
 use Rattle.graphql_nodes.specs.declared.type_kind.TypeKind.TheVariants as t
-use Rattle.graphql_ast.specs.Parts.{directive_list}
 use Rattle.graphql_ast.specs.declared.directive.DirectiveList.{DirectiveList}
 use Rattle.graphql_ast.specs.declared.parts.Parts.{Parts}
 use Rattle.graphql_ast.specs.declared.type_reference.Type.{«Type» as TypeReference}
@@ -18,7 +17,7 @@ use Rattle.graphql_grammar.specs.declared.kind.Names.TheVariants as names
 use Rattle.graphql_grammar.specs.Kinds.{names_of}
 use Rattle.graphql_grammar.specs.Pieces.{Piece, mapped, optional, separated, seq, sign, some}
 use Rattle.graphql_grammar.specs.Words.{WordView}
-use Rattle.graphql_productions.specs.DefinitionTreeParts.{description_parts, enum_value_parts, enum_values_parts, field_parts, fields_parts, input_value_parts, input_values_parts, names_parts, root_parts}
+use Rattle.graphql_productions.specs.DefinitionTreeParts.{body_parts, description_parts, enum_value_parts, enum_values_parts, field_parts, fields_parts, input_value_parts, input_values_parts, is_directives, names_parts, root_parts}
 use Rattle.graphql_productions.specs.Directives.{directives}
 use Rattle.graphql_productions.specs.Nodes.{behind, enclosed, name, name_of}
 use Rattle.graphql_productions.specs.Operations.{is_operation_type, no_root, operation_type, typed}
@@ -33,24 +32,6 @@ use Rattle.graphql_productions.proofs.TypeSystemLaws.{enum_value_law, field_defi
 and_all : (b : Bool) → (b && true) ≡ b
 and_all true = refl
 and_all false = refl
-
--- what stands behind the name of a type of this kind
-abbrev pub body_parts : TypeKind → Parts → List TreePart
-body_parts t.Scalar p = directives_parts true (directive_list p)
-body_parts t.Object p = names_parts p.names ++ (directives_parts true (directive_list p) ++ fields_parts p.fields)
-body_parts t.Interface p = names_parts p.names ++ (directives_parts true (directive_list p) ++ fields_parts p.fields)
-body_parts t.Union p = directives_parts true (directive_list p) ++ names_parts p.names
-body_parts t.Enum p = directives_parts true (directive_list p) ++ enum_values_parts p.values
-body_parts t.InputObject p = directives_parts true (directive_list p) ++ input_values_parts p.input_fields
-
--- whether it is directives at most
-abbrev pub is_directives : TypeKind → Parts → Bool
-is_directives t.Scalar p = true
-is_directives t.Object p = is_none p.names && is_none p.fields
-is_directives t.Interface p = is_none p.names && is_none p.fields
-is_directives t.Union p = is_none p.names
-is_directives t.Enum p = is_none p.values
-is_directives t.InputObject p = is_none p.input_fields
 
 module _ {asked : TreePart → Type 0} {file : FileId} {Known : List WordView → Type 0} (serves : Serves asked file Known) where
   description_covers : Covers serves (description file) (λ n. Description n ∷ [])

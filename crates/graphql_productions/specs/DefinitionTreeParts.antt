@@ -1,16 +1,20 @@
 -- The parts of definitions and extensions: GraphQL specification of October 2021, sections 2.2, 2.3, 2.8,
 -- 2.10 and 3.
-use Rattle.std.specs.Prelude.{Bool, true, false, not, ◌&&◌, List, [], ◌∷◌, ◌++◌, Option}
+use Rattle.std.specs.Prelude.{Bool, true, false, not, ◌&&◌, List, [], ◌∷◌, ◌++◌, Option, if◌then◌else◌}
 use Rattle.std.specs.List.{flat_map}
 use Rattle.graphql_nodes.specs.declared.operation_type.OperationType.{OperationType}
+use Rattle.graphql_nodes.specs.declared.type_kind.TypeKind.{TypeKind}
+use Rattle.graphql_nodes.specs.declared.type_kind.TypeKind.TheVariants as t
 use Rattle.graphql_nodes.specs.NameView.{NameView}
 use Rattle.graphql_nodes.specs.NodeView.{NodeView}
+use Rattle.graphql_ast.specs.Declarations.{Declaration, OfType, OfSchema, OfDirective, OfOperation}
+use Rattle.graphql_ast.specs.Declarations.{OfFragment, declaration_of}
+use Rattle.graphql_ast.specs.Parts.{directive_list}
 use Rattle.graphql_ast.specs.declared.definition.Definition.{Definition}
-use Rattle.graphql_ast.specs.declared.definition.Definition.TheVariants as d
 use Rattle.graphql_ast.specs.declared.operation.FragmentDefinition.{FragmentDefinition}
 use Rattle.graphql_ast.specs.declared.operation.OperationDefinition.{OperationDefinition}
 use Rattle.graphql_ast.specs.declared.operation.VariableDefinition.{VariableDefinition}
-use Rattle.graphql_ast.specs.declared.directive.DirectiveList.{DirectiveList}
+use Rattle.graphql_ast.specs.declared.parts.Parts.{Parts}
 use Rattle.graphql_ast.specs.declared.type_system.EnumValueDefinition.{EnumValueDefinition}
 use Rattle.graphql_ast.specs.declared.type_system.FieldDefinition.{FieldDefinition}
 use Rattle.graphql_ast.specs.declared.type_system.InputValueDefinition.{InputValueDefinition}
@@ -85,88 +89,60 @@ root_parts root = name_parts root.1
 abbrev pub names_parts : List NameView → List TreePart
 names_parts names = flat_map name_parts names
 
--- what is extended has one part at least: directives, or one of these, of which this says that there is none
-abbrev pub extended_parts : DirectiveList → Bool → List TreePart
-extended_parts directives none = Wanted (not (is_none directives.0 && none)) ∷ []
+-- what stands behind the name of a type of this kind: sections 3.5 to 3.10
+abbrev pub body_parts : TypeKind → Parts → List TreePart
+body_parts t.Scalar p = directives_parts true (directive_list p)
+body_parts t.Object p =
+    names_parts p.names ++ (directives_parts true (directive_list p) ++ fields_parts p.fields)
+body_parts t.Interface p =
+    names_parts p.names ++ (directives_parts true (directive_list p) ++ fields_parts p.fields)
+body_parts t.Union p = directives_parts true (directive_list p) ++ names_parts p.names
+body_parts t.Enum p = directives_parts true (directive_list p) ++ enum_values_parts p.values
+body_parts t.InputObject p = directives_parts true (directive_list p) ++ input_values_parts p.input_fields
 
--- a definition or extension of any sort: section 2.2
-abbrev pub definition_parts : Definition → List TreePart
-definition_parts (d.OperationDefinition n) = node_parts operation_parts n
-definition_parts (d.FragmentDefinition n) = node_parts fragment_parts n
-definition_parts (d.DirectiveDefinition n) =
+-- whether it is directives at most
+abbrev pub is_directives : TypeKind → Parts → Bool
+is_directives t.Scalar p = true
+is_directives t.Object p = is_none p.names && is_none p.fields
+is_directives t.Interface p = is_none p.names && is_none p.fields
+is_directives t.Union p = is_none p.names
+is_directives t.Enum p = is_none p.values
+is_directives t.InputObject p = is_none p.input_fields
+
+-- what stands in front: a description, or of an extension whether it adds one part at least
+abbrev pub front_parts : Bool → Option NameView → Bool → List TreePart
+front_parts is_extension description adds =
+    if is_extension then Wanted adds ∷ [] else description_parts description
+
+-- the roots of the schema: its definition has one at least. Section 3.3
+abbrev pub roots_parts : Bool → List (NodeView (OperationType × NameView)) → List TreePart
+roots_parts is_extension roots =
+    if is_extension
+    then flat_map (node_parts root_parts) roots
+    else wanted_parts (node_parts root_parts) roots
+
+-- what says this: section 2.2
+abbrev pub declaration_parts : Declaration → List TreePart
+declaration_parts (OfOperation n) = node_parts operation_parts n
+declaration_parts (OfFragment n) = node_parts fragment_parts n
+declaration_parts (OfDirective n) =
     Node n.location
     ∷ (description_parts n.value.description
     ++ (Name n.value.name
     ∷ (input_values_parts n.value.arguments ++ (Wanted (not (is_none n.value.locations)) ∷ []))))
-definition_parts (d.SchemaDefinition n) =
-    Node n.location
-    ∷ (description_parts n.value.description
-    ++ (directives_parts true n.value.directives
-    ++ wanted_parts (node_parts root_parts) n.value.root_operations))
-definition_parts (d.ScalarTypeDefinition n) =
-    Node n.location
-    ∷ (description_parts n.value.description
-    ++ (Name n.value.name ∷ directives_parts true n.value.directives))
-definition_parts (d.ObjectTypeDefinition n) =
-    Node n.location
-    ∷ (description_parts n.value.description
-    ++ (Name n.value.name
-    ∷ (names_parts n.value.implements_interfaces
-    ++ (directives_parts true n.value.directives ++ fields_parts n.value.fields))))
-definition_parts (d.InterfaceTypeDefinition n) =
-    Node n.location
-    ∷ (description_parts n.value.description
-    ++ (Name n.value.name
-    ∷ (names_parts n.value.implements_interfaces
-    ++ (directives_parts true n.value.directives ++ fields_parts n.value.fields))))
-definition_parts (d.UnionTypeDefinition n) =
-    Node n.location
-    ∷ (description_parts n.value.description
-    ++ (Name n.value.name ∷ (directives_parts true n.value.directives ++ names_parts n.value.members)))
-definition_parts (d.EnumTypeDefinition n) =
-    Node n.location
-    ∷ (description_parts n.value.description
-    ++ (Name n.value.name
-    ∷ (directives_parts true n.value.directives ++ enum_values_parts n.value.values)))
-definition_parts (d.InputObjectTypeDefinition n) =
-    Node n.location
-    ∷ (description_parts n.value.description
-    ++ (Name n.value.name
-    ∷ (directives_parts true n.value.directives ++ input_values_parts n.value.fields)))
-definition_parts (d.SchemaExtension n) =
-    Node n.location
-    ∷ (extended_parts n.value.directives (is_none n.value.root_operations)
-    ++ (directives_parts true n.value.directives ++ flat_map (node_parts root_parts) n.value.root_operations))
-definition_parts (d.ScalarTypeExtension n) =
-    Node n.location
-    ∷ (extended_parts n.value.directives true
-    ++ (Name n.value.name ∷ directives_parts true n.value.directives))
-definition_parts (d.ObjectTypeExtension n) =
-    Node n.location
-    ∷ (extended_parts n.value.directives (is_none n.value.implements_interfaces && is_none n.value.fields)
-    ++ (Name n.value.name
-    ∷ (names_parts n.value.implements_interfaces
-    ++ (directives_parts true n.value.directives ++ fields_parts n.value.fields))))
-definition_parts (d.InterfaceTypeExtension n) =
-    Node n.location
-    ∷ (extended_parts n.value.directives (is_none n.value.implements_interfaces && is_none n.value.fields)
-    ++ (Name n.value.name
-    ∷ (names_parts n.value.implements_interfaces
-    ++ (directives_parts true n.value.directives ++ fields_parts n.value.fields))))
-definition_parts (d.UnionTypeExtension n) =
-    Node n.location
-    ∷ (extended_parts n.value.directives (is_none n.value.members)
-    ++ (Name n.value.name ∷ (directives_parts true n.value.directives ++ names_parts n.value.members)))
-definition_parts (d.EnumTypeExtension n) =
-    Node n.location
-    ∷ (extended_parts n.value.directives (is_none n.value.values)
-    ++ (Name n.value.name
-    ∷ (directives_parts true n.value.directives ++ enum_values_parts n.value.values)))
-definition_parts (d.InputObjectTypeExtension n) =
-    Node n.location
-    ∷ (extended_parts n.value.directives (is_none n.value.fields)
-    ++ (Name n.value.name
-    ∷ (directives_parts true n.value.directives ++ input_values_parts n.value.fields)))
+declaration_parts (OfSchema s) =
+    Node s.location
+    ∷ (front_parts s.is_extension s.description (not (is_none s.parts.directives && is_none s.parts.roots))
+    ++ (directives_parts true (directive_list s.parts) ++ roots_parts s.is_extension s.parts.roots))
+declaration_parts (OfType t) =
+    Node t.location
+    ∷ (front_parts t.is_extension t.description
+    (not (is_none t.parts.directives && is_directives t.kind t.parts))
+    ++ (Name t.name ∷ body_parts t.kind t.parts))
+
+-- a definition or extension of any sort: section 2.2
+abbrev pub definition_parts : Definition → List TreePart
+definition_parts x = declaration_parts (declaration_of x)
 
 -- a document: one definition at least, section 2.2
 abbrev pub document_parts : List Definition → List TreePart

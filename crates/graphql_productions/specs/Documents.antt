@@ -5,6 +5,7 @@
 -- query.
 use Rattle.std.specs.Prelude.{◌≡◌, ℕ, List, [], ◌∷◌, Bool, true, false, ◌||◌, ◌&&◌}
 use Rattle.graphql_nodes.specs.declared.source.FileId.{FileId}
+use Rattle.graphql_ast.specs.Declarations.{Declaration, OfType, OfSchema, declaration_of}
 use Rattle.graphql_ast.specs.declared.definition.Definition.{Definition}
 use Rattle.graphql_ast.specs.declared.definition.Definition.TheVariants as d
 use Rattle.graphql_ast.specs.declared.selection.Selection.{Selection}
@@ -19,7 +20,7 @@ use Rattle.graphql_productions.specs.Nodes.{node}
 use Rattle.graphql_productions.specs.Operations.{fragment_definition, is_operation_type, operation, shorthand}
 use Rattle.graphql_productions.specs.Selections.{bare_selections, no_selection, selection_set}
 use Rattle.graphql_productions.specs.TypeSystem.{expecting, extension, goes_on_type, is_described}
-use Rattle.graphql_productions.specs.TypeSystem.{is_description, is_none, system_definition}
+use Rattle.graphql_productions.specs.TypeSystem.{is_description, is_none, parts_take, system_definition}
 
 -- OperationDefinition with its keyword: section 2.3
 unfoldable pub operation_definition : FileId → ℕ → Piece Definition
@@ -63,19 +64,16 @@ any_kind kind = true
 abbrev pub document : FileId → ℕ → Piece (List Definition)
 document file depth = some (item any_kind (expecting i.Definition) (definition file depth))
 
--- whether a `{` behind a definition would still be its own: one that may have fields, values, input fields or
--- roots between braces, and has none. Sections 3.3.2, 3.6, 3.7, 3.9 and 3.10
+-- whether a `{` behind what says this would still be its own: one that may have fields, values, input
+-- fields or roots between braces, and has none. Sections 3.3.2, 3.6, 3.7, 3.9 and 3.10
+abbrev pub declaration_takes_braces : Declaration → Bool
+declaration_takes_braces (OfType t) = parts_take t.kind t.parts
+declaration_takes_braces (OfSchema s) = s.is_extension && is_none s.parts.roots
+declaration_takes_braces _ = false
+
+-- the same of a definition
 abbrev pub takes_braces : Definition → Bool
-takes_braces (d.SchemaExtension x) = is_none x.value.root_operations
-takes_braces (d.ObjectTypeDefinition x) = is_none x.value.fields
-takes_braces (d.ObjectTypeExtension x) = is_none x.value.fields
-takes_braces (d.InterfaceTypeDefinition x) = is_none x.value.fields
-takes_braces (d.InterfaceTypeExtension x) = is_none x.value.fields
-takes_braces (d.EnumTypeDefinition x) = is_none x.value.values
-takes_braces (d.EnumTypeExtension x) = is_none x.value.values
-takes_braces (d.InputObjectTypeDefinition x) = is_none x.value.fields
-takes_braces (d.InputObjectTypeExtension x) = is_none x.value.fields
-takes_braces _ = false
+takes_braces x = declaration_takes_braces (declaration_of x)
 
 -- these definitions, one after the other; a `{` never follows one that takes braces
 abbrev pub spells_in_turn : FileId → ℕ → List Definition → List WordView → Type 0

@@ -388,6 +388,16 @@ has_part p =
     && (is_none p.names
     && (is_none p.fields && (is_none p.values && (is_none p.input_fields && is_none p.roots)))))
 
+-- whether a `{` behind these parts of such a type would still be its own: it may have fields or values
+-- between braces, and has none. Sections 3.6, 3.7, 3.9 and 3.10
+abbrev pub parts_take : TypeKind → Parts → Bool
+parts_take t.Scalar p = false
+parts_take t.Object p = is_none p.fields
+parts_take t.Interface p = is_none p.fields
+parts_take t.Union p = false
+parts_take t.Enum p = is_none p.values
+parts_take t.InputObject p = is_none p.input_fields
+
 -- the extension of a type of this kind, of its name and what it adds
 abbrev pub extension_of : TypeKind → Unit {0} × (NameView × Parts) → Option SourceSpan → Definition
 extension_of kind x location = type_extension kind x.1.0 x.1.1 location

@@ -5,14 +5,11 @@ use Rattle.graphql_nodes.specs.Comparing.{bare_name, bare_node}
 use Rattle.graphql_nodes.specs.LocationTexts.{location_text}
 use Rattle.graphql_nodes.specs.NameView.{NameView}
 use Rattle.graphql_nodes.specs.NodeView.{NodeView}
-use Rattle.graphql_nodes.specs.declared.operation_type.OperationType.{OperationType}
 use Rattle.graphql_nodes.specs.declared.type_kind.TypeKind.{TypeKind}
 use Rattle.graphql_nodes.specs.declared.type_kind.TypeKind.TheVariants as t
-use Rattle.graphql_ast.specs.Bare.{bare_directive_list}
 use Rattle.graphql_ast.specs.BareDeclarations.{bare_parts}
 use Rattle.graphql_ast.specs.BareTypeSystem.{bare_directive_definition, bare_enum_value_definition, bare_field_definition, bare_input_value_definition, bare_root_operation}
 use Rattle.graphql_ast.specs.Parts.{directive_list}
-use Rattle.graphql_ast.specs.declared.directive.DirectiveList.{DirectiveList}
 use Rattle.graphql_ast.specs.declared.parts.Parts.{Parts}
 use Rattle.graphql_ast.specs.declared.type_system.DirectiveDefinition.{DirectiveDefinition}
 use Rattle.graphql_ast.specs.declared.type_system.EnumValueDefinition.{EnumValueDefinition}
@@ -116,11 +113,10 @@ type_shape_says_no_location kind name parts = let behind = behind_name_stays kin
 -- ---- the schema and directives
 
 -- the schema, defined or extended
-pub schema_shape_says_no_location : (directives : DirectiveList) (roots : List (NodeView (OperationType × NameView)))
-    → schema_shape (bare_directive_list directives) (map (bare_node bare_root_operation) roots) ≡ schema_shape directives roots
-schema_shape_says_no_location list roots =
-    let directives = directives_say_no_location list in
-    let inside = braces_stay (bare_node bare_root_operation) root_text (λ x indent. refl) roots in
+pub schema_shape_says_no_location : (parts : Parts) → schema_shape (bare_parts parts) ≡ schema_shape parts
+schema_shape_says_no_location parts =
+    let directives = directives_say_no_location (directive_list parts) in
+    let inside = braces_stay (bare_node bare_root_operation) root_text (λ x indent. refl) parts.roots in
     λ i. codes "schema" ++ directives i ++ inside i
 
 -- a directive that is defined

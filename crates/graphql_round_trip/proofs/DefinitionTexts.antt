@@ -5,7 +5,9 @@ use Rattle.graphql_nodes.specs.NodeView.{NodeView}
 use Rattle.graphql_nodes.specs.declared.operation_type.OperationType.{OperationType}
 use Rattle.graphql_nodes.specs.declared.operation_type.OperationType.TheVariants as o
 use Rattle.graphql_nodes.specs.declared.source.FileId.{FileId}
+use Rattle.graphql_ast.specs.BareDeclarations.{bare_declaration}
 use Rattle.graphql_ast.specs.BareDocuments.{bare_definition}
+use Rattle.graphql_ast.specs.Declarations.{Declaration, OfType, OfSchema, OfDirective, OfOperation, OfFragment, declaration_of, made}
 use Rattle.graphql_ast.specs.declared.definition.Definition.{Definition}
 use Rattle.graphql_ast.specs.declared.definition.Definition.TheVariants as d
 use Rattle.graphql_ast.specs.declared.operation.FragmentDefinition.{FragmentDefinition}
@@ -15,24 +17,29 @@ use Rattle.graphql_grammar.specs.declared.kind.Kind.{Kind}
 use Rattle.graphql_grammar.specs.declared.kind.Kind.TheVariants as k
 use Rattle.graphql_grammar.specs.Kinds.{only}
 use Rattle.graphql_grammar.specs.Pieces.{Piece}
-use Rattle.graphql_productions.specs.DefinitionTreeParts.{definition_parts}
+use Rattle.graphql_productions.specs.DefinitionTreeParts.{declaration_parts, definition_parts}
 use Rattle.graphql_productions.specs.Documents.{definition, definition_pick, fragment, operation_definition, shorthand_definition}
 use Rattle.graphql_productions.specs.Operations.{is_operation_type}
 use Rattle.graphql_productions.specs.TypeSystem.{expecting, system_definition}
 use Rattle.graphql_productions.specs.WellFormed.{IsWellFormed}
-use Rattle.graphql_printing.specs.Documents.{definition_text, operation_behind}
+use Rattle.graphql_printing.specs.Documents.{declaration_text, definition_text, operation_behind}
 use Rattle.graphql_printing.specs.Operations.{is_short, long_text}
 use Rattle.graphql_printing.specs.Selections.{selections_text}
-use Rattle.graphql_round_trip.specs.Nesting.{definition_nesting}
-use Rattle.graphql_round_trip.specs.Printed.{Prints, anything, ends_token}
+use Rattle.graphql_round_trip.specs.Nesting.{declaration_nesting, definition_nesting}
+use Rattle.graphql_round_trip.specs.Printed.{Heads, Prints, anything, ends_token}
 use Rattle.graphql_round_trip.proofs.ChoiceTexts.{first_text, is_none_of, second_text}
-use Rattle.graphql_round_trip.proofs.DescribedTexts.{is_system}
+use Rattle.graphql_round_trip.proofs.DescribedTexts.{front_kinds, is_system}
 use Rattle.graphql_round_trip.proofs.FragmentDefinitionTexts.{fragment_head, fragment_prints}
 use Rattle.graphql_round_trip.proofs.NodeTexts.{loosely, node_prints}
 use Rattle.graphql_round_trip.proofs.OperationTexts.{applied, keyword_kind, long_head, operation_prints, shorthand_prints}
 use Rattle.graphql_round_trip.proofs.PieceTexts.{branch_at, branch_text, mapped_text}
 use Rattle.graphql_round_trip.proofs.SelectionTexts.{selections_head}
-use Rattle.graphql_round_trip.proofs.TypeSystemTexts.{defines, extend_heads, extends, extension_prints, system_heads, system_prints}
+use Rattle.graphql_round_trip.proofs.TypeSystemTexts.{directive_begins, directive_prints, fronted, schema_begins, schema_prints, type_begins, type_prints}
+
+-- a definition without locations is made of what it says, without them
+bare_made : (x : Definition) → made (bare_declaration (declaration_of x)) ≡ bare_definition x
+bare_made (d.OperationDefinition n) = refl
+bare_made x = refl
 
 module _ (file : FileId) (depth : ℕ) where
   -- ---- what tells definitions apart
@@ -47,15 +54,15 @@ module _ (file : FileId) (depth : ℕ) where
       (second_text (is_operation_type kind) _ _ (is_none_of is_system is_operation_type refl kind at)
       (first_text (is_system kind) _ _ at t))))
 
-  system_definition_prints : (x : Definition) → defines x ≡ true → IsWellFormed (definition_parts x) → definition_nesting x ≤ depth →
-      Prints (definition file depth) bare_definition (bare_definition x) (definition_text false x) ends_token
-  system_definition_prints x is well fits =
-      branch_text (definition_pick file depth) (expecting i.Definition) is_system (system_heads x is) (λ kind at. system_picked kind at (system_prints file depth x is well fits))
-
-  -- an extension: `extend`
-  extension_definition_prints : (x : Definition) → extends x ≡ true → IsWellFormed (definition_parts x) → definition_nesting x ≤ depth →
-      Prints (definition file depth) bare_definition (bare_definition x) (definition_text false x) ends_token
-  extension_definition_prints x is well fits = branch_at (definition_pick file depth) (expecting i.Definition) k.Extend (extend_heads x is) (extension_prints file depth x is well fits)
+  -- one of the type system that is defined, or an extension: `extend`
+  front_prints : (is_extension : Bool) {y : Definition} {text : List ℕ} →
+      Heads (front_kinds is_extension) text ends_token →
+      Prints (fronted file depth is_extension) bare_definition y text ends_token →
+      Prints (definition file depth) bare_definition y text ends_token
+  front_prints true head t = branch_at (definition_pick file depth) (expecting i.Definition) k.Extend head t
+  front_prints false head t =
+      branch_text (definition_pick file depth) (expecting i.Definition) is_system head
+      (λ kind at. system_picked kind at t)
 
   -- a fragment: its keyword
   fragment_definition_prints : (n : NodeView FragmentDefinition) → IsWellFormed (definition_parts (d.FragmentDefinition n)) → definition_nesting (d.FragmentDefinition n) ≤ depth →
@@ -104,16 +111,28 @@ module _ (file : FileId) (depth : ℕ) where
 
   -- ---- all sorts
 
-  -- a definition is read as it is printed, also where it is printed behind one that takes braces
+  -- what says this is read as it is printed, also where it is printed behind one that takes braces
+  declaration_prints : (braces : Bool) (x : Declaration) → IsWellFormed (declaration_parts x) →
+      declaration_nesting x ≤ depth →
+      Prints (definition file depth) bare_definition (made (bare_declaration x)) (declaration_text braces x)
+      ends_token
+  declaration_prints braces (OfOperation n) well fits =
+      loosely ends_token (operation_behind_prints braces n well fits)
+  declaration_prints braces (OfFragment n) well fits =
+      loosely ends_token (fragment_definition_prints n well fits)
+  declaration_prints braces (OfDirective n) well fits =
+      front_prints false (directive_begins braces n) (directive_prints file depth braces n well fits)
+  declaration_prints braces (OfSchema s) well fits =
+      front_prints s.is_extension (schema_begins braces s)
+      (schema_prints file depth braces s.is_extension s well fits)
+  declaration_prints braces (OfType t) well fits =
+      front_prints t.is_extension (type_begins braces t)
+      (type_prints file depth braces t.is_extension t well fits)
+
+  -- a definition is so read
   pub definition_prints : (braces : Bool) (x : Definition) → IsWellFormed (definition_parts x) → definition_nesting x ≤ depth →
       Prints (definition file depth) bare_definition (bare_definition x) (definition_text braces x) ends_token
-  definition_prints braces (d.OperationDefinition n) well fits = loosely ends_token (operation_behind_prints braces n well fits)
-  definition_prints braces (d.FragmentDefinition n) well fits = loosely ends_token (fragment_definition_prints n well fits)
-  definition_prints braces (d.SchemaExtension n) well fits = extension_definition_prints (d.SchemaExtension n) refl well fits
-  definition_prints braces (d.ScalarTypeExtension n) well fits = extension_definition_prints (d.ScalarTypeExtension n) refl well fits
-  definition_prints braces (d.ObjectTypeExtension n) well fits = extension_definition_prints (d.ObjectTypeExtension n) refl well fits
-  definition_prints braces (d.InterfaceTypeExtension n) well fits = extension_definition_prints (d.InterfaceTypeExtension n) refl well fits
-  definition_prints braces (d.UnionTypeExtension n) well fits = extension_definition_prints (d.UnionTypeExtension n) refl well fits
-  definition_prints braces (d.EnumTypeExtension n) well fits = extension_definition_prints (d.EnumTypeExtension n) refl well fits
-  definition_prints braces (d.InputObjectTypeExtension n) well fits = extension_definition_prints (d.InputObjectTypeExtension n) refl well fits
-  definition_prints braces x well fits = system_definition_prints x refl well fits
+  definition_prints braces x well fits =
+      let text : List ℕ = definition_text braces x in
+      subst (λ (y : Definition). Prints (definition file depth) bare_definition y text ends_token) (bare_made x)
+      (declaration_prints braces (declaration_of x) well fits)

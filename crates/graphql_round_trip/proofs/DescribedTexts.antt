@@ -1,7 +1,7 @@
 -- Texts of definitions of the type system behind their descriptions, and of extensions behind `extend`:
 -- GraphQL specification of October 2021, sections 3.2 and 3.4.
 use Rattle.std.proofs.Common.{◌≡◌, ℕ, Bool, true, false, ◌||◌, List, ◌++◌, option_map, Option, None, Some, refl, ap, ◌∙◌}
-use Rattle.std.specs.Prelude.{codes}
+use Rattle.std.specs.Prelude.{codes, if◌then◌else◌}
 use Rattle.graphql_nodes.specs.Comparing.{bare_name}
 use Rattle.graphql_nodes.specs.NameView.{NameView}
 use Rattle.graphql_nodes.specs.declared.source.FileId.{FileId}
@@ -15,6 +15,7 @@ use Rattle.graphql_grammar.specs.WordsOfText.{word_of}
 use Rattle.graphql_grammar.proofs.KindLemmas.{only_kind}
 use Rattle.graphql_productions.specs.Nodes.{span_at}
 use Rattle.graphql_productions.specs.TypeSystem.{Described, definition_made, described, extended, extension, extension_made, is_described, is_description, system_definition}
+use Rattle.graphql_printing.specs.Documents.{front_text}
 use Rattle.graphql_printing.specs.Layout.{line_end}
 use Rattle.graphql_printing.specs.TypeSystem.{described as described_text}
 use Rattle.graphql_round_trip.specs.Printed.{Heads, Prints, anything, ends_token}
@@ -82,3 +83,16 @@ extended_extension file depth made t =
 -- it begins with that word
 pub extension_heads : (text : List ℕ) → Heads (only k.Extend) (codes "extend " ++ text) ends_token
 extension_heads text = heads_on (codes " " ++ text) ends_token (keyword_heads k.Extend (codes "extend") refl refl) (λ rest _. refl)
+
+-- ---- what is defined or extended
+
+-- what it begins with
+abbrev pub front_kinds : Bool → Kinds
+front_kinds is_extension = if is_extension then only k.Extend else is_system
+
+-- it begins with `extend`, or with its description or keyword
+pub front_heads : (is_extension : Bool) (description : Option NameView) (keyword : Kind) (text : List ℕ) →
+    is_described keyword ≡ true → Heads (only keyword) text ends_token →
+    Heads (front_kinds is_extension) (front_text is_extension description ++ text) ends_token
+front_heads true description keyword text is head = extension_heads text
+front_heads false description keyword text is head = described_heads description keyword text is head

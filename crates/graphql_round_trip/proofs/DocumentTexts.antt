@@ -7,8 +7,8 @@ use Rattle.graphql_nodes.specs.declared.operation_type.OperationType.{OperationT
 use Rattle.graphql_nodes.specs.declared.operation_type.OperationType.TheVariants as o
 use Rattle.graphql_nodes.specs.declared.source.FileId.{FileId}
 use Rattle.graphql_ast.specs.BareDocuments.{bare_definition}
+use Rattle.graphql_ast.specs.Declarations.{Declaration, OfType, OfSchema, OfDirective, OfOperation, OfFragment, declaration_of}
 use Rattle.graphql_ast.specs.declared.definition.Definition.{Definition}
-use Rattle.graphql_ast.specs.declared.definition.Definition.TheVariants as d
 use Rattle.graphql_tokens.specs.Bytes.{is_blank}
 use Rattle.graphql_tokens.specs.First.{First}
 use Rattle.graphql_grammar.specs.declared.kind.Kind.{Kind}
@@ -17,15 +17,15 @@ use Rattle.graphql_grammar.specs.Kinds.{Kinds, only}
 use Rattle.graphql_grammar.specs.Words.{WordView, begins}
 use Rattle.graphql_grammar.specs.WordsOfText.{word_of}
 use Rattle.graphql_grammar.proofs.KindLemmas.{only_kind}
-use Rattle.graphql_productions.specs.DefinitionTreeParts.{definition_parts, document_parts}
+use Rattle.graphql_productions.specs.DefinitionTreeParts.{declaration_parts, definition_parts, document_parts}
 use Rattle.graphql_productions.specs.Documents.{definition, spells_document, spells_in_turn, takes_braces}
 use Rattle.graphql_productions.specs.WellFormed.{IsWellFormed}
-use Rattle.graphql_printing.specs.Documents.{definition_text, definitions_behind, definitions_text}
+use Rattle.graphql_printing.specs.Documents.{declaration_text, definition_text, definitions_behind, definitions_text}
 use Rattle.graphql_round_trip.specs.Nesting.{definition_nesting, document_nesting}
 use Rattle.graphql_round_trip.specs.Printed.{Heads, Leads, anything, ends_token}
 use Rattle.graphql_round_trip.proofs.BareDocumentTexts.{braces_say_no_location}
 use Rattle.graphql_round_trip.proofs.ChoiceTexts.{is_none_of}
-use Rattle.graphql_round_trip.proofs.DescribedTexts.{heads_wider, is_system}
+use Rattle.graphql_round_trip.proofs.DescribedTexts.{front_kinds, heads_wider, is_system}
 use Rattle.graphql_round_trip.proofs.FragmentDefinitionTexts.{fragment_head}
 use Rattle.graphql_round_trip.proofs.LeadLaws.{behind_blanks, leads_on}
 use Rattle.graphql_round_trip.proofs.DefinitionTexts.{definition_prints}
@@ -33,7 +33,7 @@ use Rattle.graphql_round_trip.proofs.OperationTexts.{keyword_kind, long_head}
 use Rattle.graphql_round_trip.proofs.NestingLemmas.{first_fits, others_fit}
 use Rattle.graphql_round_trip.proofs.PartLemmas.{part_of_front}
 use Rattle.graphql_round_trip.proofs.PieceTexts.{same_first}
-use Rattle.graphql_round_trip.proofs.TypeSystemTexts.{extend_heads, system_heads}
+use Rattle.graphql_round_trip.proofs.TypeSystemTexts.{directive_begins, schema_begins, type_begins}
 
 -- ---- what is printed behind a definition that takes braces begins with no `{`
 
@@ -58,18 +58,22 @@ keyword_no_brace o.Subscription = refl
 system_no_brace : (kind : Kind) → is_system kind ≡ true → is_no_brace kind ≡ true
 system_no_brace kind at = ap not (is_none_of is_system (only k.LeftBrace) refl kind at)
 
--- what a definition is printed as there begins with none
-definition_heads : (x : Definition) → IsWellFormed (definition_parts x) → Heads is_no_brace (definition_text true x) ends_token
-definition_heads (d.OperationDefinition n) well = heads_loosely ends_token (no_brace_of (keyword_kind n.value.operation_type) (keyword_no_brace n.value.operation_type) (long_head n.value well.1))
-definition_heads (d.FragmentDefinition n) well = heads_loosely ends_token (no_brace_of k.Fragment refl (fragment_head n.value))
-definition_heads (d.SchemaExtension n) well = no_brace_of k.Extend refl (extend_heads (d.SchemaExtension n) refl)
-definition_heads (d.ScalarTypeExtension n) well = no_brace_of k.Extend refl (extend_heads (d.ScalarTypeExtension n) refl)
-definition_heads (d.ObjectTypeExtension n) well = no_brace_of k.Extend refl (extend_heads (d.ObjectTypeExtension n) refl)
-definition_heads (d.InterfaceTypeExtension n) well = no_brace_of k.Extend refl (extend_heads (d.InterfaceTypeExtension n) refl)
-definition_heads (d.UnionTypeExtension n) well = no_brace_of k.Extend refl (extend_heads (d.UnionTypeExtension n) refl)
-definition_heads (d.EnumTypeExtension n) well = no_brace_of k.Extend refl (extend_heads (d.EnumTypeExtension n) refl)
-definition_heads (d.InputObjectTypeExtension n) well = no_brace_of k.Extend refl (extend_heads (d.InputObjectTypeExtension n) refl)
-definition_heads x well = heads_wider is_system is_no_brace system_no_brace (system_heads x refl)
+front_no_brace : (is_extension : Bool) {text : List ℕ} → Heads (front_kinds is_extension) text ends_token →
+    Heads is_no_brace text ends_token
+front_no_brace true head = no_brace_of k.Extend refl head
+front_no_brace false head = heads_wider is_system is_no_brace system_no_brace head
+
+-- what is printed there begins with none
+declaration_heads : (x : Declaration) → IsWellFormed (declaration_parts x) →
+    Heads is_no_brace (declaration_text true x) ends_token
+declaration_heads (OfOperation n) well =
+    heads_loosely ends_token (no_brace_of (keyword_kind n.value.operation_type)
+    (keyword_no_brace n.value.operation_type) (long_head n.value well.1))
+declaration_heads (OfFragment n) well =
+    heads_loosely ends_token (no_brace_of k.Fragment refl (fragment_head n.value))
+declaration_heads (OfDirective n) well = front_no_brace false (directive_begins true n)
+declaration_heads (OfSchema s) well = front_no_brace s.is_extension (schema_begins true s)
+declaration_heads (OfType t) well = front_no_brace t.is_extension (type_begins true t)
 
 -- the first of the words that come first in a text is of a kind that the text begins with
 first_kind : {kinds : Kinds} {text : List ℕ} {ends : List ℕ → Bool} (total : ℕ) (rest : List ℕ) (w : WordView) (ws : List WordView) → Heads kinds text ends → ends rest ≡ true →
@@ -105,7 +109,9 @@ module _ (file : FileId) (depth total : ℕ) where
       Leads total (definition_text braces x ++ rest) words rest → (braces && begins (only k.LeftBrace) (words ++ more)) ≡ false
   no_brace_taken false x y words more rest well end spelled leads = refl
   no_brace_taken true x y [] more rest well end spelled leads = absurd spelled
-  no_brace_taken true x y (w ∷ ws) more rest well end spelled leads = by (only k.LeftBrace w.kind) (first_kind total rest w ws (definition_heads x well) end leads)
+  no_brace_taken true x y (w ∷ ws) more rest well end spelled leads =
+      by (only k.LeftBrace w.kind) (first_kind total rest w ws (declaration_heads (declaration_of x) well)
+      end leads)
     where
       by : (b : Bool) → not b ≡ true → b ≡ false
       by false e = refl

@@ -17,10 +17,10 @@ use Rattle.graphql_productions.specs.Documents.{definition, fragment, operation_
 use Rattle.graphql_productions.specs.Nodes.{name, span_at}
 use Rattle.graphql_productions.specs.Operations.{is_operation_type}
 use Rattle.graphql_productions.specs.TypeSystem.{Described, described, description, directive_body, expecting, extended, extension, extension_body, is_described, is_description, keyword, location, no_described, schema_body, schema_extension_body, system_definition, type_body}
-use Rattle.graphql_round_trip.specs.Nesting.{definition_nesting, document_nesting}
+use Rattle.graphql_round_trip.specs.Nesting.{definition_nesting, document_nesting, parts_nesting}
 use Rattle.graphql_round_trip.proofs.FitLaws.{Fits, Keeps, branch_keeps, choose_keeps, filtered_keeps, located_keeps, mapped_keeps, node_keeps, nothing_keeps, seq_keeps, unasked}
 use Rattle.graphql_round_trip.proofs.FitOperations.{fragment_fits, operation_fits, shorthand_fits}
-use Rattle.graphql_round_trip.proofs.FitTypeSystem.{input_values_fit, parts_fit, parts_nesting, roots_fit, schema_parts_fit}
+use Rattle.graphql_round_trip.proofs.FitTypeSystem.{input_values_fit, parts_fit, roots_fit, schema_parts_fit}
 use Rattle.graphql_round_trip.proofs.FitValues.{directives_fit}
 
 -- ---- definitions of the type system
@@ -31,13 +31,10 @@ DescribedFits depth f = (description : Option NameView) (location : Option Sourc
 
 -- the definition of a type nests as deep as its parts
 type_definition_fits : (kind : TypeKind) (description : Option NameView) (name : NameView) (parts : Parts) (location : Option SourceSpan) (depth : ℕ)
-    → parts_nesting parts ≤ depth → definition_nesting (type_definition kind description name parts location) ≤ depth
-type_definition_fits t.Scalar description name parts location depth fits = omega (arith, fits)
-type_definition_fits t.Object description name parts location depth fits = omega (arith, fits)
-type_definition_fits t.Interface description name parts location depth fits = omega (arith, fits)
-type_definition_fits t.Union description name parts location depth fits = omega (arith, fits)
-type_definition_fits t.Enum description name parts location depth fits = omega (arith, fits)
-type_definition_fits t.InputObject description name parts location depth fits = omega (arith, fits)
+    → parts_nesting kind parts ≤ depth
+    → definition_nesting (type_definition kind description name parts location) ≤ depth
+type_definition_fits t.Scalar description name parts location depth fits = fits
+type_definition_fits kind description name parts location depth fits = fits
 
 type_body_fits : (file : FileId) (kind : TypeKind) (depth : ℕ) → Keeps (type_body file kind depth) (DescribedFits depth)
 unfolding type_body
@@ -81,13 +78,9 @@ ExtendedFits depth f = (location : Option SourceSpan) → definition_nesting (f 
 
 -- the extension of a type nests as deep as its parts
 type_extension_fits : (kind : TypeKind) (name : NameView) (parts : Parts) (location : Option SourceSpan) (depth : ℕ)
-    → parts_nesting parts ≤ depth → definition_nesting (type_extension kind name parts location) ≤ depth
-type_extension_fits t.Scalar name parts location depth fits = omega (arith, fits)
-type_extension_fits t.Object name parts location depth fits = omega (arith, fits)
-type_extension_fits t.Interface name parts location depth fits = omega (arith, fits)
-type_extension_fits t.Union name parts location depth fits = omega (arith, fits)
-type_extension_fits t.Enum name parts location depth fits = omega (arith, fits)
-type_extension_fits t.InputObject name parts location depth fits = omega (arith, fits)
+    → parts_nesting kind parts ≤ depth → definition_nesting (type_extension kind name parts location) ≤ depth
+type_extension_fits t.Scalar name parts location depth fits = fits
+type_extension_fits kind name parts location depth fits = fits
 
 extension_body_fits : (file : FileId) (kind : TypeKind) (depth : ℕ) → Keeps (extension_body file kind depth) (ExtendedFits depth)
 unfolding extension_body
@@ -98,7 +91,8 @@ extension_body_fits file kind depth =
 schema_extension_fits : (file : FileId) (depth : ℕ) → Keeps (schema_extension_body file depth) (ExtendedFits depth)
 unfolding schema_extension_body
 schema_extension_fits file depth =
-    mapped_keeps (seq_keeps (unasked (sign k.Schema)) (filtered_keeps (expecting i.ExtensionPart) (schema_parts_fit file depth))) (λ x fits location. omega (arith, fits.1))
+    mapped_keeps (seq_keeps (unasked (sign k.Schema)) (filtered_keeps (expecting i.ExtensionPart)
+    (schema_parts_fit file depth))) (λ x fits location. fits.1)
 
 extended_fits : (file : FileId) (depth : ℕ) → Keeps (extended file depth) (ExtendedFits depth)
 extended_fits file depth =

@@ -1,10 +1,8 @@
 -- What definitions and extensions of the type system hold nests at most so deep as it may be spelled.
-use Rattle.std.proofs.Common.{◌≤◌, ℕ, true, [], ◌∷◌, None, arith}
+use Rattle.std.proofs.Common.{◌≤◌, ℕ, true, None, arith}
 use Rattle.graphql_nodes.specs.declared.source.FileId.{FileId}
 use Rattle.graphql_nodes.specs.declared.type_kind.TypeKind.{TypeKind}
 use Rattle.graphql_nodes.specs.declared.type_kind.TypeKind.TheVariants as t
-use Rattle.graphql_ast.specs.Parts.{directive_list}
-use Rattle.graphql_ast.specs.declared.parts.Parts.{Parts}
 use Rattle.graphql_grammar.specs.declared.fault.Item.TheVariants as i
 use Rattle.graphql_grammar.specs.declared.kind.Kind.{Kind}
 use Rattle.graphql_grammar.specs.declared.kind.Kind.TheVariants as k
@@ -13,7 +11,7 @@ use Rattle.graphql_productions.specs.Directives.{directives}
 use Rattle.graphql_productions.specs.Nodes.{name}
 use Rattle.graphql_productions.specs.Operations.{no_root}
 use Rattle.graphql_productions.specs.TypeSystem.{description, enum_value_definition, enum_value_name, enum_value_node, enum_values, expecting, field_definition, field_node, fielded, fields, input_node, input_value, input_values, names_behind, no_enum_value, optional_roots, parts, root, roots, schema_parts}
-use Rattle.graphql_round_trip.specs.Nesting.{between, directives_nesting, enum_value_nesting, field_nesting, greatest, input_nesting}
+use Rattle.graphql_round_trip.specs.Nesting.{between, directives_nesting, enum_value_nesting, field_nesting, input_nesting, parts_nesting, schema_nesting}
 use Rattle.graphql_round_trip.proofs.FitLaws.{Fits, enclosed_fits, implied_keeps, item_keeps, list_fits, mapped_keeps, node_keeps, seq_keeps, unasked}
 use Rattle.graphql_round_trip.proofs.FitOperations.{typed_fits}
 use Rattle.graphql_round_trip.proofs.FitValues.{directives_fit, type_fits}
@@ -65,27 +63,27 @@ roots_fit file depth = enclosed_fits k.LeftBrace k.RightBrace no_root depth (λ 
 
 -- ---- what stands behind a name
 
--- how deep nests what a definition or extension of any kind holds
-abbrev pub parts_nesting : Parts → ℕ
-parts_nesting p =
-    greatest (directives_nesting (directive_list p) ∷ between field_nesting p.fields ∷ between enum_value_nesting p.values ∷ between input_nesting p.input_fields ∷ between (λ _. 0) p.roots ∷ [])
-
-fielded_fits : (file : FileId) (depth : ℕ) → Fits (fielded file depth) parts_nesting depth
+fielded_fits : (file : FileId) (depth : ℕ) → Fits (fielded file depth) (parts_nesting t.Object) depth
 unfolding fielded
 fielded_fits file depth =
     mapped_keeps (seq_keeps (unasked (names_behind file k.Implements k.Ampersand)) (seq_keeps (directives_fit file true depth) (fields_fit file depth))) (λ x fits. omega (arith, fits.1.0, fits.1.1))
 
 -- what stands behind the name of a type of this kind
-pub parts_fit : (file : FileId) (kind : TypeKind) (depth : ℕ) → Fits (parts file kind depth) parts_nesting depth
+pub parts_fit : (file : FileId) (kind : TypeKind) (depth : ℕ)
+    → Fits (parts file kind depth) (parts_nesting kind) depth
 unfolding parts
-parts_fit file t.Scalar depth = mapped_keeps (directives_fit file true depth) (λ x fits. omega (arith, fits))
+parts_fit file t.Scalar depth = mapped_keeps (directives_fit file true depth) (λ x fits. fits)
 parts_fit file t.Object depth = fielded_fits file depth
 parts_fit file t.Interface depth = fielded_fits file depth
-parts_fit file t.Union depth = mapped_keeps (seq_keeps (directives_fit file true depth) (unasked (names_behind file k.Equals k.Pipe))) (λ x fits. omega (arith, fits.0))
+parts_fit file t.Union depth =
+    mapped_keeps (seq_keeps (directives_fit file true depth) (unasked (names_behind file k.Equals k.Pipe)))
+    (λ x fits. fits.0)
 parts_fit file t.Enum depth = mapped_keeps (seq_keeps (directives_fit file true depth) (enum_values_fit file depth)) (λ x fits. omega (arith, fits.0, fits.1))
 parts_fit file t.InputObject depth =
     mapped_keeps (seq_keeps (directives_fit file true depth) (input_values_fit file k.LeftBrace k.RightBrace depth)) (λ x fits. omega (arith, fits.0, fits.1))
 
 -- what an extension of the schema holds
-pub schema_parts_fit : (file : FileId) (depth : ℕ) → Fits (mapped schema_parts (seq (directives file true depth) (optional_roots file depth))) parts_nesting depth
+pub schema_parts_fit : (file : FileId) (depth : ℕ)
+    → Fits (mapped schema_parts (seq (directives file true depth) (optional_roots file depth)))
+    schema_nesting depth
 schema_parts_fit file depth = mapped_keeps (seq_keeps (directives_fit file true depth) (list_fits (λ _. 0) (roots_fit file depth))) (λ x fits. omega (arith, fits.0, fits.1))

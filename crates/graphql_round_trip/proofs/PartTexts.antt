@@ -17,16 +17,15 @@ use Rattle.graphql_grammar.specs.declared.fault.FaultKind.TheVariants.{Expected}
 use Rattle.graphql_grammar.specs.declared.fault.Item.TheVariants as i
 use Rattle.graphql_grammar.specs.declared.kind.Kind.{Kind}
 use Rattle.graphql_grammar.specs.declared.kind.Kind.TheVariants as k
-use Rattle.graphql_productions.specs.DefinitionTreeParts.{enum_values_parts, fields_parts, input_values_parts, names_parts}
+use Rattle.graphql_productions.specs.DefinitionTreeParts.{body_parts, enum_values_parts, fields_parts, input_values_parts, names_parts}
 use Rattle.graphql_productions.specs.Nodes.{behind, name}
 use Rattle.graphql_productions.specs.TreeParts.{directives_parts}
 use Rattle.graphql_productions.specs.TypeSystem.{enum_parts, fielded, fielded_parts, input_parts, names_behind, names_body, parts, scalar_parts, union_parts}
 use Rattle.graphql_productions.specs.WellFormed.{IsWellFormed}
-use Rattle.graphql_productions.proofs.PartsOfTypeSystem.{body_parts}
 use Rattle.graphql_printing.specs.Layout.{braces, enclosed, separated}
 use Rattle.graphql_printing.specs.Texts.{directives_text}
 use Rattle.graphql_printing.specs.TypeSystem.{behind_name, enum_value_text, field_definition_text, fielded_text, input_value_text, interfaces_text, members_text, name_text}
-use Rattle.graphql_round_trip.specs.Nesting.{between, body_nesting, directives_nesting, enum_value_nesting, field_nesting, input_nesting}
+use Rattle.graphql_round_trip.specs.Nesting.{between, body_nesting, directives_nesting, enum_value_nesting, field_nesting, input_nesting, parts_nesting}
 use Rattle.graphql_round_trip.specs.Printed.{Prints, ends_token}
 use Rattle.graphql_round_trip.proofs.BraceTexts.{braces_apart, enclosed_apart}
 use Rattle.graphql_round_trip.proofs.DirectiveTexts.{directives_print}
@@ -42,15 +41,6 @@ use Rattle.graphql_round_trip.proofs.PieceTexts.{behind_blank, mapped_text, seq_
 use Rattle.graphql_round_trip.proofs.SeparatedTexts.{separated_prints}
 use Rattle.graphql_round_trip.proofs.StandingApart.{IsApart, apart_joined, directives_apart}
 use Rattle.graphql_round_trip.proofs.TokenTexts.{ampersand_is_token, equals_is_token, pipe_is_token}
-
--- how deep they nest
-abbrev pub parts_nesting : TypeKind → Parts → ℕ
-parts_nesting t.Scalar p = directives_nesting (directive_list p)
-parts_nesting t.Object p = body_nesting (directive_list p) field_nesting p.fields
-parts_nesting t.Interface p = body_nesting (directive_list p) field_nesting p.fields
-parts_nesting t.Union p = directives_nesting (directive_list p)
-parts_nesting t.Enum p = body_nesting (directive_list p) enum_value_nesting p.values
-parts_nesting t.InputObject p = body_nesting (directive_list p) input_nesting p.input_fields
 
 -- ---- interfaces and members
 

@@ -46,7 +46,8 @@ shape_apart : (directives : DirectiveList) (roots : List (NodeView (OperationTyp
 shape_apart directives roots = apart_joined (directives_text directives.0) (roots_text roots) (directives_apart directives.0) (braces_apart root_text roots)
 
 -- the schema begins with its keyword
-pub schema_heads : (directives : DirectiveList) (roots : List (NodeView (OperationType × NameView))) → Heads (only k.Schema) (schema_shape directives roots) ends_token
+pub schema_heads : (directives : DirectiveList) (roots : List (NodeView (OperationType × NameView))) →
+    Heads (only k.Schema) (schema_shape (schema_parts (directives, roots))) ends_token
 schema_heads directives roots =
     subst (λ (text : List ℕ). Heads (only k.Schema) text ends_token) (grouped3 (codes "schema") (directives_text directives.0) (roots_text roots))
     (heads_on (directives_text directives.0 ++ roots_text roots) ends_token (keyword_heads k.Schema (codes "schema") refl refl) (shape_apart directives roots))
@@ -57,13 +58,15 @@ bare_schema_of directives roots description = schema_definition description (bar
 
 schema_body_prints : (file : FileId) (depth : ℕ) (directives : DirectiveList) (roots : List (NodeView (OperationType × NameView)))
     → IsWellFormed (directives_parts true directives ++ wanted_parts (node_parts root_parts) roots) → body_nesting directives (λ _. 0) roots ≤ depth →
-    Prints (schema_body file depth) described_seen (bare_described (bare_schema_of directives roots)) (schema_shape directives roots) ends_token
+    Prints (schema_body file depth) described_seen (bare_described (bare_schema_of directives roots))
+    (schema_shape (schema_parts (directives, roots))) ends_token
 unfolding schema_body
 schema_body_prints file depth directives [] well fits = let wanted = (part_of_front (directives_parts true directives) (wanted_parts (node_parts root_parts) []) well).1.0 in absurd cc
 schema_body_prints file depth directives (r ∷ roots) well fits =
     let both = part_of_front (directives_parts true directives) (wanted_parts (node_parts root_parts) (r ∷ roots)) well in
     let fit = body_fits directives (λ _. 0) (r ∷ roots) depth fits in
-    regrouped _ (schema_shape directives (r ∷ roots)) (grouped3 (codes "schema") (directives_text directives.0) (roots_text (r ∷ roots)))
+    regrouped _ (schema_shape (schema_parts (directives, r ∷ roots))) (grouped3 (codes "schema")
+    (directives_text directives.0) (roots_text (r ∷ roots)))
     (mapped_text schema_of described_seen (bare_described (bare_schema_of directives (r ∷ roots)))
     (λ x same. ap (λ (y : Unit {0} × (DirectiveList × List (NodeView (OperationType × NameView)))). λ description location. schema_definition (option_map bare_name description) (schema_parts y.1) None) same)
     (seq_text (keyword_prints k.Schema (codes "schema") refl refl)
@@ -73,7 +76,8 @@ schema_body_prints file depth directives (r ∷ roots) well fits =
 -- the definition of the schema, behind its description
 pub schema_definition_prints : (file : FileId) (depth : ℕ) (directives : DirectiveList) (roots : List (NodeView (OperationType × NameView)))
     → IsWellFormed (directives_parts true directives ++ wanted_parts (node_parts root_parts) roots) → body_nesting directives (λ _. 0) roots ≤ depth →
-    Prints (described file depth) described_seen (bare_described (bare_schema_of directives roots)) (schema_shape directives roots) ends_token
+    Prints (described file depth) described_seen (bare_described (bare_schema_of directives roots))
+    (schema_shape (schema_parts (directives, roots))) ends_token
 schema_definition_prints file depth directives roots well fits = branch_at (described_pick file depth) no_described k.Schema (schema_heads directives roots) (schema_body_prints file depth directives roots well fits)
 
 -- an extension of the schema without locations
@@ -82,13 +86,16 @@ bare_schema_extension_of directives roots = schema_extension (bare_parts (schema
 
 schema_extension_body_prints : (file : FileId) (depth : ℕ) (directives : DirectiveList) (roots : List (NodeView (OperationType × NameView)))
     → IsWellFormed (directives_parts true directives ++ flat_map (node_parts root_parts) roots) → body_nesting directives (λ _. 0) roots ≤ depth → not (is_none directives.0 && is_none roots) ≡ true →
-    Prints (schema_extension_body file depth) extended_seen (bare_extended (bare_schema_extension_of directives roots)) (schema_shape directives roots) ends_token
+    Prints (schema_extension_body file depth) extended_seen
+    (bare_extended (bare_schema_extension_of directives roots))
+    (schema_shape (schema_parts (directives, roots))) ends_token
 unfolding schema_extension_body
 schema_extension_body_prints file depth directives roots well fits some =
     let both = part_of_front (directives_parts true directives) (flat_map (node_parts root_parts) roots) well in
     let fit = body_fits directives (λ _. 0) roots depth fits in
     let parts : Parts = schema_parts (directives, roots) in
-    regrouped _ (schema_shape directives roots) (grouped3 (codes "schema") (directives_text directives.0) (roots_text roots))
+    regrouped _ (schema_shape (schema_parts (directives, roots))) (grouped3 (codes "schema")
+    (directives_text directives.0) (roots_text roots))
     (mapped_text schema_extension_of extended_seen (bare_extended (bare_schema_extension_of directives roots))
     (λ x same. ap (λ (y : Unit {0} × Parts). λ location. schema_extension y.1 None) same)
     (seq_text (keyword_prints k.Schema (codes "schema") refl refl)
@@ -100,6 +107,7 @@ schema_extension_body_prints file depth directives roots well fits some =
 -- an extension of the schema, behind `extend`
 pub schema_extension_prints : (file : FileId) (depth : ℕ) (directives : DirectiveList) (roots : List (NodeView (OperationType × NameView)))
     → IsWellFormed (directives_parts true directives ++ flat_map (node_parts root_parts) roots) → body_nesting directives (λ _. 0) roots ≤ depth → not (is_none directives.0 && is_none roots) ≡ true →
-    Prints (extended file depth) extended_seen (bare_extended (bare_schema_extension_of directives roots)) (schema_shape directives roots) ends_token
+    Prints (extended file depth) extended_seen (bare_extended (bare_schema_extension_of directives roots))
+    (schema_shape (schema_parts (directives, roots))) ends_token
 schema_extension_prints file depth directives roots well fits some =
     branch_at (extended_pick file depth) (expecting i.Extended) k.Schema (schema_heads directives roots) (schema_extension_body_prints file depth directives roots well fits some)

@@ -20,16 +20,17 @@ use Rattle.graphql_grammar.specs.declared.fault.Item.TheVariants as i
 use Rattle.graphql_grammar.specs.Kinds.{only}
 use Rattle.graphql_grammar.specs.Pieces.{Piece}
 use Rattle.graphql_grammar.specs.WordsOfText.{name_kind}
+use Rattle.graphql_productions.specs.DefinitionTreeParts.{body_parts, is_directives}
 use Rattle.graphql_productions.specs.TypeSystem.{Described, described, described_pick, expecting, extended, extended_pick, extension_body, extension_of, has_part, is_described, is_none, keyword, no_described, type_body, type_of}
 use Rattle.graphql_productions.specs.WellFormed.{IsWellFormed}
-use Rattle.graphql_productions.proofs.PartsOfTypeSystem.{body_parts, is_directives}
 use Rattle.graphql_printing.specs.TypeSystem.{behind_name, keyword_text, type_shape}
+use Rattle.graphql_round_trip.specs.Nesting.{parts_nesting}
 use Rattle.graphql_round_trip.specs.Printed.{Heads, Prints, ends_token}
 use Rattle.graphql_round_trip.proofs.DescribedTexts.{bare_described, bare_extended, described_seen, extended_seen}
 use Rattle.graphql_round_trip.proofs.Grouping.{grouped3, grouped4, regrouped}
 use Rattle.graphql_round_trip.proofs.KeywordTexts.{keyword_before, keyword_heads}
 use Rattle.graphql_round_trip.proofs.NodeTexts.{name_prints}
-use Rattle.graphql_round_trip.proofs.PartTexts.{behind_name_apart, parts_nesting, parts_print}
+use Rattle.graphql_round_trip.proofs.PartTexts.{behind_name_apart, parts_print}
 use Rattle.graphql_round_trip.proofs.PieceTexts.{branch_at, filtered_text, heads_on, mapped_text, seq_text}
 use Rattle.graphql_round_trip.proofs.TokenTexts.{names}
 
@@ -37,28 +38,16 @@ use Rattle.graphql_round_trip.proofs.TokenTexts.{names}
 
 keyword_is_name : (kind : TypeKind) → names (keyword_text kind) ≡ true
 keyword_is_name t.Scalar = refl
-keyword_is_name t.Object = refl
-keyword_is_name t.Interface = refl
-keyword_is_name t.Union = refl
-keyword_is_name t.Enum = refl
-keyword_is_name t.InputObject = refl
+keyword_is_name kind = refl
 
 keyword_is_own : (kind : TypeKind) → only (keyword kind) (name_kind (keyword_text kind)) ≡ true
 keyword_is_own t.Scalar = refl
-keyword_is_own t.Object = refl
-keyword_is_own t.Interface = refl
-keyword_is_own t.Union = refl
-keyword_is_own t.Enum = refl
-keyword_is_own t.InputObject = refl
+keyword_is_own kind = refl
 
 -- it is one that a description may stand before
 pub keyword_is_described : (kind : TypeKind) → is_described (keyword kind) ≡ true
 keyword_is_described t.Scalar = refl
-keyword_is_described t.Object = refl
-keyword_is_described t.Interface = refl
-keyword_is_described t.Union = refl
-keyword_is_described t.Enum = refl
-keyword_is_described t.InputObject = refl
+keyword_is_described kind = refl
 
 -- a type begins with the keyword of its kind
 pub type_heads : (kind : TypeKind) (name : NameView) (p : Parts) → Heads (only (keyword kind)) (type_shape kind name p) ends_token
@@ -72,24 +61,23 @@ type_heads kind name p =
 bare_type_definition : (kind : TypeKind) (description : Option NameView) (name : NameView) (p : Parts) (location : Option SourceSpan) →
     bare_definition (type_definition kind description name p location) ≡ type_definition kind (option_map bare_name description) (bare_name name) (bare_parts p) None
 bare_type_definition t.Scalar description name p location = refl
-bare_type_definition t.Object description name p location = refl
-bare_type_definition t.Interface description name p location = refl
-bare_type_definition t.Union description name p location = refl
-bare_type_definition t.Enum description name p location = refl
-bare_type_definition t.InputObject description name p location = refl
+bare_type_definition kind description name p location = refl
 
 -- the keyword of a kind tells it apart
 type_picked : (file : FileId) (depth : ℕ) (kind : TypeKind) → described_pick file depth (keyword kind) ≡ type_body file kind depth
 type_picked file depth t.Scalar = refl
-type_picked file depth t.Object = refl
-type_picked file depth t.Interface = refl
-type_picked file depth t.Union = refl
-type_picked file depth t.Enum = refl
-type_picked file depth t.InputObject = refl
+type_picked file depth kind = refl
 
 -- the definition of a type without locations, for its description
 abbrev pub bare_type_of : TypeKind → NameView → Parts → Option NameView → Definition
-bare_type_of kind name p description = type_definition kind description (bare_name name) (bare_parts (of_type kind p)) None
+bare_type_of kind name p description = type_definition kind description (bare_name name) (bare_parts p) None
+
+-- parts that the kind hasn't are left out
+defined_of_kind : (kind : TypeKind) (description : Option NameView) (name : NameView) (p : Parts)
+    → type_definition kind description name (bare_parts (of_type kind p)) None
+    ≡ type_definition kind description name (bare_parts p) None
+defined_of_kind t.Scalar description name p = refl
+defined_of_kind kind description name p = refl
 
 module _ (file : FileId) (depth : ℕ) (kind : TypeKind) (name : NameView) (p : Parts) (named : IsName name.text) (well : IsWellFormed (body_parts kind p))
     (fits : parts_nesting kind p ≤ depth) where
@@ -100,7 +88,9 @@ module _ (file : FileId) (depth : ℕ) (kind : TypeKind) (name : NameView) (p : 
       (mapped_text (type_of kind) described_seen (bare_described (bare_type_of kind name p))
       (λ x same. fun_ext (λ description. fun_ext (λ location.
       bare_type_definition kind description x.1.0 x.1.1 location
-      ∙ ap (λ (y : Unit {0} × (NameView × Parts)). type_definition kind (option_map bare_name description) y.1.0 y.1.1 None) same)))
+      ∙ ap (λ (y : Unit {0} × (NameView × Parts)). type_definition kind (option_map bare_name description)
+      y.1.0 y.1.1 None) same
+      ∙ defined_of_kind kind (option_map bare_name description) (bare_name name) p)))
       (seq_text (keyword_before (keyword kind) (keyword_text kind) (keyword_is_name kind) (keyword_is_own kind))
       (seq_text (name_prints file name named) (parts_print file depth kind p well fits) (behind_name_apart kind p))
       (λ rest _. refl)))
@@ -117,19 +107,11 @@ module _ (file : FileId) (depth : ℕ) (kind : TypeKind) (name : NameView) (p : 
 bare_type_extension : (kind : TypeKind) (name : NameView) (p : Parts) (location : Option SourceSpan) →
     bare_definition (type_extension kind name p location) ≡ type_extension kind (bare_name name) (bare_parts p) None
 bare_type_extension t.Scalar name p location = refl
-bare_type_extension t.Object name p location = refl
-bare_type_extension t.Interface name p location = refl
-bare_type_extension t.Union name p location = refl
-bare_type_extension t.Enum name p location = refl
-bare_type_extension t.InputObject name p location = refl
+bare_type_extension kind name p location = refl
 
 extension_picked : (file : FileId) (depth : ℕ) (kind : TypeKind) → extended_pick file depth (keyword kind) ≡ extension_body file kind depth
 extension_picked file depth t.Scalar = refl
-extension_picked file depth t.Object = refl
-extension_picked file depth t.Interface = refl
-extension_picked file depth t.Union = refl
-extension_picked file depth t.Enum = refl
-extension_picked file depth t.InputObject = refl
+extension_picked file depth kind = refl
 
 -- whether there is a part is seen without locations
 none_seen : {A B : Type 0} (see : A → B) (xs : List A) → is_none (map see xs) ≡ is_none xs
@@ -155,7 +137,13 @@ passes_as_seen p q has same = sym (has_part_seen p) ∙ ap has_part same ∙ has
 
 -- the extension of a type without locations
 abbrev pub bare_extension_of : TypeKind → NameView → Parts → Definition
-bare_extension_of kind name p = type_extension kind (bare_name name) (bare_parts (of_type kind p)) None
+bare_extension_of kind name p = type_extension kind (bare_name name) (bare_parts p) None
+
+extended_of_kind : (kind : TypeKind) (name : NameView) (p : Parts)
+    → type_extension kind name (bare_parts (of_type kind p)) None
+    ≡ type_extension kind name (bare_parts p) None
+extended_of_kind t.Scalar name p = refl
+extended_of_kind kind name p = refl
 
 module _ (file : FileId) (depth : ℕ) (kind : TypeKind) (name : NameView) (p : Parts) (named : IsName name.text) (well : IsWellFormed (body_parts kind p))
     (fits : parts_nesting kind p ≤ depth) (some : not (is_none p.directives && is_directives kind p) ≡ true) where
@@ -166,7 +154,8 @@ module _ (file : FileId) (depth : ℕ) (kind : TypeKind) (name : NameView) (p : 
       (mapped_text (extension_of kind) extended_seen (bare_extended (bare_extension_of kind name p))
       (λ x same. fun_ext (λ location.
       bare_type_extension kind x.1.0 x.1.1 location
-      ∙ ap (λ (y : Unit {0} × (NameView × Parts)). type_extension kind y.1.0 y.1.1 None) same))
+      ∙ ap (λ (y : Unit {0} × (NameView × Parts)). type_extension kind y.1.0 y.1.1 None) same
+      ∙ extended_of_kind kind (bare_name name) p))
       (seq_text (keyword_before (keyword kind) (keyword_text kind) (keyword_is_name kind) (keyword_is_own kind))
       (seq_text (name_prints file name named)
       (filtered_text has_part (expecting i.ExtensionPart) (λ q same. passes_as_seen q (of_type kind p) (own_part kind p ∙ some) same) (parts_print file depth kind p well fits))

@@ -2,14 +2,19 @@
 -- GraphQL specification of October 2021, sections 2 and 3.
 use Rattle.std.specs.Prelude.{ℕ, suc, max, List, [], ◌∷◌, map, Option, None, Some}
 use Rattle.graphql_nodes.specs.NodeView.{NodeView}
+use Rattle.graphql_nodes.specs.declared.type_kind.TypeKind.{TypeKind}
+use Rattle.graphql_nodes.specs.declared.type_kind.TypeKind.TheVariants as t
+use Rattle.graphql_ast.specs.Declarations.{Declaration, OfType, OfSchema, OfDirective, OfOperation}
+use Rattle.graphql_ast.specs.Declarations.{OfFragment, declaration_of}
+use Rattle.graphql_ast.specs.Parts.{directive_list}
 use Rattle.graphql_ast.specs.declared.definition.Definition.{Definition}
-use Rattle.graphql_ast.specs.declared.definition.Definition.TheVariants as d
 use Rattle.graphql_ast.specs.declared.directive.Argument.{Argument}
 use Rattle.graphql_ast.specs.declared.directive.Directive.{Directive}
 use Rattle.graphql_ast.specs.declared.directive.DirectiveList.{DirectiveList}
 use Rattle.graphql_ast.specs.declared.operation.FragmentDefinition.{FragmentDefinition}
 use Rattle.graphql_ast.specs.declared.operation.OperationDefinition.{OperationDefinition}
 use Rattle.graphql_ast.specs.declared.operation.VariableDefinition.{VariableDefinition}
+use Rattle.graphql_ast.specs.declared.parts.Parts.{Parts}
 use Rattle.graphql_ast.specs.declared.selection.Selection.{Selection, fold-Selection}
 use Rattle.graphql_ast.specs.declared.selection.Selection.TheOpen.{Field-F, InlineFragment-F, Selection-F}
 use Rattle.graphql_ast.specs.declared.type_reference.Type.{«Type» as TypeReference, fold-Type}
@@ -140,29 +145,30 @@ enum_value_nesting v = directives_nesting v.value.directives
 abbrev pub body_nesting : {A : Type 0} → DirectiveList → (A → ℕ) → List A → ℕ
 body_nesting directives nesting xs = greatest (directives_nesting directives ∷ between nesting xs ∷ [])
 
--- of a definition or extension of any sort: section 2.2
+-- of what stands behind the name of a type of this kind
+abbrev pub parts_nesting : TypeKind → Parts → ℕ
+parts_nesting t.Scalar p = directives_nesting (directive_list p)
+parts_nesting t.Object p = body_nesting (directive_list p) field_nesting p.fields
+parts_nesting t.Interface p = body_nesting (directive_list p) field_nesting p.fields
+parts_nesting t.Union p = directives_nesting (directive_list p)
+parts_nesting t.Enum p = body_nesting (directive_list p) enum_value_nesting p.values
+parts_nesting t.InputObject p = body_nesting (directive_list p) input_nesting p.input_fields
+
+-- of what stands in a definition or extension of the schema
+abbrev pub schema_nesting : Parts → ℕ
+schema_nesting p = body_nesting (directive_list p) (λ _. 0) p.roots
+
+-- of what says this: section 2.2
+abbrev pub declaration_nesting : Declaration → ℕ
+declaration_nesting (OfOperation n) = operation_nesting n.value
+declaration_nesting (OfFragment n) = fragment_nesting n.value
+declaration_nesting (OfDirective n) = between input_nesting n.value.arguments
+declaration_nesting (OfSchema s) = schema_nesting s.parts
+declaration_nesting (OfType t) = parts_nesting t.kind t.parts
+
+-- of a definition or extension of any sort
 abbrev pub definition_nesting : Definition → ℕ
-definition_nesting (d.OperationDefinition n) = operation_nesting n.value
-definition_nesting (d.FragmentDefinition n) = fragment_nesting n.value
-definition_nesting (d.DirectiveDefinition n) = between input_nesting n.value.arguments
-definition_nesting (d.SchemaDefinition n) = body_nesting n.value.directives (λ _. 0) n.value.root_operations
-definition_nesting (d.ScalarTypeDefinition n) = directives_nesting n.value.directives
-definition_nesting (d.ObjectTypeDefinition n) = body_nesting n.value.directives field_nesting n.value.fields
-definition_nesting (d.InterfaceTypeDefinition n) =
-    body_nesting n.value.directives field_nesting n.value.fields
-definition_nesting (d.UnionTypeDefinition n) = directives_nesting n.value.directives
-definition_nesting (d.EnumTypeDefinition n) =
-    body_nesting n.value.directives enum_value_nesting n.value.values
-definition_nesting (d.InputObjectTypeDefinition n) =
-    body_nesting n.value.directives input_nesting n.value.fields
-definition_nesting (d.SchemaExtension n) = body_nesting n.value.directives (λ _. 0) n.value.root_operations
-definition_nesting (d.ScalarTypeExtension n) = directives_nesting n.value.directives
-definition_nesting (d.ObjectTypeExtension n) = body_nesting n.value.directives field_nesting n.value.fields
-definition_nesting (d.InterfaceTypeExtension n) = body_nesting n.value.directives field_nesting n.value.fields
-definition_nesting (d.UnionTypeExtension n) = directives_nesting n.value.directives
-definition_nesting (d.EnumTypeExtension n) = body_nesting n.value.directives enum_value_nesting n.value.values
-definition_nesting (d.InputObjectTypeExtension n) =
-    body_nesting n.value.directives input_nesting n.value.fields
+definition_nesting x = declaration_nesting (declaration_of x)
 
 -- of definitions one after the other
 abbrev pub document_nesting : List Definition → ℕ
