@@ -10,8 +10,8 @@ use Rattle.graphql_nodes.specs.Tables.{values_of}
 use Rattle.graphql_nodes.specs.declared.operation_type.OperationType.{OperationType}
 use Rattle.graphql_nodes.specs.declared.operation_type.OperationType.TheVariants.{Mutation, Query, Subscription}
 use Rattle.graphql_nodes.specs.declared.type_kind.TypeKind.TheVariants as k
-use Rattle.graphql_ast.specs.declared.definition_parts.DefinitionPart.{DefinitionPart}
-use Rattle.graphql_ast.specs.declared.definition_parts.DefinitionPart.TheVariants as p
+use Rattle.graphql_ast.specs.declared.parts.Part.{Part}
+use Rattle.graphql_ast.specs.declared.parts.Part.TheVariants as p
 use Rattle.graphql_ast.specs.declared.directive.Directive.{Directive}
 use Rattle.graphql_ast.specs.declared.type_system.FieldDefinition.{FieldDefinition}
 use Rattle.graphql_productions.specs.DefinitionTreeParts.{enum_value_parts, field_parts, input_value_parts, root_parts}
@@ -45,7 +45,7 @@ each-made P Q make each sort ps a =
     (each-weaken (λ s. AllByRecursion Q (sort s.1)) (λ s. AllByRecursion P (map (make s.0) (sort s.1)))
     (λ s h. each-map P (make s.0) (sort s.1) (each-weaken Q (λ x. P (make s.0 x)) (each s.0) (sort s.1) h)) ps a)
 
-module _ (is_there : DefinitionPart → Bool) where
+module _ (is_there : Part → Bool) where
   -- each of these components is well-formed and may be there
   abbrev AreSuited : List SourcedPart → Type 0
   AreSuited cs = AllByRecursion (λ c. Suits is_there c.1) cs
@@ -65,7 +65,7 @@ module _ (is_there : DefinitionPart → Bool) where
       (each-made (λ (c : ComponentName). Suits is_there (p.Name c.name)) (λ n. IsWellFormed (name_parts n)) component_name (λ o n h. (h, there n)) of ps a))
 
   -- fields, enum values or input fields, each under its name
-  entries : {T : Type 0} (Q : NodeView T → Type 0) (entry : ComponentOrigin → NodeView T → NameView × Component T) (part : NodeView T → DefinitionPart)
+  entries : {T : Type 0} (Q : NodeView T → Type 0) (entry : ComponentOrigin → NodeView T → NameView × Component T) (part : NodeView T → Part)
       → ((o : ComponentOrigin) (n : NodeView T) → Q n → Suits is_there (part (entry o n).1.node)) → (of : TypePart → List (NodeView T)) (ps : List Sourced)
       → AllByRecursion (λ s. AllByRecursion Q (of s.1)) ps → AreSuited (map (sourced part) (values_of (distinct_entries (flat_map (λ s. map (entry s.0) (of s.1)) ps))))
   entries {T} Q entry part each of ps a =
@@ -89,7 +89,7 @@ module _ (ps : List Sourced) (a : AllByRecursion (λ s. IsWellFormedType s.1) ps
   sort P of = each-weaken (λ s. IsWellFormedType s.1) (λ s. P s.1) (λ s h. of s.1 h) ps a
 
   -- the components of a type that may have directives, and then those of one sort or another
-  module _ (is_there : DefinitionPart → Bool) (directive : (n : NodeView Directive) → is_there (p.Directive n) ≡ true) where
+  module _ (is_there : Part → Bool) (directive : (n : NodeView Directive) → is_there (p.Directive n) ≡ true) where
     all_directives : AreSuited is_there (map of_directive (flat_map sourced_directives ps))
     all_directives = directives is_there directive (λ (q : TypePart). q.directives) ps (sort (λ q. EachWellFormed (node_parts (directive_parts true)) q.directives) (λ q h. h.directives))
 
@@ -98,7 +98,7 @@ module _ (ps : List Sourced) (a : AllByRecursion (λ s. IsWellFormedType s.1) ps
     with_names name of each =
         together is_there _ _ all_directives (names is_there name (λ q. of q.body) ps (sort (λ q. EachWellFormed name_parts (of q.body)) (λ q h. each q.body h.body)))
 
-    with_entries : {T : Type 0} (cs : List SourcedPart) → AreSuited is_there cs → (Q : NodeView T → Type 0) (entry : ComponentOrigin → NodeView T → NameView × Component T) (part : NodeView T → DefinitionPart)
+    with_entries : {T : Type 0} (cs : List SourcedPart) → AreSuited is_there cs → (Q : NodeView T → Type 0) (entry : ComponentOrigin → NodeView T → NameView × Component T) (part : NodeView T → Part)
         → ((o : ComponentOrigin) (n : NodeView T) → Q n → Suits is_there (part (entry o n).1.node)) → (of : TypeBody → List (NodeView T)) → ((body : TypeBody) → IsWellFormedBody body → AllByRecursion Q (of body))
         → AreSuited is_there (cs ++ map (sourced part) (values_of (distinct_entries (flat_map (λ s. map (entry s.0) (of s.1.body)) ps))))
     with_entries cs b Q entry part one of each =

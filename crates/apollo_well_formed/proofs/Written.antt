@@ -10,9 +10,10 @@ use Rattle.graphql_nodes.specs.declared.operation_type.OperationType.{OperationT
 use Rattle.graphql_nodes.specs.declared.source.SourceSpan.{SourceSpan}
 use Rattle.graphql_nodes.specs.declared.type_kind.TypeKind.{TypeKind}
 use Rattle.graphql_nodes.specs.declared.type_kind.TypeKind.TheVariants as k
-use Rattle.graphql_ast.specs.DefinitionParts.{as_root, parts_of, schema_definition, schema_extension, type_definition, type_extension}
-use Rattle.graphql_ast.specs.declared.definition_parts.DefinitionPart.{DefinitionPart}
-use Rattle.graphql_ast.specs.declared.definition_parts.DefinitionParts.{DefinitionParts}
+use Rattle.graphql_ast.specs.Declarations.{schema_definition, schema_extension, type_definition, type_extension}
+use Rattle.graphql_ast.specs.Parts.{Directives, Names, Fields, Values, InputFields, Roots, directive_list, of_sort, parts_of}
+use Rattle.graphql_ast.specs.declared.parts.Part.{Part}
+use Rattle.graphql_ast.specs.declared.parts.Parts.{Parts}
 use Rattle.graphql_productions.specs.DefinitionTreeParts.{description_parts, enum_value_parts, field_parts, input_value_parts, root_parts}
 use Rattle.graphql_productions.specs.TreeParts.{TreePart, directive_parts, directives_parts, name_parts, node_parts}
 use Rattle.graphql_productions.specs.TypeSystem.{is_none}
@@ -43,7 +44,7 @@ sources cs = each-first (λ e. is_source cs e ≡ true) same_id (filter_map id_o
     more : (c : SourcedPart) (ds : List SourcedPart) → AllByRecursion (λ e. is_source ds e ≡ true) (filter_map id_of (origins_in ds)) → AllByRecursion (λ e. is_source (c ∷ ds) e ≡ true) (filter_map id_of (origins_in ds))
     more c ds = each-weaken (λ e. is_source ds e ≡ true) (λ e. is_source (c ∷ ds) e ≡ true) (λ e h. or_right (same_origin (Extension e) c.0) (is_source ds e) h) (filter_map id_of (origins_in ds))
 
-    one : (o : ComponentOrigin) (part : DefinitionPart) (ds : List SourcedPart) → AllByRecursion (λ e. is_source ((o, part) ∷ ds) e ≡ true) (filter_map id_of (origins_in ds))
+    one : (o : ComponentOrigin) (part : Part) (ds : List SourcedPart) → AllByRecursion (λ e. is_source ((o, part) ∷ ds) e ≡ true) (filter_map id_of (origins_in ds))
         → AllByRecursion (λ e. is_source ((o, part) ∷ ds) e ≡ true) (cons_option (id_of o) (filter_map id_of (origins_in ds)))
     one Definition part ds rest = rest
     one (Extension e) part ds rest = (ap (λ b. b || is_source ds e) (same_id-itself e), rest)
@@ -52,7 +53,7 @@ sources cs = each-first (λ e. is_source cs e ≡ true) same_id (filter_map id_o
     all [] = tt
     all (c ∷ ds) = one c.0 c.1 ds (more c ds (all ds))
 
-module _ (is_there : DefinitionPart → Bool) (cs : List SourcedPart) (a : AllByRecursion (λ c. Suits is_there c.1) cs) where
+module _ (is_there : Part → Bool) (cs : List SourcedPart) (a : AllByRecursion (λ c. Suits is_there c.1) cs) where
   -- the components of one origin
   alike : (origin : ComponentOrigin) → AllByRecursion (Suits is_there) (map (λ c. c.1) (filter (λ c. same_origin origin c.0) cs))
   alike origin = each-map (Suits is_there) (λ c. c.1) (filter (λ c. same_origin origin c.0) cs) (each-passing (λ c. Suits is_there c.1) (λ c. same_origin origin c.0) cs a)
@@ -60,11 +61,11 @@ module _ (is_there : DefinitionPart → Bool) (cs : List SourcedPart) (a : AllBy
   -- make well-formed parts
   of_one : (origin : ComponentOrigin) → AreWellFormedParts (of_origin origin cs)
   of_one origin =
-      let parts : List DefinitionPart = map (λ c. c.1) (filter (λ c. same_origin origin c.0) cs) in
+      let parts : List Part = map (λ c. c.1) (filter (λ c. same_origin origin c.0) cs) in
       made_of parts (each-weaken (Suits is_there) IsWellFormedComponent (λ c h. h.0) parts (alike origin))
 
   -- and those of an extension that is written say something
-  each_says : (says : DefinitionParts → Bool) → ((c : DefinitionPart) (rest : List DefinitionPart) → is_there c ≡ true → says (parts_of (c ∷ rest)) ≡ true)
+  each_says : (says : Parts → Bool) → ((c : Part) (rest : List Part) → is_there c ≡ true → says (parts_of (c ∷ rest)) ≡ true)
       → AllByRecursion (λ e. AreWellFormedParts e.1 × (says e.1 ≡ true)) (of_extensions cs)
   each_says says one =
       each-map (λ e. AreWellFormedParts e.1 × (says e.1 ≡ true)) (λ e. (e, of_origin (Extension e) cs)) (identities (origins_in cs))
@@ -87,28 +88,28 @@ description None = tt
 description (Some t) = (tt, tt)
 
 -- directives, and what stands behind them
-directed : {A : Type 0} (ps : DefinitionParts) → AreWellFormedParts ps → (parts : A → List TreePart) (xs : List A) → EachWellFormed parts xs → IsWellFormed (directives_parts true ps.directives ++ flat_map parts xs)
-directed ps w parts xs h = join (directives_parts true ps.directives) (flat_map parts xs) (all (node_parts (directive_parts true)) ps.directives.0 w.directives) (all parts xs h)
+directed : {A : Type 0} (ps : Parts) → AreWellFormedParts ps → (parts : A → List TreePart) (xs : List A) → EachWellFormed parts xs → IsWellFormed (directives_parts true (directive_list ps) ++ flat_map parts xs)
+directed ps w parts xs h = join (directives_parts true (directive_list ps)) (flat_map parts xs) (all (node_parts (directive_parts true)) ps.directives (w Directives)) (all parts xs h)
 
-fielded : (ps : DefinitionParts) → AreWellFormedParts ps → IsWellFormed (flat_map name_parts ps.names ++ (directives_parts true ps.directives ++ flat_map (node_parts field_parts) ps.fields))
-fielded ps w = join (flat_map name_parts ps.names) _ (all name_parts ps.names w.names) (directed ps w (node_parts field_parts) ps.fields w.fields)
+fielded : (ps : Parts) → AreWellFormedParts ps → IsWellFormed (flat_map name_parts ps.names ++ (directives_parts true (directive_list ps) ++ flat_map (node_parts field_parts) ps.fields))
+fielded ps w = join (flat_map name_parts ps.names) _ (all name_parts ps.names (w Names)) (directed ps w (node_parts field_parts) ps.fields (w Fields))
 
 module _ (name : NameView) (named : IsName name.text) where
-  definition : (kind : TypeKind) (text : Option NameView) (ps : DefinitionParts) (location : Option SourceSpan) → AreWellFormedParts ps → IsWellFormedDefinition (type_definition kind text name ps location)
-  definition k.Scalar text ps location w = (tt, join (description_parts text) _ (description text) (named, all (node_parts (directive_parts true)) ps.directives.0 w.directives))
+  definition : (kind : TypeKind) (text : Option NameView) (ps : Parts) (location : Option SourceSpan) → AreWellFormedParts ps → IsWellFormedDefinition (type_definition kind text name ps location)
+  definition k.Scalar text ps location w = (tt, join (description_parts text) _ (description text) (named, all (node_parts (directive_parts true)) ps.directives (w Directives)))
   definition k.Object text ps location w = (tt, join (description_parts text) _ (description text) (named, fielded ps w))
   definition k.Interface text ps location w = (tt, join (description_parts text) _ (description text) (named, fielded ps w))
-  definition k.Union text ps location w = (tt, join (description_parts text) _ (description text) (named, directed ps w name_parts ps.names w.names))
-  definition k.Enum text ps location w = (tt, join (description_parts text) _ (description text) (named, directed ps w (node_parts enum_value_parts) ps.values w.values))
-  definition k.InputObject text ps location w = (tt, join (description_parts text) _ (description text) (named, directed ps w (node_parts input_value_parts) ps.input_fields w.input_fields))
+  definition k.Union text ps location w = (tt, join (description_parts text) _ (description text) (named, directed ps w name_parts ps.names (w Names)))
+  definition k.Enum text ps location w = (tt, join (description_parts text) _ (description text) (named, directed ps w (node_parts enum_value_parts) ps.values (w Values)))
+  definition k.InputObject text ps location w = (tt, join (description_parts text) _ (description text) (named, directed ps w (node_parts input_value_parts) ps.input_fields (w InputFields)))
 
-  extension : (kind : TypeKind) (ps : DefinitionParts) (location : Option SourceSpan) → AreWellFormedParts ps → says_of_kind kind ps ≡ true → IsWellFormedDefinition (type_extension kind name ps location)
-  extension k.Scalar ps location w says = (tt, (says, (named, all (node_parts (directive_parts true)) ps.directives.0 w.directives)))
+  extension : (kind : TypeKind) (ps : Parts) (location : Option SourceSpan) → AreWellFormedParts ps → says_of_kind kind ps ≡ true → IsWellFormedDefinition (type_extension kind name ps location)
+  extension k.Scalar ps location w says = (tt, (says, (named, all (node_parts (directive_parts true)) ps.directives (w Directives))))
   extension k.Object ps location w says = (tt, (says, (named, fielded ps w)))
   extension k.Interface ps location w says = (tt, (says, (named, fielded ps w)))
-  extension k.Union ps location w says = (tt, (says, (named, directed ps w name_parts ps.names w.names)))
-  extension k.Enum ps location w says = (tt, (says, (named, directed ps w (node_parts enum_value_parts) ps.values w.values)))
-  extension k.InputObject ps location w says = (tt, (says, (named, directed ps w (node_parts input_value_parts) ps.input_fields w.input_fields)))
+  extension k.Union ps location w says = (tt, (says, (named, directed ps w name_parts ps.names (w Names))))
+  extension k.Enum ps location w says = (tt, (says, (named, directed ps w (node_parts enum_value_parts) ps.values (w Values))))
+  extension k.InputObject ps location w says = (tt, (says, (named, directed ps w (node_parts input_value_parts) ps.input_fields (w InputFields))))
 
   -- a type's definition and its extensions
   pub type_written : (kind : TypeKind) (text : Option NameView) (cs : List SourcedPart) (location : Option SourceSpan) → AllByRecursion (λ c. Suits (is_of_kind kind) c.1) cs
@@ -121,8 +122,8 @@ module _ (name : NameView) (named : IsName name.text) where
   )
 
 -- whether a component is a root
-abbrev pub is_root : DefinitionPart → Bool
-is_root c = is_some (as_root c)
+abbrev pub is_root : Part → Bool
+is_root c = is_some (of_sort Roots c)
 
 -- whether some root comes from an origin
 abbrev pub has_root : ComponentOrigin → List SourcedPart → Bool
@@ -143,8 +144,8 @@ root_among origin (c ∷ cs) h = by (same_origin origin c.0) h (root_among origi
     later false h = h
 
     by : (b : Bool) → ((is_root c.1 && b) || has_root origin cs) ≡ true → (has_root origin cs ≡ true → not (is_none (of_origin origin cs).roots) ≡ true)
-        → not (is_none (filter_map as_root (map (λ d. d.1) (cond b (c ∷ filter (λ d. same_origin origin d.0) cs) (filter (λ d. same_origin origin d.0) cs))))) ≡ true
-    by true h rest = among (as_root c.1) h rest
+        → not (is_none (filter_map (of_sort Roots) (map (λ d. d.1) (cond b (c ∷ filter (λ d. same_origin origin d.0) cs) (filter (λ d. same_origin origin d.0) cs))))) ≡ true
+    by true h rest = among (of_sort Roots c.1) h rest
     by false h rest = rest (later (is_root c.1) h)
 
 -- the schema's definition, where it is written, and its extensions
@@ -153,10 +154,10 @@ pub schema_written : (is_written : Bool) (text : Option NameView) (cs : List Sou
 schema_written is_written text cs location a rooted =
     each-append IsWellFormedDefinition (if is_written then schema_definition text (of_origin Definition cs) location ∷ [] else []) _ (by is_written rooted)
     (each-map IsWellFormedDefinition (λ e. schema_extension e.1 (extension_location e.0)) (of_extensions cs)
-    (each-weaken (λ e. AreWellFormedParts e.1 × (says_of_schema e.1 ≡ true)) (λ e. IsWellFormedDefinition (schema_extension e.1 (extension_location e.0))) (λ e h. (tt, (h.1, directed e.1 h.0 (node_parts root_parts) e.1.roots h.0.roots)))
+    (each-weaken (λ e. AreWellFormedParts e.1 × (says_of_schema e.1 ≡ true)) (λ e. IsWellFormedDefinition (schema_extension e.1 (extension_location e.0))) (λ e h. (tt, (h.1, directed e.1 h.0 (node_parts root_parts) e.1.roots (h.0 Roots))))
     (of_extensions cs) (each_says is_of_schema cs a says_of_schema one_says_of_schema)))
   where
-    ps : DefinitionParts
+    ps : Parts
     ps = of_origin Definition cs
 
     own : AreWellFormedParts ps
@@ -167,8 +168,8 @@ schema_written is_written text cs location a rooted =
     by true rooted = (
       (
         tt,
-        join (description_parts text) _ (description text) (join (directives_parts true ps.directives) _ (all (node_parts (directive_parts true)) ps.directives.0 own.directives)
-            (root_among Definition cs (rooted refl), all (node_parts root_parts) ps.roots own.roots)),
+        join (description_parts text) _ (description text) (join (directives_parts true (directive_list ps)) _ (all (node_parts (directive_parts true)) ps.directives (own Directives))
+            (root_among Definition cs (rooted refl), all (node_parts root_parts) ps.roots (own Roots))),
       ),
       tt,
     )
