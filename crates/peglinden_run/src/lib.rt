@@ -17,4 +17,5 @@ mod naming;
 mod reports;
 pub mod running;
 mod schema_command;
+mod schemas;
 mod typed_documents;
