@@ -3,6 +3,7 @@ use Rattle.std.specs.Prelude.{◌≡◌, ◌++◌, ◌==◌, ◌&&◌, ℕ, Bool
 use Rattle.std.specs.Cmp.Lexicographic.{pointwise}
 use Rattle.std.specs.List.{flat_map}
 use Rattle.graphql_nodes.specs.Sources.{Files}
+use Rattle.graphql_nodes.specs.VisibleTexts.{visible}
 use Rattle.graphql_ast.specs.declared.document.Document.{Document}
 use Rattle.peglinden_run.specs.declared.answer.Answer.{Answer}
 use Rattle.peglinden_run.specs.Documents.{AreDocumentsAt}
@@ -12,10 +13,10 @@ use Rattle.peglinden_run.specs.Ended.{ended}
 abbrev pub formatted : Document → List ℕ
 formatted document = ended document.definitions
 
--- the name of the first of these files, on a line, where its text is not this one
+-- the name of the first of these files, as it is shown, on a line, where its text is not this one
 abbrev pub name_unless : List ℕ → Files → List ℕ
 name_unless text [] = []
-name_unless text (file ∷ files) = if pointwise nat_eq text file.1.text then [] else file.1.path ++ codes "\n"
+name_unless text (file ∷ files) = if pointwise nat_eq text file.1.text then [] else visible file.1.path ++ codes "\n"
 
 -- the name of a document's file, on a line, where its text differs from its layout
 abbrev pub changed_line : Document → List ℕ

@@ -24,20 +24,16 @@ pub(crate) struct Findings {
 }
 
 impl Findings {
-    /// What is at fault in a schema of these sources alone. The error is out of memory.
-    pub fn of_schema(
-        alloc: Global,
-        sources: &SourceMap,
-        faults: of_schemas::Faults,
-    ) -> Result<Findings, AllocError>
-        ensures { IfOk result (λ findings. found_in findings ≡ of_schema sources.now faults.items) }
+    /// What is at fault in a schema of these sources alone.
+    pub fn of_schema(alloc: Global, sources: SourceMap, faults: of_schemas::Faults) -> Findings
+        ensures { found_in result ≡ of_schema sources faults.items }
     {
-        Ok(Findings {
-            sources: sources.clone()?,
+        Findings {
+            sources,
             schema_faults: faults,
             document_faults: Vec::new(alloc),
             leaf_faults: Vec::new(alloc),
-        })
+        }
     }
 
     /// Whether anything is at fault.

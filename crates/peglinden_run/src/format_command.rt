@@ -10,12 +10,13 @@ use crate::documents::read_documents;
 use crate::ended::ended_text;
 use crate::failure::Failure;
 use graphql_ast::document::Document;
+use graphql_nodes::visible_text::visible;
 use program_io::files::Files;
 use std::alloc::{AllocError, Global};
 
 /// The answer of `format` to files: the text of each in our layout, one behind the other, each with a
-/// line end. With `check` it is the name of each file whose text differs from that, each on a line, and
-/// such a file is at fault.
+/// line end. With `check` it is the name of each file whose text differs from that, as [`visible`] shows
+/// it, each on a line, and such a file is at fault.
 ///
 /// `Files` comes where a file can't be read or is no document, and `Memory` where memory ran out. There
 /// is no other error.
@@ -73,7 +74,8 @@ fn push_if_changed(alloc: Global, names: &mut String, document: &Document) -> Re
     };
     let formatted = ended_text(alloc, document.definitions.as_slice())?;
     if formatted.as_str() != file.text.as_str() {
-        names.push_str(file.path.as_str())?;
+        let name = visible(file.path.as_str()).to_string(alloc)?;
+        names.push_str(name.as_str())?;
         names.push_str("\n")?;
     }
     Ok(())

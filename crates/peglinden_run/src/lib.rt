@@ -20,4 +20,5 @@ mod naming;
 mod reports;
 pub mod running;
 mod schema_command;
+mod schemas;
 mod typed_documents;

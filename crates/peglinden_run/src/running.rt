@@ -11,6 +11,7 @@ use crate::answering::answer_to;
 use crate::failure::Failure;
 use crate::naming::names_input;
 use graphql_nodes::collections::hash_keys::HashKeys;
+use graphql_nodes::visible_text::visible;
 use peglinden_words::reading::read_words;
 use peglinden_words::request::Request;
 use peglinden_words::words_error::WordsError;
@@ -155,8 +156,17 @@ fn end_with_failure<E: Write>(failure: &Failure, errors: &mut E) -> Status
 fn end_with_usage<E: Write>(message: &str, errors: &mut E) -> Status
     ensures { result ≡ Status.Refused }
 {
-    write_report(message, errors);
+    let _ = write_visible_lines(errors, message);
     Status::Refused
+}
+
+/// Writes a text that may hold words of the command line, each of its lines as [`visible`] shows it.
+/// No clause: no contract says what the text is.
+fn write_visible_lines<E: Write>(errors: &mut E, text: &str) -> io::Result<()> {
+    for line in text.lines() {
+        writeln!(errors, "{}", visible(line))?;
+    }
+    Ok(())
 }
 
 /// Writes a text for standard error. Where that fails, a beginning of it is written, and nothing says so.

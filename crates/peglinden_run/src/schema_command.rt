@@ -1,18 +1,21 @@
 //! The command `schema`.
-ghost use Rattle.std.specs.Prelude.{IfErr, IfOk};
+ghost use Rattle.std.specs.Prelude.{◌≡◌, IfErr, IfOk};
+ghost use Rattle.apollo_schema.specs.SchemaWriteOut.{write_schema};
 ghost use Rattle.peglinden_run.specs.Documents.{texts_of};
 ghost use Rattle.peglinden_run.specs.SchemaCommand.{IsSchemaAnswer, IsSchemaCause};
 
 use crate::answer::Answer;
-use crate::documents::read_documents;
 use crate::ended::ended_text;
 use crate::failure::Failure;
 use crate::findings::Findings;
-use apollo_compiler::building::build_schema;
+use crate::schemas::read_schema;
 use apollo_compiler::compile_options::CompileOptions;
+use apollo_schema::schema::Schema;
+use graphql_ast::definition::Definition;
 use graphql_nodes::collections::hash_keys::HashKeys;
+use graphql_nodes::source::SourceMap;
 use program_io::files::Files;
-use std::alloc::Global;
+use std::alloc::{AllocError, Global};
 
 /// The answer of `schema` with these options to files: the write-out of the schema of their documents, as
 /// text, or with `json` the JSON of its faults in place of that.
@@ -30,10 +33,20 @@ pub(crate) fn schema_answer<F: Files>(
     ensures means { IfOk result (IsSchemaAnswer (F.holds files.now) options json (texts_of paths.now)) }
     ensures causes { IfErr result (IsSchemaCause (F.holds files.now) (F.may_fail files.now) options (texts_of paths.now)) }
 {
-    let documents = read_documents(alloc, files, paths)?;
-    let (schema, faults) = build_schema(alloc, keys, options, documents.as_slice())?;
-    let written = schema.to_ast(alloc)?;
+    let (schema, faults) = read_schema(alloc, keys, options, files, paths)?;
+    let (written, sources) = written_out(alloc, schema)?;
     let output = ended_text(alloc, written.as_slice())?;
-    let findings = Findings::of_schema(alloc, &schema.sources, faults)?;
+    let findings = Findings::of_schema(alloc, sources, faults);
     Ok(findings.answer(alloc, json, output)?)
+}
+
+/// The write-out of a schema, and its sources. The schema is freed, before a text takes memory. The error
+/// is out of memory.
+fn written_out(alloc: Global, schema: Schema) -> Result<(Vec<Definition>, SourceMap), AllocError>
+    ensures written { IfOk result (λ out. out.0.items ≡ write_schema schema) }
+    ensures sources { IfOk result (λ out. out.1 ≡ schema.sources) }
+{
+    let written = schema.to_ast(alloc)?;
+    let sources = schema.sources.clone()?;
+    Ok((written, sources))
 }

@@ -182,7 +182,7 @@ fn lookups_are_at_fault_where_nothing_is_found(rt: HostRuntime) {
 }
 
 /// A text that has the layout, and one that hasn't.
-static FORMATS: [Row; 4] = [
+static FORMATS: [Row; 5] = [
     Row {
         words: &["format", "store.graphql"],
         output: "type Query {\n  book: Book\n}\n\ntype Book {\n  title: String\n}\n",
@@ -204,6 +204,12 @@ static FORMATS: [Row; 4] = [
     Row {
         words: &["format", "--check", "store.graphql", "twice.graphql"],
         output: "twice.graphql\n",
+        errors: "",
+        status: Status::Faults,
+    },
+    Row {
+        words: &["format", "--check", "\x1b[31m.graphql"],
+        output: "\u{fffd}[31m.graphql\n",
         errors: "",
         status: Status::Faults,
     },

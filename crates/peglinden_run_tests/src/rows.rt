@@ -18,8 +18,9 @@ pub struct Row {
     pub status: Status,
 }
 
-/// The files of the rows: a schema and documents over it, one with a fault, and a schema with one; and texts of every sort.
-pub static FILES: [(&str, &[u8]); 10] = [
+/// The files of the rows: a schema and documents over it, one with a fault, and a schema with one; and texts of
+/// every sort, one of them in a file whose name has a control character.
+pub static FILES: [(&str, &[u8]); 11] = [
     ("store.graphql", STORE),
     ("page.graphql", PAGE),
     ("faulty.graphql", FAULTY),
@@ -32,6 +33,7 @@ pub static FILES: [(&str, &[u8]); 10] = [
     ("bytes.graphql", b"type Query { a: Int }\xff"),
     ("empty.graphql", b""),
     ("open.graphql", b"scalar Date"),
+    ("\x1b[31m.graphql", b"scalar Date"),
     ("lines.graphql", b"type Query {\r\n  a: Int\r\n}\r\n"),
 ];
 
