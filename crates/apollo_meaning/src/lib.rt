@@ -3,7 +3,8 @@
 //!
 //! The meaning stands in `specs/`. Here are the faults as values, and the laws of the definitions.
 //!
-//! Proved: which schema a list of definitions means, and which faults it has.
+//! Proved: which schema a list of definitions means, and which faults it has; the built-in definitions are
+//! those of one written table.
 #![tactic(auto)]
 
 pub mod build_error;
