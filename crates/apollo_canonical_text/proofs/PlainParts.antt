@@ -8,14 +8,16 @@ use Rattle.graphql_nodes.specs.declared.type_kind.TypeKind.TheVariants as k
 use Rattle.graphql_ast.specs.Bare.{bare_directive}
 use Rattle.graphql_ast.specs.BareDocuments.{bare_definition}
 use Rattle.graphql_ast.specs.BareTypeSystem.{bare_enum_value_definition, bare_field_definition, bare_input_value_definition, bare_root_operation}
-use Rattle.graphql_ast.specs.DefinitionParts.{as_directive, as_field, as_input_field, as_name, as_root, as_value, parts_of, type_definition, type_extension}
+use Rattle.graphql_ast.specs.BareDeclarations.{bare_item, bare_parts}
+use Rattle.graphql_ast.specs.Declarations.{type_definition, type_extension}
+use Rattle.graphql_ast.specs.Parts.{Sort, Directives, Names, Fields, Values, InputFields, Roots, of_sort, parts_of, with_lists}
 use Rattle.graphql_ast.specs.declared.definition.Definition.{Definition}
 use Rattle.graphql_ast.specs.declared.definition.Definition.TheVariants as d
 use Rattle.graphql_ast.specs.declared.directive.Directive.{Directive}
 use Rattle.graphql_ast.specs.declared.type_system.FieldDefinition.{FieldDefinition}
-use Rattle.graphql_ast.specs.declared.definition_parts.DefinitionPart.{DefinitionPart}
-use Rattle.graphql_ast.specs.declared.definition_parts.DefinitionPart.TheVariants as p
-use Rattle.graphql_ast.specs.declared.definition_parts.DefinitionParts.{DefinitionParts}
+use Rattle.graphql_ast.specs.declared.parts.Part.{Part}
+use Rattle.graphql_ast.specs.declared.parts.Part.TheVariants as p
+use Rattle.graphql_ast.specs.declared.parts.Parts.{Parts}
 use Rattle.apollo_component.specs.Extensions.{extension_location, id_of, same_id, same_origin}
 use Rattle.apollo_component.specs.WriteOut.{SourcedPart, by_origin, identities, of_extensions, of_origin, origins_in, written_type}
 use Rattle.apollo_component.specs.declared.extension.ComponentOrigin.{ComponentOrigin}
@@ -31,39 +33,30 @@ use Rattle.apollo_canonical_text.proofs.Plain.{mark-kept}
 use Rattle.apollo_canonical_text.proofs.PlainTypes.{plain_component, plain_component_name, plain_entry, plain_id, plain_origin, plain_type}
 
 -- what a definition is made of
-abbrev pub bare_part : DefinitionPart → DefinitionPart
-bare_part (p.Directive x) = p.Directive (bare_node bare_directive x)
-bare_part (p.Name x) = p.Name (bare_name x)
-bare_part (p.Field x) = p.Field (bare_node bare_field_definition x)
-bare_part (p.EnumValue x) = p.EnumValue (bare_node bare_enum_value_definition x)
-bare_part (p.InputField x) = p.InputField (bare_node bare_input_value_definition x)
-bare_part (p.Root x) = p.Root (bare_node bare_root_operation x)
+abbrev pub bare_part : Part → Part
+bare_part (p.Directive x) = p.Directive (bare_item Directives x)
+bare_part (p.Name x) = p.Name (bare_item Names x)
+bare_part (p.Field x) = p.Field (bare_item Fields x)
+bare_part (p.EnumValue x) = p.EnumValue (bare_item Values x)
+bare_part (p.InputField x) = p.InputField (bare_item InputFields x)
+bare_part (p.Root x) = p.Root (bare_item Roots x)
 
-abbrev pub bare_parts : DefinitionParts → DefinitionParts
-bare_parts ps = record {
-  directives = record { 0 = map (bare_node bare_directive) ps.directives.0 };
-  names = map bare_name ps.names;
-  fields = map (bare_node bare_field_definition) ps.fields;
-  values = map (bare_node bare_enum_value_definition) ps.values;
-  input_fields = map (bare_node bare_input_value_definition) ps.input_fields;
-  roots = map (bare_node bare_root_operation) ps.roots;
-}
+-- a part is of the sort that it was of
+sort-bare : (s : Sort) (c : Part) → of_sort s (bare_part c) ≡ option_map (bare_item s) (of_sort s c)
+sort-bare Directives (p.Directive x) = refl
+sort-bare Names (p.Name x) = refl
+sort-bare Fields (p.Field x) = refl
+sort-bare Values (p.EnumValue x) = refl
+sort-bare InputFields (p.InputField x) = refl
+sort-bare Roots (p.Root x) = refl
+sort-bare _ _ = refl
 
--- each sort of them
-module _ {X : Type 0} (which : DefinitionPart → Option X) (bare : X → X) (agree : (c : DefinitionPart) → which (bare_part c) ≡ option_map bare (which c)) where
-  sort-bare : (cs : List DefinitionPart) → filter_map which (map bare_part cs) ≡ map bare (filter_map which cs)
-  sort-bare [] = refl
-  sort-bare (c ∷ cs) = grind (arith, agree c, sort-bare cs)
+list-bare : (s : Sort) (cs : List Part) → filter_map (of_sort s) (map bare_part cs) ≡ map (bare_item s) (filter_map (of_sort s) cs)
+list-bare s [] = refl
+list-bare s (c ∷ cs) = grind (arith, sort-bare s c, list-bare s cs)
 
-parts-bare : (cs : List DefinitionPart) → parts_of (map bare_part cs) ≡ bare_parts (parts_of cs)
-parts-bare cs = λ i. record {
-  directives = record { 0 = sort-bare as_directive (bare_node bare_directive) (λ c. grind arith) cs i };
-  names = sort-bare as_name bare_name (λ c. grind arith) cs i;
-  fields = sort-bare as_field (bare_node bare_field_definition) (λ c. grind arith) cs i;
-  values = sort-bare as_value (bare_node bare_enum_value_definition) (λ c. grind arith) cs i;
-  input_fields = sort-bare as_input_field (bare_node bare_input_value_definition) (λ c. grind arith) cs i;
-  roots = sort-bare as_root (bare_node bare_root_operation) (λ c. grind arith) cs i;
-}
+parts-bare : (cs : List Part) → parts_of (map bare_part cs) ≡ bare_parts (parts_of cs)
+parts-bare cs = λ i. with_lists (λ s. list-bare s cs i)
 
 -- a component with its origin
 abbrev pub plain_part_of : SourcedPart → SourcedPart
@@ -107,7 +100,7 @@ by_origin-plain cs = λ i. record { definition = of_origin-plain origins.Definit
         ap (map (λ e. (e, of_origin (origins.Extension e) (map plain_part_of cs)))) (identities-plain cs)
         ∙ map-map (λ e. (e, of_origin (origins.Extension e) (map plain_part_of cs))) plain_id (identities (origins_in cs))
         ∙ (λ i. map (λ e. (plain_id e, of_origin-plain (origins.Extension e) cs i)) (identities (origins_in cs)))
-        ∙ sym (map-map (λ (e : ExtensionId × DefinitionParts). (plain_id e.0, bare_parts e.1)) (λ e. (e, of_origin (origins.Extension e) cs)) (identities (origins_in cs)))
+        ∙ sym (map-map (λ (e : ExtensionId × Parts). (plain_id e.0, bare_parts e.1)) (λ e. (e, of_origin (origins.Extension e) cs)) (identities (origins_in cs)))
 
 -- components of each sort
 module _ {A : Type 0} (of : A → SourcedPart) (plain : A → A) (agree : (a : A) → of (plain a) ≡ plain_part_of (of a)) where
@@ -166,7 +159,7 @@ nowhere (d.EnumTypeExtension n) = d.EnumTypeExtension (record n { location = Non
 nowhere (d.InputObjectTypeExtension n) = d.InputObjectTypeExtension (record n { location = None })
 
 -- what a plain type and a plain extension are written out as is bare but for that
-definition-plain : (kind : TypeKind) (text : Option NameView) (name : NameView) (ps : DefinitionParts) (at other : Option SourceSpan)
+definition-plain : (kind : TypeKind) (text : Option NameView) (name : NameView) (ps : Parts) (at other : Option SourceSpan)
     → nowhere (type_definition kind (option_map bare_name text) (bare_name name) (bare_parts ps) at) ≡ bare_definition (type_definition kind text name ps other)
 definition-plain k.Scalar text name ps at other = refl
 definition-plain k.Object text name ps at other = refl
@@ -175,7 +168,7 @@ definition-plain k.Union text name ps at other = refl
 definition-plain k.Enum text name ps at other = refl
 definition-plain k.InputObject text name ps at other = refl
 
-extension-plain : (kind : TypeKind) (name : NameView) (ps : DefinitionParts) (at other : Option SourceSpan)
+extension-plain : (kind : TypeKind) (name : NameView) (ps : Parts) (at other : Option SourceSpan)
     → nowhere (type_extension kind (bare_name name) (bare_parts ps) at) ≡ bare_definition (type_extension kind name ps other)
 extension-plain k.Scalar name ps at other = refl
 extension-plain k.Object name ps at other = refl
@@ -185,10 +178,10 @@ extension-plain k.Enum name ps at other = refl
 extension-plain k.InputObject name ps at other = refl
 
 -- so are all extensions
-pub extensions-plain : (make : DefinitionParts → Option SourceSpan → Definition) (made : DefinitionParts → Option SourceSpan → Definition)
-    → ((ps : DefinitionParts) (at other : Option SourceSpan) → nowhere (made (bare_parts ps) at) ≡ bare_definition (make ps other))
-    → (es : List (ExtensionId × DefinitionParts))
-    → map nowhere (map (λ (e : ExtensionId × DefinitionParts). made e.1 (extension_location e.0)) (map (λ (e : ExtensionId × DefinitionParts). (plain_id e.0, bare_parts e.1)) es)) ≡ map bare_definition (map (λ (e : ExtensionId × DefinitionParts). make e.1 (extension_location e.0)) es)
+pub extensions-plain : (make : Parts → Option SourceSpan → Definition) (made : Parts → Option SourceSpan → Definition)
+    → ((ps : Parts) (at other : Option SourceSpan) → nowhere (made (bare_parts ps) at) ≡ bare_definition (make ps other))
+    → (es : List (ExtensionId × Parts))
+    → map nowhere (map (λ (e : ExtensionId × Parts). made e.1 (extension_location e.0)) (map (λ (e : ExtensionId × Parts). (plain_id e.0, bare_parts e.1)) es)) ≡ map bare_definition (map (λ (e : ExtensionId × Parts). make e.1 (extension_location e.0)) es)
 extensions-plain make made agree [] = refl
 extensions-plain make made agree (e ∷ es) = λ i. agree e.1 (extension_location (plain_id e.0)) (extension_location e.0) i ∷ extensions-plain make made agree es i
 

@@ -7,9 +7,10 @@ use Rattle.std.specs.Cmp.Lexicographic.{pointwise}
 use Rattle.std.proofs.lemmas.List.{length-map}
 use Rattle.graphql_nodes.specs.Comparing.{bare_name, bare_node}
 use Rattle.graphql_ast.specs.Bare.{bare_directive}
+use Rattle.graphql_ast.specs.BareDeclarations.{bare_parts}
 use Rattle.graphql_ast.specs.BareDocuments.{bare_definition}
 use Rattle.graphql_ast.specs.BareTypeSystem.{bare_root_operation}
-use Rattle.graphql_ast.specs.DefinitionParts.{schema_definition, schema_extension}
+use Rattle.graphql_ast.specs.Declarations.{schema_definition, schema_extension}
 use Rattle.apollo_component.specs.Extensions.{same_origin}
 use Rattle.apollo_component.specs.WriteOut.{by_origin, identities, origins_in, written_schema}
 use Rattle.apollo_component.specs.declared.extension.ComponentOrigin.{ComponentOrigin}
@@ -23,7 +24,7 @@ use Rattle.apollo_meaning.specs.Schema.Definition.{no_schema, root_in, roots_of,
 use Rattle.apollo_canonical_text.proofs.Plain.{mark, plain_list, plain_schema_part, first_schema-plain}
 use Rattle.apollo_canonical_text.proofs.PlainFolding.{folding_order-plain, plain_folding}
 use Rattle.apollo_canonical_text.proofs.PlainTypes.{carried, plain_component, plain_component_name, plain_id, plain_origin, plain_type}
-use Rattle.apollo_canonical_text.proofs.PlainParts.{bare_parts, by_origin-plain, extensions-plain, identities-plain, nowhere, of-plain, plain_by_origin, plain_part_of}
+use Rattle.apollo_canonical_text.proofs.PlainParts.{by_origin-plain, extensions-plain, identities-plain, nowhere, of-plain, plain_by_origin, plain_part_of}
 
 -- a schema definition
 abbrev pub plain_definition : SchemaDefinition → SchemaDefinition

@@ -6,10 +6,10 @@ use Rattle.std.proofs.lemmas.Bool.{and_parts, not-true}
 use Rattle.std.proofs.lemmas.List.Folds.{flat_map-map}
 use Rattle.graphql_nodes.specs.Tables.{HasUniqueKeys, values_of}
 use Rattle.graphql_nodes.specs.declared.source.SourceSpan.{SourceSpan}
-use Rattle.graphql_ast.specs.DefinitionParts.{schema_definition, schema_extension, type_definition, type_extension}
+use Rattle.graphql_ast.specs.Declarations.{schema_definition, schema_extension, type_definition, type_extension}
 use Rattle.graphql_ast.specs.Definitions.{definition_location}
 use Rattle.graphql_ast.specs.declared.definition.Definition.TheVariants as ast
-use Rattle.graphql_ast.specs.declared.definition_parts.DefinitionParts.{DefinitionParts}
+use Rattle.graphql_ast.specs.declared.parts.Parts.{Parts}
 unfoldable use Rattle.apollo_meaning.specs.BuiltInTable.{built_in_definitions}
 use Rattle.apollo_component.specs.Extensions.{extension_location, id_of, same_id}
 use Rattle.apollo_component.specs.WriteOut.{SourcedPart, by_origin, identities, of_extensions, of_origin, origins_in}
@@ -55,23 +55,23 @@ ids (c ∷ cs) a = by c.0 a.0 (ids cs a.1)
     by origins.Definition h rest = rest
     by (origins.Extension e) h rest = (h, rest)
 
-written : (make : DefinitionParts → Option SourceSpan → Definition) → ((ps : DefinitionParts) (at : Option SourceSpan) → is_built_in (definition_location (make ps at)) ≡ is_built_in at)
-    → (cs : List SourcedPart) → AreHandedIn cs → AllByRecursion IsUnmarked (map (λ (e : ExtensionId × DefinitionParts). make e.1 (extension_location e.0)) (by_origin cs).extensions)
+written : (make : Parts → Option SourceSpan → Definition) → ((ps : Parts) (at : Option SourceSpan) → is_built_in (definition_location (make ps at)) ≡ is_built_in at)
+    → (cs : List SourcedPart) → AreHandedIn cs → AllByRecursion IsUnmarked (map (λ (e : ExtensionId × Parts). make e.1 (extension_location e.0)) (by_origin cs).extensions)
 written make located cs a =
-    each-map IsUnmarked (λ (e : ExtensionId × DefinitionParts). is_built_in (extension_location e.0) ≡ false) (λ e. make e.1 (extension_location e.0)) (λ e h. located e.1 (extension_location e.0) ∙ h) (of_extensions cs)
-    (each-map (λ (e : ExtensionId × DefinitionParts). is_built_in (extension_location e.0) ≡ false) (λ e. is_built_in (extension_location e) ≡ false) (λ e. (e, of_origin (origins.Extension e) cs)) (λ e h. h) (identities (origins_in cs))
+    each-map IsUnmarked (λ (e : ExtensionId × Parts). is_built_in (extension_location e.0) ≡ false) (λ e. make e.1 (extension_location e.0)) (λ e h. located e.1 (extension_location e.0) ∙ h) (of_extensions cs)
+    (each-map (λ (e : ExtensionId × Parts). is_built_in (extension_location e.0) ≡ false) (λ e. is_built_in (extension_location e) ≡ false) (λ e. (e, of_origin (origins.Extension e) cs)) (λ e h. h) (identities (origins_in cs))
     (each-first (λ e. is_built_in (extension_location e) ≡ false) same_id (filter_map id_of (origins_in cs)) (ids cs a)))
 
-definition-at : (kind : TypeKind) (text : Option NameView) (name : NameView) (ps : DefinitionParts) (at : Option SourceSpan) → is_built_in (definition_location (type_definition kind text name ps at)) ≡ is_built_in at
+definition-at : (kind : TypeKind) (text : Option NameView) (name : NameView) (ps : Parts) (at : Option SourceSpan) → is_built_in (definition_location (type_definition kind text name ps at)) ≡ is_built_in at
 definition-at kind text name ps at = grind arith
 
-extension-at : (kind : TypeKind) (name : NameView) (ps : DefinitionParts) (at : Option SourceSpan) → is_built_in (definition_location (type_extension kind name ps at)) ≡ is_built_in at
+extension-at : (kind : TypeKind) (name : NameView) (ps : Parts) (at : Option SourceSpan) → is_built_in (definition_location (type_extension kind name ps at)) ≡ is_built_in at
 extension-at kind name ps at = grind arith
 
 held : (t : ExtendedType) → AreHandedIn (type_components t) → AllByRecursion IsUnmarked (write_held_type t)
 held t a = by (is_built_in (type_location t)) refl
   where
-    extensions : AllByRecursion IsUnmarked (map (λ (e : ExtensionId × DefinitionParts). type_extension (type_kind t) (type_name t) e.1 (extension_location e.0)) (by_origin (type_components t)).extensions)
+    extensions : AllByRecursion IsUnmarked (map (λ (e : ExtensionId × Parts). type_extension (type_kind t) (type_name t) e.1 (extension_location e.0)) (by_origin (type_components t)).extensions)
     extensions = written (type_extension (type_kind t) (type_name t)) (extension-at (type_kind t) (type_name t)) (type_components t) a
 
     by : (b : Bool) → is_built_in (type_location t) ≡ b → AllByRecursion IsUnmarked (cond b (drop 1 (write_type t)) (write_type t))
@@ -294,7 +294,7 @@ module _ (folds : FoldsAll) (start : ℕ) (xs : List ListItem) (a : AllByRecursi
 definition : (n : NodeView SchemaDefinition) (types : List (NameView × ExtendedType)) → AreHandedIn (schema_components n.value) → is_built_in n.location ≡ false → AllByRecursion IsUnmarked (write_schema_definition n.value n.location types)
 definition n types a h = by (is_written types n.value)
   where
-    by : (b : Bool) → AllByRecursion IsUnmarked (cond b (schema_definition n.value.description (by_origin (schema_components n.value)).definition n.location ∷ []) [] ++ map (λ (e : ExtensionId × DefinitionParts). schema_extension e.1 (extension_location e.0)) (by_origin (schema_components n.value)).extensions)
+    by : (b : Bool) → AllByRecursion IsUnmarked (cond b (schema_definition n.value.description (by_origin (schema_components n.value)).definition n.location ∷ []) [] ++ map (λ (e : ExtensionId × Parts). schema_extension e.1 (extension_location e.0)) (by_origin (schema_components n.value)).extensions)
     by true = (h, written schema_extension (λ ps at. refl) (schema_components n.value) a)
     by false = written schema_extension (λ ps at. refl) (schema_components n.value) a
 
