@@ -51,7 +51,8 @@ sort-bare InputFields (p.InputField x) = refl
 sort-bare Roots (p.Root x) = refl
 sort-bare _ _ = refl
 
-list-bare : (s : Sort) (cs : List Part) → filter_map (of_sort s) (map bare_part cs) ≡ map (bare_item s) (filter_map (of_sort s) cs)
+list-bare : (s : Sort) (cs : List Part)
+    → filter_map (of_sort s) (map bare_part cs) ≡ map (bare_item s) (filter_map (of_sort s) cs)
 list-bare s [] = refl
 list-bare s (c ∷ cs) = grind (arith, sort-bare s c, list-bare s cs)
 
