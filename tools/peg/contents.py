@@ -101,7 +101,7 @@ LAWS = [
     Page(
         "well_formed",
         "What could have come of a text",
-        "apollo_well_formed::laws apollo_well_formed_documents::laws",
+        "apollo_canonical_text::well_formed apollo_canonical_documents::well_formed",
     ),
     Page(
         "canonical_text", "From text to text", "apollo_canonical_text::laws apollo_canonical_documents::laws"

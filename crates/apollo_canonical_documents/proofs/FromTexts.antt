@@ -25,9 +25,9 @@ use Rattle.apollo_document.specs.AddedDefinitions.{DocumentItem, document_list, 
 use Rattle.apollo_document.specs.DocumentFaults.{ambiguous_if, document_faults}
 use Rattle.apollo_document.specs.Documents.{IsDocumentOf}
 use Rattle.apollo_document.specs.WrittenAgain.{ambiguous_again}
-use Rattle.apollo_well_formed.specs.WellFormedLists.{IsWellFormedDefinition}
-use Rattle.apollo_well_formed_documents.specs.FilledSets.{IsFilledDocument}
-use Rattle.apollo_well_formed_documents.specs.HandedIn.{HasWellFormedExecutables}
+use Rattle.apollo_canonical_text.specs.WellFormedLists.{IsWellFormedDefinition}
+use Rattle.apollo_canonical_documents.specs.FilledSets.{IsFilledDocument}
+use Rattle.apollo_canonical_documents.specs.HandedIn.{HasWellFormedExecutables}
 use Rattle.apollo_canonical_text.specs.FromTexts.{Reading, Reads}
 use Rattle.apollo_canonical_documents.specs.DocumentTextLaws.{DocumentTextLaws}
 use Rattle.apollo_canonical_documents.specs.EqualDocuments.{AreEqualItems, bare_faults, bare_item}

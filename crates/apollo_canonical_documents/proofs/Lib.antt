@@ -10,3 +10,7 @@ mod EqualInOrder
 mod PlainDocuments
 mod PlainListFaults
 mod FromTexts
+mod FilledSyntax
+mod KeptSelections
+mod KeptDefinitions
+mod FilledByParts

@@ -24,8 +24,8 @@ use Rattle.apollo_document.specs.TypedSelections.{IsTypedSet}
 use Rattle.apollo_document.specs.AddedDefinitions.{DocumentItem, document_list}
 use Rattle.apollo_document.specs.Documents.{IsDocumentOf}
 use Rattle.apollo_document.specs.WrittenAgain.{IsBuiltAgain, ambiguous_again, faults_again}
-use Rattle.apollo_well_formed_documents.specs.FilledSets.{IsFilledDocument}
-use Rattle.apollo_well_formed_documents.specs.HandedIn.{HasWellFormedExecutables}
+use Rattle.apollo_canonical_documents.specs.FilledSets.{IsFilledDocument}
+use Rattle.apollo_canonical_documents.specs.HandedIn.{HasWellFormedExecutables}
 
 -- what the law of equal lists takes: of typed sets and of printing
 pub record ListLaws : Type 0 where

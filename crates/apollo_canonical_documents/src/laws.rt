@@ -7,7 +7,7 @@ ghost use Rattle.apollo_executable.specs.declared.document.ExecutableDocument.{E
 ghost use Rattle.apollo_document.specs.AddedDefinitions.{DocumentItem};
 ghost use Rattle.apollo_document.specs.DocumentFaults.{document_faults};
 ghost use Rattle.apollo_document.specs.Documents.{IsDocumentOf};
-ghost use Rattle.apollo_well_formed_documents.specs.FilledSets.{IsFilledDocument};
+ghost use Rattle.apollo_canonical_documents.specs.FilledSets.{IsFilledDocument};
 ghost use Rattle.apollo_canonical_text.specs.FromTexts.{Reading, Reads};
 ghost use Rattle.apollo_canonical_documents.specs.DocumentTextLaws.{DocumentTextLaws, ListLaws};
 ghost use Rattle.apollo_canonical_documents.specs.EqualDocuments.{AreEqualDocuments, AreEqualInOrder, AreEqualItems, bare_faults};
@@ -28,8 +28,8 @@ fn laws_below()
     lists_below();
     apollo_document::laws::document_again();
     apollo_document::laws::every_list_means_a_document();
-    apollo_well_formed_documents::laws::an_erased_document_is_well_formed();
-    apollo_well_formed_documents::laws::executables_are_well_formed_by_their_definitions();
+    crate::well_formed::an_erased_document_is_well_formed();
+    crate::well_formed::executables_are_well_formed_by_their_definitions();
     graphql_productions::laws::words_spell_one_tree();
     graphql_productions::laws::trees::trees_of_words_are_well_formed();
     graphql_round_trip::laws::texts_are_read_again();

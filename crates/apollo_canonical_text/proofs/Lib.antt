@@ -12,3 +12,12 @@ mod Alike
 mod Unmarked
 mod Read
 mod FromTexts
+pub mod WellFormedLists
+mod Items
+mod Components
+mod Written
+mod Meant
+mod WholeList
+mod WriteOut
+mod BuiltIn
+mod Documents

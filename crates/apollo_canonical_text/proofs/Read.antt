@@ -17,7 +17,7 @@ use Rattle.graphql_productions.specs.TypeSystem.{is_none}
 use Rattle.graphql_productions.specs.WellFormed.{IsWellFormed, IsWellFormedPart}
 use Rattle.apollo_meaning.specs.Items.ListItems.{Added, added, added_item, added_items, defined_schema, item_of}
 use Rattle.apollo_schema_laws.specs.WrittenAgain.{IsUnmarkedAndRooted}
-use Rattle.apollo_well_formed.specs.WellFormedLists.{AreWellFormed, IsWellFormedDefinition}
+use Rattle.apollo_canonical_text.specs.WellFormedLists.{AreWellFormed, IsWellFormedDefinition}
 use Rattle.apollo_canonical_text.specs.FromTexts.{AddedText, AreRead, Reads, added_texts}
 use Rattle.apollo_canonical_text.proofs.Alike.{IsUnmarked}
 use Rattle.apollo_canonical_text.proofs.Lists.{each-chosen, each-flat_map, each-from_flat_map, each-map, each-split}

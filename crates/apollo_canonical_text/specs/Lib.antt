@@ -1,2 +1,3 @@
 pub mod FromTexts
 pub mod TextLaws
+pub mod WellFormedLists

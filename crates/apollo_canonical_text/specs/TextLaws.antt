@@ -27,7 +27,7 @@ use Rattle.apollo_schema.specs.MeantSchema.{MeansSchema}
 use Rattle.apollo_schema.specs.SchemaWriteOut.{write_schema}
 use Rattle.apollo_schema.specs.declared.schema.Schema.{Schema}
 use Rattle.apollo_schema_laws.specs.WrittenAgain.{IsMeantByList, with_built_ins, written_again}
-use Rattle.apollo_well_formed.specs.WellFormedLists.{AreWellFormed, IsWellFormedDefinition}
+use Rattle.apollo_canonical_text.specs.WellFormedLists.{AreWellFormed, IsWellFormedDefinition}
 
 -- the laws below: of reading, of printing, and of what schemas are written out as
 pub record TextLaws : Type 0 where

@@ -15,8 +15,8 @@ fn laws_below()
     apollo_meaning::laws::folded_extensions();
     apollo_meaning::laws::folded_schema_extensions();
     apollo_schema::laws::every_list_means_a_schema();
-    apollo_well_formed::laws::a_write_out_is_well_formed();
-    apollo_well_formed::laws::documents_are_well_formed_by_their_definitions();
+    crate::well_formed::a_write_out_is_well_formed();
+    crate::well_formed::documents_are_well_formed_by_their_definitions();
     graphql_productions::laws::words_spell_one_tree();
     graphql_productions::laws::trees::no_location_is_built_in();
     graphql_productions::laws::trees::trees_of_words_are_well_formed();

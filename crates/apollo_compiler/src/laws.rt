@@ -58,10 +58,10 @@ pub use apollo_schema_laws::write_out;
 pub use apollo_schema_laws::write_out::canonical;
 
 // Well-formed goes through the schema: where each definition of a list could have come of a text, so could each of its write-out.
-pub use apollo_well_formed::laws as well_formed;
+pub use apollo_canonical_text::well_formed as well_formed;
 
 // So could what a typed document is written out as, where no selections were left without one.
-pub use apollo_well_formed_documents::laws as well_formed_documents;
+pub use apollo_canonical_documents::well_formed as well_formed_documents;
 
 // From text to text: the text of a schema that texts make is read again, and builds an equal schema with the same text.
 pub use apollo_canonical_text::laws::canonical_text;

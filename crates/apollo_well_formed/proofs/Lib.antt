@@ -1,9 +1,0 @@
-pub mod Lists
-mod Items
-mod Components
-mod Written
-mod Meant
-mod WholeList
-mod WriteOut
-mod BuiltIn
-mod Documents

@@ -1,4 +1,0 @@
-mod FilledSyntax
-mod KeptSelections
-mod KeptDefinitions
-mod FilledByParts

@@ -1,2 +1,0 @@
-pub mod FilledSets
-pub mod HandedIn
