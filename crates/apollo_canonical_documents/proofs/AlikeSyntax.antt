@@ -1,4 +1,5 @@
--- Selections of syntax that are one without their locations are of one kind, and their parts are one without locations.
+-- Selections of syntax that are one without their locations are of one kind, and their parts are one without
+-- locations.
 use Rattle.std.proofs.Common.{◌≡◌, ◌∙◌, ap, sym, List, map, option_map}
 use Rattle.graphql_nodes.specs.Comparing.{bare_name, bare_node}
 use Rattle.graphql_nodes.specs.NodeView.{NodeView}

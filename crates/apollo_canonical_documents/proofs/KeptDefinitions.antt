@@ -1,5 +1,5 @@
--- What a document of well-formed operations and fragments is erased to is well-formed, where no set is empty of which one selection
--- is wanted.
+-- What a document of well-formed operations and fragments is erased to is well-formed, where no set is empty
+-- of which one selection is wanted.
 use Rattle.std.proofs.Common.{◌≡◌, ◌∙◌, Bool, true, false, cond, List, [], ◌∷◌, ◌++◌, Option, None, Some, option_map, map, filter, find, ap, sym, subst}
 use Rattle.std.specs.List.{AllByRecursion, AllZip, filter_map, flat_map}
 use Rattle.std.specs.Option.{IfSome}

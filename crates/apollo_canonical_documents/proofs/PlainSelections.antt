@@ -1,4 +1,5 @@
--- Selections that are one without their locations are typed alike: the typed sets are one without their locations.
+-- Selections that are one without their locations are typed alike: the typed sets are one without their
+-- locations.
 use Rattle.std.proofs.Common.{◌≡◌, ◌∙◌, ap, refl, subst, sym, List, [], ◌∷◌, map, Option, None, Some, option_map}
 use Rattle.std.specs.List.{cons_option}
 use Rattle.graphql_nodes.specs.Comparing.{bare_name, bare_node}

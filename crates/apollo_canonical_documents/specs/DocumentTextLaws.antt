@@ -51,20 +51,25 @@ pub record DocumentTextLaws : Type 0 where
   pub read_again : (file : FileId) (depth allowed : ℕ) (x : List Definition)
       → IsWellFormed (document_parts x) → document_nesting x ≤ depth
       → length (definitions_text x) ≤ allowed
-      → SpellEqual (spells_document file depth) (map bare_definition) x (words_of allowed (definitions_text x))
+      → SpellEqual (spells_document file depth) (map bare_definition) x
+      (words_of allowed (definitions_text x))
   -- the operations and fragments of a well-formed document are well-formed
   pub executables : (errors : Bool) (ds : List Definition) → IsWellFormed (document_parts ds)
       → HasWellFormedExecutables (document_list errors ds)
   -- the write-out of a typed document of such a list is, where no set is empty that wants a selection
   pub written_well : (schema : Option Schema) (xs : List DocumentItem) (document : ExecutableDocument)
-      → IsDocumentOf schema xs document → HasWellFormedExecutables xs → IsFilledDocument document → erased_definitions document ≢ []
+      → IsDocumentOf schema xs document → HasWellFormedExecutables xs → IsFilledDocument document
+      → erased_definitions document ≢ []
       → IsWellFormed (document_parts (erased_definitions document))
   -- each list means a document
   pub some_document : (schema : Option Schema) (xs : List DocumentItem)
       → (document : ExecutableDocument) × IsDocumentOf schema xs document
   -- a write-out means the document itself
-  pub itself : (schema : Option Schema) (xs : List DocumentItem) (errors : Bool) (document : ExecutableDocument)
+  pub itself : (schema : Option Schema) (xs : List DocumentItem) (errors : Bool)
+      (document : ExecutableDocument)
       → IsDocumentOf schema xs document → IsBuiltAgain schema errors document document
   -- nothing is wrong with it but an operation without a name beside named ones
-  pub faults : (schema : Option Schema) (xs : List DocumentItem) (errors : Bool) (document : ExecutableDocument)
-      → IsDocumentOf schema xs document → faults_again schema errors document ≡ ambiguous_again document.operations
+  pub faults : (schema : Option Schema) (xs : List DocumentItem) (errors : Bool)
+      (document : ExecutableDocument)
+      → IsDocumentOf schema xs document
+      → faults_again schema errors document ≡ ambiguous_again document.operations

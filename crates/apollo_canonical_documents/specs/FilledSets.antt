@@ -1,5 +1,6 @@
--- Whether each set of which the grammar wants one selection at least has one: those of operations, fragments and inline fragments.
--- A field may have none. GraphQL specification of October 2021, sections 2.3, 2.4, 2.8 and 2.8.2.
+-- Whether each set of which the grammar wants one selection at least has one: those of operations, fragments
+-- and inline fragments. A field may have none. GraphQL specification of October 2021, sections 2.3, 2.4, 2.8
+-- and 2.8.2.
 use Rattle.std.specs.Prelude.{◌≡◌, Bool, true, not, ◌&&◌, List}
 use Rattle.std.specs.List.{AllByRecursion, list_all}
 use Rattle.graphql_nodes.specs.Tables.{values_of}
@@ -9,8 +10,10 @@ use Rattle.apollo_executable.specs.declared.document.ExecutableDocument.{Executa
 use Rattle.apollo_executable.specs.declared.selection.Field.{Field}
 use Rattle.apollo_executable.specs.declared.selection.InlineFragment.{InlineFragment}
 use Rattle.apollo_executable.specs.declared.selection.Selection.{Selection, fold-Selection}
-use Rattle.apollo_executable.specs.declared.selection.Selection.TheFolds.{fold-Field, fold-InlineFragment, fold-SelectionSet}
-use Rattle.apollo_executable.specs.declared.selection.Selection.TheOpen.{Selection-F, Field-F, InlineFragment-F, SelectionSet-F}
+use Rattle.apollo_executable.specs.declared.selection.Selection.TheFolds.{fold-Field, fold-InlineFragment}
+use Rattle.apollo_executable.specs.declared.selection.Selection.TheFolds.{fold-SelectionSet}
+use Rattle.apollo_executable.specs.declared.selection.Selection.TheOpen.{Selection-F, Field-F}
+use Rattle.apollo_executable.specs.declared.selection.Selection.TheOpen.{InlineFragment-F, SelectionSet-F}
 use Rattle.apollo_executable.specs.declared.selection.SelectionSet.{SelectionSet}
 
 -- whether all that the grammar wants is there, for each selection of a set
@@ -53,7 +56,8 @@ is_filled_field = fold-Field Bool Bool Bool Each selection_step field_step inlin
 
 -- none that an inline fragment is or has
 abbrev pub is_filled_inline_fragment : InlineFragment → Bool
-is_filled_inline_fragment = fold-InlineFragment Bool Bool Bool Each selection_step field_step inline_step set_step
+is_filled_inline_fragment =
+    fold-InlineFragment Bool Bool Bool Each selection_step field_step inline_step set_step
 
 -- of each selection of a set, whether it is filled
 abbrev pub each_filled : SelectionSet → Each
@@ -65,5 +69,7 @@ is_filled_set s = some_there (each_filled s)
 
 -- no operation, fragment or inline fragment of a document was left without a selection
 pub record IsFilledDocument (document : ExecutableDocument) : Type 0 where
-  pub operations : AllByRecursion (λ n. is_filled_set n.value.selection_set ≡ true) (all_operations document.operations)
-  pub fragments : AllByRecursion (λ n. is_filled_set n.value.selection_set ≡ true) (values_of document.fragments)
+  pub operations : AllByRecursion (λ n. is_filled_set n.value.selection_set
+      ≡ true) (all_operations document.operations)
+  pub fragments : AllByRecursion (λ n. is_filled_set n.value.selection_set
+      ≡ true) (values_of document.fragments)

@@ -51,7 +51,8 @@ pub record IsReadingOfDocument (document : ExecutableDocument) (r : Reading) : T
 -- definitions that mean a document that is equal to this one and has its text: over the schema that this one
 -- was typed over, or without one if it was typed without; whether or not definitions of the type system are
 -- at fault
-pub record BuildDocumentAgain (schema : Option Schema) (document : ExecutableDocument) (definitions : List Definition) : Type 0 where
+pub record BuildDocumentAgain (schema : Option Schema) (document : ExecutableDocument)
+    (definitions : List Definition) : Type 0 where
   -- there is a document that they mean
   pub means : (errors : Bool)
       → (again : ExecutableDocument) × IsDocumentOf schema (document_list errors definitions) again

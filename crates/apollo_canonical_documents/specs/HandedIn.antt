@@ -1,5 +1,5 @@
--- Lists of definitions whose operations and fragments could have come of a text: GraphQL specification of October 2021, sections
--- 2.2, 2.3 and 2.8.
+-- Lists of definitions whose operations and fragments could have come of a text: GraphQL specification of
+-- October 2021, sections 2.2, 2.3 and 2.8.
 use Rattle.std.specs.Prelude.{List}
 use Rattle.std.specs.List.{AllByRecursion}
 use Rattle.graphql_ast.specs.declared.definition.Definition.TheVariants as d

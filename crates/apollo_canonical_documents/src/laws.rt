@@ -10,8 +10,10 @@ ghost use Rattle.apollo_document.specs.Documents.{IsDocumentOf};
 ghost use Rattle.apollo_canonical_documents.specs.FilledSets.{IsFilledDocument};
 ghost use Rattle.apollo_canonical_text.specs.FromTexts.{Reading, Reads};
 ghost use Rattle.apollo_canonical_documents.specs.DocumentTextLaws.{DocumentTextLaws, ListLaws};
-ghost use Rattle.apollo_canonical_documents.specs.EqualDocuments.{AreEqualDocuments, AreEqualInOrder, AreEqualItems, bare_faults};
-ghost use Rattle.apollo_canonical_documents.specs.FromTexts.{BuildDocumentAgain, IsDocumentOfTexts, IsReadingOfDocument, document_text};
+ghost use Rattle.apollo_canonical_documents.specs.EqualDocuments.{AreEqualDocuments, AreEqualInOrder};
+ghost use Rattle.apollo_canonical_documents.specs.EqualDocuments.{AreEqualItems, bare_faults};
+ghost use Rattle.apollo_canonical_documents.specs.FromTexts.{BuildDocumentAgain, IsDocumentOfTexts};
+ghost use Rattle.apollo_canonical_documents.specs.FromTexts.{IsReadingOfDocument, document_text};
 
 /// What the law of equal lists takes from the laws below.
 fn lists_below()
@@ -41,9 +43,11 @@ fn laws_below()
 /// GraphQL specification of October 2021, sections 2.2 to 2.8.
 pub fn equal_definitions_mean_equal_documents()
     ensures equal { (schema : Option Schema) (xs ys : List DocumentItem) → AreEqualItems xs ys
-        → (a b : ExecutableDocument) → IsDocumentOf schema xs a → IsDocumentOf schema ys b → AreEqualDocuments a b }
+        → (a b : ExecutableDocument) → IsDocumentOf schema xs a → IsDocumentOf schema ys b
+        → AreEqualDocuments a b }
     ensures ordered { (schema : Option Schema) (xs ys : List DocumentItem) → AreEqualItems xs ys
-        → (a b : ExecutableDocument) → IsDocumentOf schema xs a → IsDocumentOf schema ys b → AreEqualInOrder a b }
+        → (a b : ExecutableDocument) → IsDocumentOf schema xs a → IsDocumentOf schema ys b
+        → AreEqualInOrder a b }
     ensures text { (schema : Option Schema) (xs ys : List DocumentItem) → AreEqualItems xs ys
         → (a b : ExecutableDocument) → IsDocumentOf schema xs a → IsDocumentOf schema ys b
         → document_text a ≡ document_text b }
@@ -60,10 +64,12 @@ pub fn equal_definitions_mean_equal_documents()
 /// document with the same text. Nothing is wrong with it, but that an operation without a name is ambiguous
 /// where named ones stand beside it. GraphQL specification of October 2021, sections 2.2 to 2.8.
 pub fn canonical_document_text()
-    ensures read { (schema : Option Schema) (document : ExecutableDocument) → IsDocumentOfTexts schema document
+    ensures read { (schema : Option Schema) (document : ExecutableDocument)
+        → IsDocumentOfTexts schema document
         → IsFilledDocument document → erased_definitions document ≢ [] → (r : Reading) → r.file.0 ≢ 0
         → IsReadingOfDocument document r → (definitions : List Definition) × Reads r definitions }
-    ensures builds { (schema : Option Schema) (document : ExecutableDocument) → IsDocumentOfTexts schema document
+    ensures builds { (schema : Option Schema) (document : ExecutableDocument)
+        → IsDocumentOfTexts schema document
         → IsFilledDocument document → erased_definitions document ≢ [] → (r : Reading)
         → IsReadingOfDocument document r → (definitions : List Definition) → Reads r definitions
         → BuildDocumentAgain schema document definitions }

@@ -1,5 +1,5 @@
--- Definitions that differ in locations alone, and are not marked built-in, make lists that are alike: with adoption, one
--- has a fault where the other has, and they mean schemas that are written out alike.
+-- Definitions that differ in locations alone, and are not marked built-in, make lists that are alike: with
+-- adoption, one has a fault where the other has, and they mean schemas that are written out alike.
 use Rattle.apollo_meaning.proofs.Prelude.{◌++◌, ◌∙◌, ◌∷◌, ◌≡◌, Added, AllByRecursion, Defined, Definition, Extended, Fault, List, ListItem, Option, Other, SchemaDefined, SchemaExtended, [], added, added_item, added_items, ap, arith, completed, false, folding_order, is_built_in, map, map-append, None, refl, subst, sym, true, whole, ℕ}
 use Rattle.graphql_nodes.specs.declared.source.SourceSpan.{SourceSpan}
 use Rattle.graphql_ast.specs.BareDocuments.{bare_definition}

@@ -1,4 +1,5 @@
--- Lists of definitions without their locations, but for the mark of what is built-in: what is chosen and found in them.
+-- Lists of definitions without their locations, but for the mark of what is built-in: what is chosen and
+-- found in them.
 use Rattle.apollo_meaning.proofs.Prelude.{◌∙◌, ◌∷◌, ◌≡◌, Bool, Defined, Definition, EnumBody, Extended, InputObjectBody, InterfaceBody, List, ListItem, NodeView, None, ObjectBody, Option, Other, ScalarBody, SchemaDefined, SchemaExtended, SchemaPart, Some, TypeBody, TypePart, UnionBody, [], ap, arith, defined_part, defined_schema, directive_definitions, extended_part, extended_schema, extensions_of, false, filter, filter_map, find, first, first_schema, is_built_in, key_of, kind_of, map, of_kind, option_map, refl, same, same_kind, schema_extensions, slice_get, sym, true, ℕ, DirectiveDefinition}
 use Rattle.apollo_meaning.specs.Directives.{directive_part}
 use Rattle.apollo_meaning.specs.Items.Parts.{body_kind}

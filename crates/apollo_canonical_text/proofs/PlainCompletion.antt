@@ -1,4 +1,5 @@
--- What a list is completed with, types that are adopted and an implied schema definition, comes plain of a plain list.
+-- What a list is completed with, types that are adopted and an implied schema definition, comes plain of a
+-- plain list.
 use Rattle.apollo_meaning.proofs.Prelude.{◌++◌, ◌∙◌, ◌∷◌, ◌≡◌, Bool, Defined, List, ListItem, Mutation, OperationType, Query, Root, SchemaPart, Subscription, TypeBody, TypePart, [], adopted, adopted_by, adopted_part, ap, arith, cond, extended_names, extended_part, false, filter_map, first_of_each, flat_map, implied_schema, key_of, kind_of, map, map-append, map-map, option_map_or, orphans_of, refl, roots_in, same, same_kind, schema_extensions, schema_for, sym, true, completed, with_adopted, ℕ}
 use Rattle.graphql_nodes.specs.OperationTexts.{default_type_text}
 use Rattle.apollo_meaning.specs.Completion.ImpliedSchema.{default_root, implicit_roots, implicit_root, is_object_name}

@@ -1,5 +1,5 @@
--- Plain components are put under their origins as plain parts, and plain types are written out as what the types are
--- written out as, without locations.
+-- Plain components are put under their origins as plain parts, and plain types are written out as what the
+-- types are written out as, without locations.
 use Rattle.apollo_meaning.proofs.Prelude.{Component, ComponentName, ◌++◌, ◌∙◌, ◌∷◌, ◌≡◌, Bool, Enum, ExtendedType, InputObject, Interface, List, NameView, None, Object, Option, Scalar, Union, [], ap, arith, cond, false, filter, filter_map, first_of_each, is_built_in, map, map-append, map-map, option_map, refl, sym, true, drop, TypeKind, type_kind}
 use Rattle.graphql_nodes.specs.Comparing.{bare_name, bare_node}
 use Rattle.graphql_nodes.specs.Tables.{values_of}

@@ -1,4 +1,5 @@
--- What the schema of a well-formed list is written out as: the schema's definition, directive definitions and types.
+-- What the schema of a well-formed list is written out as: the schema's definition, directive definitions and
+-- types.
 use Rattle.std.proofs.Common.{◌≡◌, ℕ, Bool, true, false, cond, ◌&&◌, List, ◌++◌, Option, None, Some, map, filter, refl, sym, subst, ◌∙◌, drop, option_map}
 use Rattle.std.specs.List.{AllByRecursion, IsDistinct, filter_map, find, flat_map, last_or}
 use Rattle.std.specs.Option.{IfSome, unwrap_or}

@@ -69,10 +69,13 @@ pub record IsReadingOf (schema : Schema) (r : Reading) : Type 0 where
 pub record BuildAgain (schema : Schema) (definitions : List Definition) : Type 0 where
   pub faultless : faults_of true (with_built_ins (added false definitions)) ≡ []
   -- there is a schema that they mean
-  pub means : (start : ℕ) → (again : Schema) × MeansSchema start true (with_built_ins (added false definitions)) again
+  pub means : (start : ℕ)
+      → (again : Schema) × MeansSchema start true (with_built_ins (added false definitions)) again
   -- each is equal to this one
-  pub equal : (start : ℕ) (again : Schema) → MeansSchema start true (with_built_ins (added false definitions)) again
+  pub equal : (start : ℕ) (again : Schema)
+      → MeansSchema start true (with_built_ins (added false definitions)) again
       → AreEqualSchemas again schema
   -- and has its text
-  pub text : (start : ℕ) (again : Schema) → MeansSchema start true (with_built_ins (added false definitions)) again
+  pub text : (start : ℕ) (again : Schema)
+      → MeansSchema start true (with_built_ins (added false definitions)) again
       → schema_text again ≡ schema_text schema

@@ -1,4 +1,5 @@
--- Lists of definitions that could have come of texts: GraphQL specification of October 2021, sections 2 and 3.
+-- Lists of definitions that could have come of texts: GraphQL specification of October 2021, sections 2 and
+-- 3.
 use Rattle.std.specs.Prelude.{List}
 use Rattle.std.specs.List.{AllByRecursion}
 use Rattle.graphql_ast.specs.declared.definition.Definition.{Definition}

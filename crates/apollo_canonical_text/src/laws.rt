@@ -3,7 +3,8 @@ ghost use Rattle.std.specs.Prelude.{◌≢◌, List, []};
 ghost use Rattle.graphql_ast.specs.declared.definition.Definition.{Definition};
 ghost use Rattle.apollo_schema.specs.SchemaWriteOut.{write_schema};
 ghost use Rattle.apollo_schema.specs.declared.schema.Schema.{Schema};
-ghost use Rattle.apollo_canonical_text.specs.FromTexts.{BuildAgain, IsBuiltOfTexts, IsReadingOf, Reading, Reads};
+ghost use Rattle.apollo_canonical_text.specs.FromTexts.{BuildAgain, IsBuiltOfTexts, IsReadingOf, Reading};
+ghost use Rattle.apollo_canonical_text.specs.FromTexts.{Reads};
 ghost use Rattle.apollo_canonical_text.specs.TextLaws.{TextLaws};
 
 /// What the law of texts takes from the laws below.

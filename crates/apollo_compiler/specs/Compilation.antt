@@ -13,15 +13,17 @@ use Rattle.apollo_compiler.specs.Lists.{all_sources, executable_list, schema_lis
 use Rattle.apollo_compiler.specs.declared.compile_options.CompileOptions.{CompileOptions}
 use Rattle.apollo_compiler.specs.declared.compiled.Compiled.{Compiled}
 
--- these documents are compiled to this, with these options, and with definitions of the type system at fault in executable
--- documents, or not
-pub record IsCompiled (options : CompileOptions) (schema_documents executable_documents : List Document) (errors : Bool) (c : Compiled) : Type 0 where
+-- these documents are compiled to this, with these options, and with definitions of the type system at fault
+-- in executable documents, or not
+pub record IsCompiled (options : CompileOptions) (schema_documents executable_documents : List Document)
+    (errors : Bool) (c : Compiled) : Type 0 where
   -- the schema that the list means, with its extensions numbered from 0
   pub schema : MeansSchema 0 options.adopt_orphan_extensions (schema_list options schema_documents) c.schema
   -- its source files are those of the schema documents
   pub schema_sources : c.schema.sources ≡ all_sources schema_documents
   -- the faults of the list
-  pub schema_faults : c.schema_faults.items ≡ faults_of options.adopt_orphan_extensions (schema_list options schema_documents)
+  pub schema_faults : c.schema_faults.items
+      ≡ faults_of options.adopt_orphan_extensions (schema_list options schema_documents)
   -- what the schema is written out as
   pub ast : c.ast.items ≡ write_schema c.schema
   -- the schema that the write-out alone means, with adoption, numbered from 0 as well
@@ -37,7 +39,8 @@ pub record IsCompiled (options : CompileOptions) (schema_documents executable_do
   -- its source files are those of the executable documents
   pub document_sources : c.document.sources ≡ all_sources executable_documents
   -- the faults of the executable documents over the schema
-  pub document_faults : c.document_faults.items ≡ faults_of_document (Some c.schema) (executable_list errors executable_documents)
+  pub document_faults : c.document_faults.items
+      ≡ faults_of_document (Some c.schema) (executable_list errors executable_documents)
   -- what the document is erased to
   pub erased : c.erased ≡ erased_document c.document
 

@@ -1,5 +1,6 @@
 -- The words of the headline: GraphQL specification of October 2021, sections 2.2 to 2.8, 3, 3.4.3 and 6.3.2.
-use Rattle.std.specs.Prelude.{◌≡◌, ◌↔◌, ℕ, Bool, true, List, [], ◌++◌, map, filter, not, Option, None, Some, IsSome, nat_eq, option_map}
+use Rattle.std.specs.Prelude.{◌≡◌, ◌↔◌, ℕ, Bool, true, List, [], ◌++◌, map, filter, not, Option, None, Some}
+use Rattle.std.specs.Prelude.{IsSome, nat_eq, option_map}
 use Rattle.std.specs.List.{enumerate_from, filter_map, flat_map}
 use Rattle.std.specs.List.Sorted.{IsPermutation}
 use Rattle.graphql_nodes.specs.NameView.{NameView}
@@ -23,8 +24,12 @@ use Rattle.apollo_meaning.specs.Order.Places.{Placed, first_place, folding_order
 use Rattle.apollo_meaning.specs.Schema.Definition.{no_schema, schema_from, schema_parts, schema_sourced}
 use Rattle.apollo_meaning.specs.Schema.Whole.{whole}
 use Rattle.apollo_meaning.specs.Types.Meaning.{parts, extensions_with_origin, type_from}
-use Rattle.apollo_schema_laws.specs.Dropped.{executable_fault, further_directive, further_directives, further_schemas, further_type, further_types, is_passed_over, of_another_kind, orphans_by_name, undefined_places}
-use Rattle.apollo_schema_laws.specs.Reported.{Executable, FurtherDirective, FurtherSchema, FurtherType, OrphanOfSchema, OrphanOfType, OtherKind, RepeatedComponent, RepeatedRoot, reported, reported_sorts}
+use Rattle.apollo_schema_laws.specs.Dropped.{executable_fault, further_directive, further_directives}
+use Rattle.apollo_schema_laws.specs.Dropped.{further_schemas, further_type, further_types, is_passed_over}
+use Rattle.apollo_schema_laws.specs.Dropped.{of_another_kind, orphans_by_name, undefined_places}
+use Rattle.apollo_schema_laws.specs.Reported.{Executable, FurtherDirective, FurtherSchema, FurtherType}
+use Rattle.apollo_schema_laws.specs.Reported.{OrphanOfSchema, OrphanOfType, OtherKind, RepeatedComponent}
+use Rattle.apollo_schema_laws.specs.Reported.{RepeatedRoot, reported, reported_sorts}
 use Rattle.apollo_schema.specs.EqualSchemas.{AreEqualSchemas}
 use Rattle.apollo_schema.specs.SchemaWriteOut.{write_schema}
 use Rattle.apollo_schema.specs.declared.schema.Schema.{Schema}
@@ -43,67 +48,86 @@ use Rattle.apollo_document.specs.TypedDefinitions.{stripped_fragment, stripped_o
 abbrev pub type_named : Schema → List ℕ → Option ExtendedType
 type_named schema name = lookup (by_text name) schema.types
 
--- a type of this name: the first definition with all extensions of that one's kind, wherever they stand, in order. What is of an
--- extension has its identity: its location, and its number, by which it is told apart from all others that are folded
+-- a type of this name: the first definition with all extensions of that one's kind, wherever they stand, in
+-- order. What is of an extension has its identity: its location, and its number, by which it is told apart
+-- from all others that are folded
 pub record IsFolded (start : ℕ) (items : List ListItem) (name : List ℕ) (t : ExtendedType) : Type 0 where
   -- the first definition of the name
   pub definition : TypePart
   pub is_first : first items name ≡ Some definition
   -- the extensions of the name that have its kind are folded, all and in order
-  pub are_all : map (λ e. e.1) (extensions_with_origin name start (folding_order items)) ≡ of_kind (kind_of definition) (extensions_of items name)
+  pub are_all : map (λ e. e.1) (extensions_with_origin name start (folding_order items))
+      ≡ of_kind (kind_of definition) (extensions_of items name)
   -- the type is what the definition and these extensions make
   pub is : t ≡ type_from definition (parts start (folding_order items) name definition)
 
--- the schema of a list, from all that it defines and extends and what that is completed with, its extensions numbered from `start`
+-- the schema of a list, from all that it defines and extends and what that is completed with, its extensions
+-- numbered from `start`
 pub record IsSchemaOf (start : ℕ) (items : List ListItem) (schema : Schema) : Type 0 where
   -- each type is its name's first definition with all extensions of its kind
-  pub folds : (name : List ℕ) (t : ExtendedType) → type_named schema name ≡ Some t → IsFolded start items name t
+  pub folds : (name : List ℕ) (t : ExtendedType) → type_named schema name ≡ Some t
+      → IsFolded start items name t
   -- each name that is defined has a type, and no other
   pub defined : (name : List ℕ) → IsSome (type_named schema name) ↔ IsSome (first items name)
   -- the types stand in the order of their first definitions
-  pub order : keys_of schema.types ≡ first_of_each same_text (map (λ p. p.name) (filter_map defined_part items))
+  pub order : keys_of schema.types
+      ≡ first_of_each same_text (map (λ p. p.name) (filter_map defined_part items))
   -- no two extensions that are folded, of types or of the schema, have one number
   pub numbers : HasUniqueKeys nat_eq (enumerate_from start (folding_order items))
   -- a directive's name means its first definition that is handed in, or else the built-in one
-  pub directives : (name : List ℕ) → lookup (by_text name) schema.directive_definitions ≡ directive_of (directive_definitions items) name
+  pub directives : (name : List ℕ) → lookup (by_text name) schema.directive_definitions
+      ≡ directive_of (directive_definitions items) name
   -- the directive definitions stand in the order of their first ones
   pub directive_order : keys_of schema.directive_definitions ≡ directive_names (directive_definitions items)
-  -- the schema definition is the first one with all its extensions: directives joined, and the first root for each operation
-  pub definition : (s : SchemaPart) → first_schema items ≡ Some s → schema.schema_definition ≡ schema_from s (schema_parts start (folding_order items) s)
+  -- the schema definition is the first one with all its extensions: directives joined, and the first root for
+  -- each operation
+  pub definition : (s : SchemaPart) → first_schema items ≡ Some s
+      → schema.schema_definition ≡ schema_from s (schema_parts start (folding_order items) s)
   -- all extensions of the schema are folded into it, in order
-  pub extended : (s : SchemaPart) → first_schema items ≡ Some s → map (λ e. e.1) (schema_sourced start (folding_order items)) ≡ schema_extensions items
+  pub extended : (s : SchemaPart) → first_schema items ≡ Some s
+      → map (λ e. e.1) (schema_sourced start (folding_order items)) ≡ schema_extensions items
   -- without one it is empty
   pub without_definition : first_schema items ≡ None → schema.schema_definition ≡ no_schema
 
 -- the faults of a list: exactly one for each thing that is dropped, and none else, of each sort in its order
 pub record HasItsFaults (adopts : Bool) (xs : List Added) : Type 0 where
   -- each fault is of one sort, and none is lost or reported twice
-  pub all_sorts : IsPermutation (faults_of adopts xs) (flat_map (λ s. reported s adopts xs) (reported_sorts adopts xs))
+  pub all_sorts :
+      IsPermutation (faults_of adopts xs) (flat_map (λ s. reported s adopts xs) (reported_sorts adopts xs))
   -- of operations and fragments
   pub executables : reported Executable adopts xs ≡ filter_map (λ a. executable_fault a.1) xs
   -- of further definitions of the schema, in view of the first one
-  pub further_schemas : reported FurtherSchema adopts xs ≡ map (λ p. further_schema p.0.1 p.1.1) (further_schemas (whole adopts xs))
+  pub further_schemas : reported FurtherSchema adopts xs
+      ≡ map (λ p. further_schema p.0.1 p.1.1) (further_schemas (whole adopts xs))
   -- of directive definitions behind one of their name that was handed in
-  pub further_directives : reported FurtherDirective adopts xs ≡ map (λ p. further_directive p.0.1 p.1.1) (further_directives (whole adopts xs))
+  pub further_directives : reported FurtherDirective adopts xs
+      ≡ map (λ p. further_directive p.0.1 p.1.1) (further_directives (whole adopts xs))
   -- of further definitions of types, but those of built-in types that may be ignored
-  pub further_types : reported FurtherType adopts xs ≡ map (λ p. further_type p.0.1 p.1.1) (filter (λ p. not (is_passed_over p)) (further_types (whole adopts xs)))
+  pub further_types : reported FurtherType adopts xs
+      ≡ map (λ p. further_type p.0.1 p.1.1)
+      (filter (λ p. not (is_passed_over p)) (further_types (whole adopts xs)))
   -- of extensions of names that have no definition
   pub orphans : reported OrphanOfType adopts xs ≡ map (λ e. orphan e.1) (orphans_by_name (whole adopts xs))
   -- of extensions of a schema that has no definition
-  pub schema_orphans : reported OrphanOfSchema adopts xs ≡ map (λ e. schema_orphan e.1) (undefined_places schemas (whole adopts xs))
+  pub schema_orphans : reported OrphanOfSchema adopts xs
+      ≡ map (λ e. schema_orphan e.1) (undefined_places schemas (whole adopts xs))
   -- of extensions of a name that are of another kind than its first definition
   pub mismatches : (d : Placed TypePart) → first_place types (whole adopts xs) (key_of d.1) ≡ Some d
-      → reported (OtherKind (key_of d.1)) adopts xs ≡ map (λ e. kind_mismatch d.1 e.1) (of_another_kind (whole adopts xs) (key_of d.1))
+      → reported (OtherKind (key_of d.1)) adopts xs
+      ≡ map (λ e. kind_mismatch d.1 e.1) (of_another_kind (whole adopts xs) (key_of d.1))
   -- of components of a type that have the name of an earlier one
   pub components : (d : Placed TypePart) → first_place types (whole adopts xs) (key_of d.1) ≡ Some d
       → reported (RepeatedComponent (key_of d.1)) adopts xs ≡ found_of_type (whole adopts xs) d.1
   -- a name that has no definition has neither of these
-  pub undefined : (n : List ℕ) → first_place types (whole adopts xs) n ≡ None → (reported (OtherKind n) adopts xs ≡ []) × (reported (RepeatedComponent n) adopts xs ≡ [])
+  pub undefined : (n : List ℕ) → first_place types (whole adopts xs) n ≡ None
+      → (reported (OtherKind n) adopts xs ≡ []) × (reported (RepeatedComponent n) adopts xs ≡ [])
   -- of roots of the schema that have the operation of an earlier one
-  pub roots : (s : Placed SchemaPart) → first_place schemas (whole adopts xs) [] ≡ Some s → reported RepeatedRoot adopts xs ≡ found_of_schema (whole adopts xs) s.1
+  pub roots : (s : Placed SchemaPart) → first_place schemas (whole adopts xs) [] ≡ Some s
+      → reported RepeatedRoot adopts xs ≡ found_of_schema (whole adopts xs) s.1
   pub no_roots : first_place schemas (whole adopts xs) [] ≡ None → reported RepeatedRoot adopts xs ≡ []
 
--- a schema that the write-out of another means, with adoption, is equal to that one, has the same write-out, and nothing is at fault
+-- a schema that the write-out of another means, with adoption, is equal to that one, has the same write-out,
+-- and nothing is at fault
 pub record IsRebuiltEqual (ignores : Bool) (schema rebuilt : Schema) : Type 0 where
   -- nothing of the write-out is at fault
   pub faultless : faults_of true (written_again ignores schema) ≡ []
@@ -116,7 +140,9 @@ kept_operations s xs = listed (kept_anonymous s xs) ++ values_of (kept_named s x
 
 -- an operation with its typable selections alone, from its root type, which each has that is kept
 abbrev pub operation_stripped : Option Schema → NodeView OperationDefinition → Option ast.Definition
-operation_stripped s n = option_map (λ (root : NameView). d.OperationDefinition (at_place (stripped_operation s root) n)) (root_type_of s n.value.operation_type)
+operation_stripped s n =
+    option_map (λ (root : NameView). d.OperationDefinition (at_place (stripped_operation s root) n))
+    (root_type_of s n.value.operation_type)
 
 -- a fragment with its typable selections alone, from its condition
 abbrev pub fragment_stripped : Option Schema → NodeView FragmentDefinition → ast.Definition
@@ -124,10 +150,12 @@ fragment_stripped s n = d.FragmentDefinition (at_place (stripped_fragment s) n)
 
 -- the operations and fragments that are kept, each stripped
 abbrev pub kept_definitions : Option Schema → List DocumentItem → List ast.Definition
-kept_definitions s xs = filter_map (operation_stripped s) (kept_operations s xs) ++ map (fragment_stripped s) (values_of (kept_fragments s xs))
+kept_definitions s xs =
+    filter_map (operation_stripped s) (kept_operations s xs)
+    ++ map (fragment_stripped s) (values_of (kept_fragments s xs))
 
--- there is one walk over a set: these fields, each that is reached exactly as often as it stands there, in the order of walks;
--- in so many turns, which are at most two for each selection in reach, and one
+-- there is one walk over a set: these fields, each that is reached exactly as often as it stands there, in
+-- the order of walks; in so many turns, which are at most two for each selection in reach, and one
 pub record HasOneWalk (deep : Bool) (document : ExecutableDocument) (set : SelectionSet) : Type 0 where
   -- the fields that the walk gives
   pub fields : List (NodeView Field)

@@ -45,7 +45,8 @@ handed_in options documents = added options.ignore_builtin_redefinitions (all_de
 unfoldable pub schema_list : CompileOptions → List Document → List Added
 schema_list options documents = with_built_ins (handed_in options documents)
 
--- the list that a typed document is built of, in which definitions of the type system are at fault, or are not
+-- the list that a typed document is built of, in which definitions of the type system are at fault, or are
+-- not
 abbrev pub executable_list : Bool → List Document → List DocumentItem
 executable_list errors documents = document_list errors (all_definitions documents)
 

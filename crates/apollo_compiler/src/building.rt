@@ -18,22 +18,25 @@ use graphql_nodes::collections::hash_keys::HashKeys;
 use std::alloc::Global;
 
 /// The schema of the documents with these options, and its faults, as
-/// [`SchemaBuilder::build`](apollo_schema::schema_builder::SchemaBuilder::build) gives them. Its extensions are
-/// numbered from 0, and its tables hash by these keys. Its sources are those of the documents, merged. Where there are faults,
-/// it is what could be built. GraphQL specification of October 2021, section 3.
+/// [`SchemaBuilder::build`](apollo_schema::schema_builder::SchemaBuilder::build) gives them. Its extensions
+/// are numbered from 0, and its tables hash by these keys. Its sources are those of the documents, merged.
+/// Where there are faults, it is what could be built. GraphQL specification of October 2021, section 3.
 ///
-/// `Memory` is out of memory; `ExtensionIds` comes only where the numbers don't suffice for the extensions that are folded. Then
-/// all that was built is dropped, and the documents are as they were.
+/// `Memory` is out of memory; `ExtensionIds` comes only where the numbers don't suffice for the extensions
+/// that are folded. Then all that was built is dropped, and the documents are as they were.
 pub fn build_schema(
     alloc: Global,
     keys: HashKeys,
     options: CompileOptions,
     documents: &[Document],
 ) -> Result<(Schema, Faults), CompileError>
-    ensures means { IfOk result (λ built. MeansSchema 0 options.adopt_orphan_extensions (schema_list options documents.now) built.0) }
+    ensures means { IfOk result (λ built.
+        MeansSchema 0 options.adopt_orphan_extensions (schema_list options documents.now) built.0) }
     ensures sources { IfOk result (λ built. built.0.sources ≡ all_sources documents.now) }
-    ensures faults { IfOk result (λ built. built.1.items ≡ faults_of options.adopt_orphan_extensions (schema_list options documents.now)) }
-    ensures spent { result ≡ Err CompileError.ExtensionIds → SpendsIds 0 options.adopt_orphan_extensions (schema_list options documents.now) }
+    ensures faults { IfOk result (λ built. built.1.items
+        ≡ faults_of options.adopt_orphan_extensions (schema_list options documents.now)) }
+    ensures spent { result ≡ Err CompileError.ExtensionIds
+        → SpendsIds 0 options.adopt_orphan_extensions (schema_list options documents.now) }
 {
     let prepared = Prepared::new(alloc, keys)?;
     build_prepared(alloc, &prepared, options, documents)
@@ -46,10 +49,13 @@ pub(crate) fn build_prepared(
     options: CompileOptions,
     documents: &[Document],
 ) -> Result<(Schema, Faults), CompileError>
-    ensures means { IfOk result (λ built. MeansSchema 0 options.adopt_orphan_extensions (schema_list options documents.now) built.0) }
+    ensures means { IfOk result (λ built.
+        MeansSchema 0 options.adopt_orphan_extensions (schema_list options documents.now) built.0) }
     ensures sources { IfOk result (λ built. built.0.sources ≡ all_sources documents.now) }
-    ensures faults { IfOk result (λ built. built.1.items ≡ faults_of options.adopt_orphan_extensions (schema_list options documents.now)) }
-    ensures spent { result ≡ Err CompileError.ExtensionIds → SpendsIds 0 options.adopt_orphan_extensions (schema_list options documents.now) }
+    ensures faults { IfOk result (λ built. built.1.items
+        ≡ faults_of options.adopt_orphan_extensions (schema_list options documents.now)) }
+    ensures spent { result ≡ Err CompileError.ExtensionIds
+        → SpendsIds 0 options.adopt_orphan_extensions (schema_list options documents.now) }
 {
     a_longer_list_folds_no_less();
     let mut builder = prepared.begin(options)?;

@@ -3,10 +3,12 @@
 /// How the documents of a schema are taken.
 #[derive(Debug, Clone, Copy, PartialEq, Eq)]
 pub struct CompileOptions {
-    /// What has extensions and no definition is taken as defined: a type, empty, at its first extension; and the schema itself,
-    /// without a location, with the default roots unless an extension names a root (sections 3.3.2 and 3.4.3).
+    /// What has extensions and no definition is taken as defined: a type, empty, at its first extension; and
+    /// the schema itself, without a location, with the default roots unless an extension names a root
+    /// (sections 3.3.2 and 3.4.3).
     pub adopt_orphan_extensions: bool,
-    /// A further definition of a name whose type is built-in is passed over without a fault (sections 3.3 and 3.5).
+    /// A further definition of a name whose type is built-in is passed over without a fault (sections 3.3 and
+    /// 3.5).
     pub ignore_builtin_redefinitions: bool,
 }
 

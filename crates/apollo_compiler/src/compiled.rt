@@ -10,8 +10,8 @@ use graphql_ast::document::Document;
 /// What documents are compiled to, as [`compile`](crate::compiling::compile) says.
 #[derive(Drop)]
 pub struct Compiled {
-    /// The schema of the schema documents; where they have faults, what could be built of them. Its sources are those of these
-    /// documents, merged.
+    /// The schema of the schema documents; where they have faults, what could be built of them. Its sources
+    /// are those of these documents, merged.
     pub schema: Schema,
     /// The faults of the schema documents, in the order in which they are found.
     pub schema_faults: SchemaFaults,
@@ -23,8 +23,8 @@ pub struct Compiled {
     pub rebuilt_faults: SchemaFaults,
     /// The rebuilt schema as syntax.
     pub rebuilt_ast: Vec<Definition>,
-    /// The typed document of the executable documents over `schema`: what is kept of them. Its sources are those of these
-    /// documents, merged.
+    /// The typed document of the executable documents over `schema`: what is kept of them. Its sources are
+    /// those of these documents, merged.
     pub document: ExecutableDocument,
     /// The faults of the executable documents, in the order of their definitions.
     pub document_faults: DocumentFaults,

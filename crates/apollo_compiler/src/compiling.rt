@@ -21,21 +21,22 @@ use std::alloc::Global;
 
 /// Compiles documents: GraphQL specification of October 2021, sections 2.2 to 2.8 and 3.
 ///
-/// The schema documents are built to `schema`, with these options, and `ast` is that as syntax. `rebuilt` is built of `ast`
-/// alone, with adoption, and `rebuilt_ast` is that as syntax. The executable documents are built to `document`, over `schema`,
-/// and `erased` is that as syntax. Each build has its faults beside it, and is then what could be built. The extensions of both
-/// schemas are numbered from 0. Definitions of the type system in executable documents are passed over; with
-/// `type_system_definitions_are_errors` each is a fault.
+/// The schema documents are built to `schema`, with these options, and `ast` is that as syntax. `rebuilt` is
+/// built of `ast` alone, with adoption, and `rebuilt_ast` is that as syntax. The executable documents are
+/// built to `document`, over `schema`, and `erased` is that as syntax. Each build has its faults beside it,
+/// and is then what could be built. The extensions of both schemas are numbered from 0. Definitions of the
+/// type system in executable documents are passed over; with `type_system_definitions_are_errors` each is a
+/// fault.
 ///
-/// The sources of `schema` and of `document` are those of their documents, merged: of two files of one number the later stays.
-/// `rebuilt` and `erased` have none.
+/// The sources of `schema` and of `document` are those of their documents, merged: of two files of one number
+/// the later stays. `rebuilt` and `erased` have none.
 ///
 /// The rebuild has no faults, equals `schema` and is written out the same, under two conditions: no
 /// definition that is handed in is marked built-in; and each schema definition names a root. What else is
 /// promised is said by [`headline`].
 ///
-/// `Memory` is out of memory; `ExtensionIds` comes only where the numbers don't suffice for the extensions of the schema
-/// documents. No other error comes. The documents are as they were.
+/// `Memory` is out of memory; `ExtensionIds` comes only where the numbers don't suffice for the extensions of
+/// the schema documents. No other error comes. The documents are as they were.
 ///
 /// All tables hash by fixed keys: for documents from strangers, take [`compile_with_keys`].
 pub fn compile(
@@ -45,9 +46,13 @@ pub fn compile(
     executable_documents: &[Document],
     type_system_definitions_are_errors: bool,
 ) -> Result<Compiled, CompileError>
-    ensures compiled { IfOk result (IsCompiled options schema_documents.now executable_documents.now type_system_definitions_are_errors) }
-    ensures rebuilds { IfOk result (λ compiled. IsUnmarkedAndRooted (handed_in options schema_documents.now) → IsRebuiltAsItWas compiled) }
-    ensures spent { result ≡ Err CompileError.ExtensionIds → SpendsIds 0 options.adopt_orphan_extensions (schema_list options schema_documents.now) }
+    ensures compiled { IfOk result
+        (IsCompiled options schema_documents.now executable_documents.now
+        type_system_definitions_are_errors) }
+    ensures rebuilds { IfOk result (λ compiled. IsUnmarkedAndRooted (handed_in options schema_documents.now)
+        → IsRebuiltAsItWas compiled) }
+    ensures spent { result ≡ Err CompileError.ExtensionIds
+        → SpendsIds 0 options.adopt_orphan_extensions (schema_list options schema_documents.now) }
 {
     compile_with_keys(
         alloc,
@@ -59,8 +64,8 @@ pub fn compile(
     )
 }
 
-/// The same as [`compile`], errors too, for documents from strangers: all tables of both schemas and of the typed document hash
-/// by these keys. What is built, and in what order, is the same under any keys.
+/// The same as [`compile`], errors too, for documents from strangers: all tables of both schemas and of the
+/// typed document hash by these keys. What is built, and in what order, is the same under any keys.
 pub fn compile_with_keys(
     alloc: Global,
     keys: HashKeys,
@@ -69,9 +74,13 @@ pub fn compile_with_keys(
     executable_documents: &[Document],
     type_system_definitions_are_errors: bool,
 ) -> Result<Compiled, CompileError>
-    ensures compiled { IfOk result (IsCompiled options schema_documents.now executable_documents.now type_system_definitions_are_errors) }
-    ensures rebuilds { IfOk result (λ compiled. IsUnmarkedAndRooted (handed_in options schema_documents.now) → IsRebuiltAsItWas compiled) }
-    ensures spent { result ≡ Err CompileError.ExtensionIds → SpendsIds 0 options.adopt_orphan_extensions (schema_list options schema_documents.now) }
+    ensures compiled { IfOk result
+        (IsCompiled options schema_documents.now executable_documents.now
+        type_system_definitions_are_errors) }
+    ensures rebuilds { IfOk result (λ compiled. IsUnmarkedAndRooted (handed_in options schema_documents.now)
+        → IsRebuiltAsItWas compiled) }
+    ensures spent { result ≡ Err CompileError.ExtensionIds
+        → SpendsIds 0 options.adopt_orphan_extensions (schema_list options schema_documents.now) }
 {
     headline();
     a_write_out_folds_no_more();

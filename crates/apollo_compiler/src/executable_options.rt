@@ -3,7 +3,8 @@
 /// How executable documents are taken.
 #[derive(Debug, Clone, Copy, PartialEq, Eq)]
 pub struct ExecutableOptions {
-    /// Each definition of the type system in an executable document is a fault (section 5.1.1). Without it these are passed over.
+    /// Each definition of the type system in an executable document is a fault (section 5.1.1). Without it
+    /// these are passed over.
     pub type_system_definitions_are_errors: bool,
 }
 

@@ -1,5 +1,6 @@
-//! Documents compiled in one call: the schema of documents of the type system, its write-out built again, and the typed
-//! document of executable documents over the schema. GraphQL specification of October 2021, sections 2.2 to 2.8 and 3.
+//! Documents compiled in one call: the schema of documents of the type system, its write-out built again, and
+//! the typed document of executable documents over the schema. GraphQL specification of October 2021,
+//! sections 2.2 to 2.8 and 3.
 //!
 //! Proved: one call answers the schema, its write-out, that built again, the typed document, that as syntax,
 //! and all faults.

@@ -8,7 +8,8 @@ use graphql_nodes::collections::hash_keys::HashKeys;
 use std::alloc::{AllocError, Global};
 use std::marker::Model;
 
-/// A builder to which nothing was added. Those that begin as its copies share its built-in definitions, and have its keys.
+/// A builder to which nothing was added. Those that begin as its copies share its built-in definitions, and
+/// have its keys.
 pub(crate) struct Prepared {
     bare: SchemaBuilder,
 }
@@ -31,14 +32,15 @@ impl Model for Prepared {
 }
 
 impl Prepared {
-    /// A builder that hashes by these keys, and draws its numbers from a new source. The error is out of memory.
-    /// No clause: what each value of the type stands for is its invariant, and no clause sees keys.
+    /// A builder that hashes by these keys, and draws its numbers from a new source. The error is out of
+    /// memory. No clause: what each value of the type stands for is its invariant, and no clause sees keys.
     pub fn new(alloc: Global, keys: HashKeys) -> Result<Prepared, AllocError> {
         let bare = SchemaBuilder::with_keys(alloc, keys)?;
         Ok(Prepared { bare })
     }
 
-    /// A builder with these options, to which nothing was added, and which draws numbers from 0. The error is out of memory.
+    /// A builder with these options, to which nothing was added, and which draws numbers from 0. The error is
+    /// out of memory.
     pub fn begin(&self, options: CompileOptions) -> Result<SchemaBuilder, AllocError>
         ensures { IfOk result (λ builder. builder ≡ building_of options []) }
     {

@@ -38,21 +38,26 @@ fn written(alloc: Global, schema: &Schema) -> Result<Document, AllocError>
     Ok(document)
 }
 
-/// The write-out of a schema, and the schema that is built of that alone, with adoption and numbers from 0: an extension of a
-/// built-in type has no definition in a write-out, and neither has one of a schema whose definition is implied.
+/// The write-out of a schema, and the schema that is built of that alone, with adoption and numbers from 0:
+/// an extension of a built-in type has no definition in a write-out, and neither has one of a schema whose
+/// definition is implied.
 ///
-/// `Memory` is out of memory; `ExtensionIds` comes only where the numbers don't suffice for the extensions of the write-out.
+/// `Memory` is out of memory; `ExtensionIds` comes only where the numbers don't suffice for the extensions of
+/// the write-out.
 pub(crate) fn rebuild(
     alloc: Global,
     prepared: &Prepared,
     schema: &Schema,
 ) -> Result<Rebuilt, CompileError>
     ensures ast { IfOk result (λ rebuilt. rebuilt.ast.items ≡ write_schema schema.now) }
-    ensures means { IfOk result (λ rebuilt. MeansSchema 0 true (written_again false schema.now) rebuilt.schema) }
+    ensures means { IfOk result (λ rebuilt.
+        MeansSchema 0 true (written_again false schema.now) rebuilt.schema) }
     ensures sources { IfOk result (λ rebuilt. rebuilt.schema.sources ≡ []) }
-    ensures faults { IfOk result (λ rebuilt. rebuilt.faults.items ≡ faults_of true (written_again false schema.now)) }
+    ensures faults { IfOk result (λ rebuilt. rebuilt.faults.items
+        ≡ faults_of true (written_again false schema.now)) }
     ensures ast_again { IfOk result (λ rebuilt. rebuilt.ast_again.items ≡ write_schema rebuilt.schema) }
-    ensures spent { result ≡ Err CompileError.ExtensionIds → SpendsIds 0 true (written_again false schema.now) }
+    ensures spent { result ≡ Err CompileError.ExtensionIds
+        → SpendsIds 0 true (written_again false schema.now) }
 {
     let options = CompileOptions {
         adopt_orphan_extensions: true,

@@ -1,4 +1,5 @@
-//! Faults as compilers report them, with their line and a mark, and as JSON. A caller's own errors take part by [`Reported`].
+//! Faults as compilers report them, with their line and a mark, and as JSON. A caller's own errors take part
+//! by [`Reported`].
 
 pub use apollo_reporting::report::{FaultReport, report, report_text};
 pub use apollo_reporting::{

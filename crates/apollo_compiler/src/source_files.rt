@@ -14,14 +14,14 @@ use graphql_text::parse_error::ParseError;
 use graphql_text::parsing::{ParseOptions, parse_document};
 use std::alloc::{AllocError, Global};
 
-/// The document that the text of a file is: GraphQL specification of October 2021, section 2.2. The file is added to
-/// the sources, also where its text is refused, so that reports show its lines.
+/// The document that the text of a file is: GraphQL specification of October 2021, section 2.2. The file is
+/// added to the sources, also where its text is refused, so that reports show its lines.
 ///
-/// Its number is one more than how many files the sources have: files that are added so are numbered 1, 2, 3, and so on.
-/// In sources that have that number already, the file takes the place of the other.
+/// Its number is one more than how many files the sources have: files that are added so are numbered 1, 2, 3,
+/// and so on. In sources that have that number already, the file takes the place of the other.
 ///
-/// The refusals are those of [`parse_document`]; `BuiltInFile` is not among them. With `Memory` the file may be missing
-/// in the sources.
+/// The refusals are those of [`parse_document`]; `BuiltInFile` is not among them. With `Memory` the file may
+/// be missing in the sources.
 pub fn parse_file(
     alloc: Global,
     sources: &mut SourceMap,
@@ -29,19 +29,23 @@ pub fn parse_file(
     text: &str,
     options: ParseOptions,
 ) -> Result<Document, ParseError>
-    ensures found { IfOk result (λ read. spells_document (next_file sources.old) options.max_depth read.definitions
+    ensures found { IfOk result (λ read.
+        spells_document (next_file sources.old) options.max_depth read.definitions
         (words_of options.max_tokens text.now)) }
     ensures file { IfOk result (λ read. read.sources
         ≡ (next_file sources.old, file_of path.now text.now) ∷ []) }
     ensures added { IfOk result (λ _. sources.new ≡ with_file path.now text.now sources.old) }
     ensures only { (definitions : List Definition)
-        → spells_document (next_file sources.old) options.max_depth definitions (words_of options.max_tokens text.now)
+        → spells_document (next_file sources.old) options.max_depth definitions
+        (words_of options.max_tokens text.now)
         → MatchResult result (λ read. read.definitions ≡ definitions) (λ e. e.kind ≡ Memory) }
     ensures refused { IfErr result (IsRefused (document (next_file sources.old) options.max_depth)
         (spells_document (next_file sources.old) options.max_depth)
-        (document (next_file sources.old) (suc options.max_depth)).spells (next_file sources.old) (length text.now)
+        (document (next_file sources.old) (suc options.max_depth)).spells (next_file sources.old)
+        (length text.now)
         (words_of options.max_tokens text.now)) }
-    ensures shown { IfErr result (λ e. (e.kind ≡ Memory) ⊎ (sources.new ≡ with_file path.now text.now sources.old)) }
+    ensures shown { IfErr result (λ e. (e.kind ≡ Memory)
+        ⊎ (sources.new ≡ with_file path.now text.now sources.old)) }
 {
     let (number, file) = add_file(alloc, sources, path, text)?;
     parse_document(alloc, number, &file, options)

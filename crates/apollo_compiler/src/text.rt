@@ -1,4 +1,5 @@
-//! GraphQL text as trees, and trees as GraphQL text: GraphQL specification of October 2021, section 2 and appendix B.
+//! GraphQL text as trees, and trees as GraphQL text: GraphQL specification of October 2021, section 2 and
+//! appendix B.
 
 pub use crate::source_files::parse_file;
 pub use graphql_printing::members::{

@@ -21,17 +21,21 @@ pub(crate) struct TypedDocument {
     pub erased: Document,
 }
 
-/// The typed document of these documents, as [`build_executable_document`] says, and as syntax. The error is that memory ran
-/// out.
+/// The typed document of these documents, as [`build_executable_document`] says, and as syntax. The error is
+/// that memory ran out.
 pub(crate) fn type_documents(
     alloc: Global,
     schema: &Schema,
     options: ExecutableOptions,
     documents: &[Document],
 ) -> Result<TypedDocument, AllocError>
-    ensures means { IfOk result (λ typed. IsDocumentOf (Some schema.now) (executable_list options.type_system_definitions_are_errors documents.now) typed.document) }
+    ensures means { IfOk result (λ typed.
+        IsDocumentOf (Some schema.now)
+        (executable_list options.type_system_definitions_are_errors documents.now) typed.document) }
     ensures sources { IfOk result (λ typed. typed.document.sources ≡ all_sources documents.now) }
-    ensures faults { IfOk result (λ typed. typed.faults.items ≡ document_faults (Some schema.now) (executable_list options.type_system_definitions_are_errors documents.now)) }
+    ensures faults { IfOk result (λ typed. typed.faults.items
+        ≡ document_faults (Some schema.now)
+        (executable_list options.type_system_definitions_are_errors documents.now)) }
     ensures erased { IfOk result (λ typed. typed.erased ≡ erased_document typed.document) }
 {
     let (document, faults) = build_executable_document(alloc, schema, options, documents)?;

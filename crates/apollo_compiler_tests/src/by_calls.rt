@@ -1,5 +1,5 @@
-//! What documents that are made by calls are compiled to: arguments of directives, names that are no names of GraphQL, and
-//! nodes that are marked built-in.
+//! What documents that are made by calls are compiled to: arguments of directives, names that are no names of
+//! GraphQL, and nodes that are marked built-in.
 
 use crate::compiling::{PLAIN, expect_told, told, told_of_both};
 use crate::making::{marked, name, products, unchecked_fragment, unchecked_names};
@@ -41,7 +41,8 @@ fn names_that_are_not_checked_are_rebuilt_equal_and_pass_through_typed_documents
     );
 }
 
-/// A definition that is marked built-in is not written out. What is adopted for its extension is marked so too, and has no `a`.
+/// A definition that is marked built-in is not written out. What is adopted for its extension is marked so
+/// too, and has no `a`.
 #[test]
 fn definitions_that_are_marked_built_in_are_compiled(rt: HostRuntime) {
     let alloc = rt.alloc();

@@ -37,7 +37,8 @@ fn push_parts(text: &mut String, compiled: &Compiled) -> Result<(), AllocError> 
     write!(text, "equal: {is_equal}\n")
 }
 
-/// What the parts are of what an input says behind and before its division, compiled under fixed keys, or under other ones.
+/// What the parts are of what an input says behind and before its division, compiled under fixed keys, or
+/// under other ones.
 fn told(
     alloc: Global,
     keys: Option<HashKeys>,
@@ -82,7 +83,8 @@ fn a_schema_definition_without_a_root_is_rebuilt_with_one(rt: HostRuntime) {
     );
 }
 
-/// A schema with a fault, and documents of which one has a fault, a definition of the type system, and a field of no type.
+/// A schema with a fault, and documents of which one has a fault, a definition of the type system, and a
+/// field of no type.
 const FAULTY: &str =
     "def object Query\nfield a Int\nfield a Int\n===\noperation query Q\nsel 0 field a\nsel 0 field gone\n---\ndef object T\n";
 

@@ -1,4 +1,5 @@
-//! What is said of what documents are compiled to. One function owns what is compiled, which is dear to prove.
+//! What is said of what documents are compiled to. One function owns what is compiled, which is dear to
+//! prove.
 
 use apollo_compiler::{CompileOptions, Compiled, Document, ExecutableOptions, compile};
 use bench_notation::printing::print;
@@ -39,8 +40,8 @@ fn push_schema(alloc: Global, text: &mut String, compiled: &Compiled) -> Result<
     )
 }
 
-/// Adds whether the executable documents are without fault and equal to the first of them, and the typed document: each field
-/// with its definition, that with its directives.
+/// Adds whether the executable documents are without fault and equal to the first of them, and the typed
+/// document: each field with its definition, that with its directives.
 fn push_document(
     text: &mut String,
     compiled: &Compiled,

@@ -1,5 +1,6 @@
 //! The examples as GraphQL text and in the notation: they say the same, and are compiled to the same, but for
-//! what the notation has no line for. `tools/checked_examples` sees to it that these are the texts of `examples`.
+//! what the notation has no line for. `tools/checked_examples` sees to it that these are the texts of
+//! `examples`.
 
 use crate::compiling::PLAIN;
 use crate::texts::read;
@@ -243,8 +244,8 @@ fragment Cover Review
 sel 0 field text
 ";
 
-/// What is written out of the text alone: there the definition of the schema has a description, and without one it
-/// is as implied.
+/// What is written out of the text alone: there the definition of the schema has a description, and without
+/// one it is as implied.
 const DEFINITION: &str = "schema\nroot query Query\nroot mutation Mutation\n";
 
 /// Adds the definitions of documents in the notation.
@@ -280,8 +281,8 @@ fn push_compiled(alloc: Global, text: &mut String, compiled: &Compiled) -> Resul
     push_faults(text, compiled)
 }
 
-/// What documents of both sorts say and are compiled to, in the notation, with the message of each fault. In front
-/// of what they are compiled to stands another text.
+/// What documents of both sorts say and are compiled to, in the notation, with the message of each fault. In
+/// front of what they are compiled to stands another text.
 fn told(
     alloc: Global,
     schema: &[Document],
@@ -305,8 +306,8 @@ fn told_of_text(alloc: Global, executable: &str) -> Option<String> {
     told(alloc, &[store, reviews], &[executable], "")
 }
 
-/// What the store and an executable document tell that are written in the notation, as if the definition of the
-/// schema were written out.
+/// What the store and an executable document tell that are written in the notation, as if the definition of
+/// the schema were written out.
 fn told_of_notation(alloc: Global, executable: &str) -> Option<String> {
     let text = format!(in alloc; "{STORE_NOTATION}===\n{executable}").ok()?;
     let documents = read_divided(alloc, text.as_str()).ok()?;

@@ -18,8 +18,8 @@ const ADOPTING: CompileOptions = CompileOptions {
     ignore_builtin_redefinitions: true,
 };
 
-/// Definitions of each kind, one with more fields than a table first has room for, and extensions before their definition, behind it,
-/// and without one. Behind the division operations and a fragment.
+/// Definitions of each kind, one with more fields than a table first has room for, and extensions before
+/// their definition, behind it, and without one. Behind the division operations and a fragment.
 const INPUT: &str =
     "ext object Query\nfield late Int\ndef object Query\nfield node Node\nimplements Node\ndef interface Node\nfield id ID!\nimplements Node\ndef union Hit\nmember Query\ndef enum Tone\nvalue LOW\next enum Tone\nvalue HIGH\ndef input Wide\nfield a Int\nfield b Int\nfield c Int\nfield d Int\nfield e Int\nfield f Int\nfield g Int\nfield h Int\nfield i Int\nfield j Int\ndef scalar Date\ndirective key\non OBJECT\next object Left\nfield over Int\next enum Gone\nvalue A\n===\noperation query One\nsel 0 field late\nsel 0 spread F\noperation query Two\nsel 0 field late\nfragment F Query\nsel 0 field node\nsel 1 field id\n";
 
@@ -32,8 +32,8 @@ fn is_built_keyed(alloc: Global, options: CompileOptions, documents: &[Document]
     }
 }
 
-/// Which of all that is built and compiled hash by these keys: the schema that is built, the one that is compiled, the one that
-/// is rebuilt, the typed document.
+/// Which of all that is built and compiled hash by these keys: the schema that is built, the one that is
+/// compiled, the one that is rebuilt, the typed document.
 fn keyed_parts(
     alloc: Global,
     options: CompileOptions,

@@ -28,7 +28,8 @@ fn are_equal<T: PartialEq + Drop, E: Drop>(
     }
 }
 
-/// Whether what a coordinate points to in two schemas is equal; none where the lookup of an attribute answers otherwise.
+/// Whether what a coordinate points to in two schemas is equal; none where the lookup of an attribute answers
+/// otherwise.
 fn are_same(coordinate: &SchemaCoordinate, first: &Schema, second: &Schema) -> Option<bool> {
     let same = are_equal(coordinate.lookup(first), coordinate.lookup(second));
     match coordinate {
@@ -38,7 +39,8 @@ fn are_same(coordinate: &SchemaCoordinate, first: &Schema, second: &Schema) -> O
     }
 }
 
-/// Expects what coordinates of each form point to in the schemas of two texts to be equal, or else unequal but for the enum value.
+/// Expects what coordinates of each form point to in the schemas of two texts to be equal, or else unequal
+/// but for the enum value.
 fn expect(rt: &(impl Abort + AllocGlobal), second: &str, are_equal: bool) {
     let first = schema_of(rt.alloc(), FIRST).expect(rt, "a schema");
     let second = schema_of(rt.alloc(), second).expect(rt, "a schema");

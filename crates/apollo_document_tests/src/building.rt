@@ -10,7 +10,8 @@ use std::slice;
 use telling::Tell;
 use telling::containers::tell_all;
 
-/// Adds a document, unless it is refused. The contract of the call stays here, so that no loop carries it along.
+/// Adds a document, unless it is refused. The contract of the call stays here, so that no loop carries it
+/// along.
 fn add(
     builder: &mut ExecutableDocumentBuilder<'_>,
     document: &Document,
@@ -47,7 +48,8 @@ pub trait View {
     ) -> Result<(), AllocError>;
 }
 
-/// A view of what documents build over the schema of the input, or without one: then definitions of the type system are no faults.
+/// A view of what documents build over the schema of the input, or without one: then definitions of the type
+/// system are no faults.
 #[derive(Drop)]
 pub struct Built<V> {
     pub is_over: bool,

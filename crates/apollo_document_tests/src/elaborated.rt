@@ -1,4 +1,5 @@
-//! Selections made typed over a schema and without one, and field sets, with their faults and their write-out.
+//! Selections made typed over a schema and without one, and field sets, with their faults and their
+//! write-out.
 
 use crate::inputs::{Account, expect};
 use apollo_document::{
@@ -17,8 +18,9 @@ use std::test::Fail;
 use telling::Tell;
 use telling::containers::tell_all;
 
-/// The selections of operations, from the type `Query` in the query `Q`, over the schema or without one; and copies of the field
-/// sets of the selections of fragments, from the types of their conditions: whole, or as they are written out alone.
+/// The selections of operations, from the type `Query` in the query `Q`, over the schema or without one; and
+/// copies of the field sets of the selections of fragments, from the types of their conditions: whole, or as
+/// they are written out alone.
 #[derive(Drop)]
 pub struct Elaborated {
     pub has_schema: bool,

@@ -17,7 +17,8 @@ fn is_keyed(builder: ExecutableDocumentBuilder<'_>, keys: HashKeys) -> bool {
     }
 }
 
-/// Whether a document over a schema under these keys hashes by the second ones, which its builder is given if there are any.
+/// Whether a document over a schema under these keys hashes by the second ones, which its builder is given if
+/// there are any.
 fn is_keyed_over(alloc: Global, of_schema: HashKeys, keys: Option<HashKeys>) -> bool {
     let Ok(builder) = SchemaBuilder::with_keys(alloc, of_schema) else {
         return false;

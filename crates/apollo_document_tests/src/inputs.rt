@@ -20,8 +20,8 @@ pub trait Account {
     ) -> Result<(), AllocError>;
 }
 
-/// Adds a document, unless it is refused: then no schema is built. The contract of the call stays here, so that no loop carries
-/// it along.
+/// Adds a document, unless it is refused: then no schema is built. The contract of the call stays here, so
+/// that no loop carries it along.
 fn add(builder: &mut SchemaBuilder, document: &Document) {
     let _ = builder.add_ast(document);
 }

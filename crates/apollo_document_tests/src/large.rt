@@ -42,7 +42,8 @@ fn a_field_set_is_150_deep_below_each_of_150_aliases(rt: HostRuntime) -> Result<
 #[derive(Drop)]
 struct CountedWalks;
 
-/// Whether a walk gives one more field. The contract of the call stays here, so that no loop carries it along.
+/// Whether a walk gives one more field. The contract of the call stays here, so that no loop carries it
+/// along.
 fn is_given(walk: &mut AllFields<'_>) -> Result<bool, AllocError> {
     match walk.next() {
         Some(Ok(_)) => Ok(true),

@@ -1,6 +1,6 @@
-//! Leaf faults over the schema of the input, and over one of no documents: of what its documents build over its schema or without
-//! one, and of a document that is made by calls; and their places, and which of them are there since a build dropped what was
-//! selected below.
+//! Leaf faults over the schema of the input, and over one of no documents: of what its documents build over
+//! its schema or without one, and of a document that is made by calls; and their places, and which of them
+//! are there since a build dropped what was selected below.
 
 use crate::building::{Built, View};
 use crate::by_calls::document_of;
@@ -126,7 +126,8 @@ fn types_are_those_of_the_schema_at_hand(rt: HostRuntime) -> Result<(), Fail> {
     expect(&rt, &account, &AT_HAND)
 }
 
-/// The leaf faults of a document with their places, and whether its build dropped something that was selected below.
+/// The leaf faults of a document with their places, and whether its build dropped something that was selected
+/// below.
 #[derive(Drop)]
 struct Places;
 

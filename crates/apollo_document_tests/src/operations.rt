@@ -1,4 +1,5 @@
-//! Operations of built documents: which one a request asks for, whether they ask for the schema alone, and walks over them.
+//! Operations of built documents: which one a request asks for, whether they ask for the schema alone, and
+//! walks over them.
 
 use crate::building::{Built, View};
 use crate::inputs::expect;

@@ -10,7 +10,8 @@ use std::alloc::{AllocError, Global};
 use std::test::Fail;
 use telling::walks::{End, push_fields, push_walk};
 
-/// Adds fields that were collected, what the walk gives beside them, whether it is over for good, and in how many turns.
+/// Adds fields that were collected, what the walk gives beside them, whether it is over for good, and in how
+/// many turns.
 fn push_beside(
     text: &mut String,
     collected: Result<Vec<&Node<Field>>, AllocError>,

@@ -37,7 +37,8 @@ fn nested(alloc: Global) -> Result<SelectionSet, AllocError> {
     Ok(set)
 }
 
-/// Adds the key of the next field of a walk. The contract of the call stays here, so that no loop carries it along.
+/// Adds the key of the next field of a walk. The contract of the call stays here, so that no loop carries it
+/// along.
 fn push_next(text: &mut String, walk: &mut AllFields<'_>) -> Result<(), AllocError> {
     match walk.next() {
         Some(Ok(field)) => {

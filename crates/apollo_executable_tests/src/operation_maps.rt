@@ -103,7 +103,8 @@ fn push_inserted(
     push_requests(alloc, log, map)
 }
 
-/// Inserts an operation of each of these names, the kinds in turn, and says before and after each what there is.
+/// Inserts an operation of each of these names, the kinds in turn, and says before and after each what there
+/// is.
 fn tell_inserted(alloc: Global, log: &mut String, texts: [&str; 3]) -> Result<(), AllocError> {
     let mut map = OperationMap::new(alloc);
     push_requests(alloc, log, &map)?;
@@ -136,7 +137,8 @@ fn queries(alloc: Global, texts: &[&'static str]) -> Result<OperationMap, AllocE
     Ok(map)
 }
 
-/// Writes to the operation that a request asks for, in a copy of a map that shares it, and says what both maps are then.
+/// Writes to the operation that a request asks for, in a copy of a map that shares it, and says what both
+/// maps are then.
 fn written(
     alloc: Global,
     texts: &[&'static str],

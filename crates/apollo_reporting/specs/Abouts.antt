@@ -17,7 +17,12 @@ pub record AboutView : Type 0 where
 
 -- what a value says
 abbrev pub about_view : About → AboutView
-about_view about = record { kind = about.kind; earlier = about.earlier; path = option_map (λ (path : Bor SelectionPath). path.now) about.path }
+about_view about =
+    record {
+      kind = about.kind;
+      earlier = about.earlier;
+      path = option_map (λ (path : Bor SelectionPath). path.now) about.path;
+    }
 
 -- the name alone
 abbrev pub of_kind : List ℕ → AboutView
@@ -25,7 +30,8 @@ of_kind kind = record { kind = kind; earlier = None; path = None }
 
 -- an earlier place, where it is known
 abbrev pub earlier_at : List ℕ → Option SourceSpan → Option Earlier
-earlier_at message location = option_map (λ (span : SourceSpan). record { message = message; location = span }) location
+earlier_at message location =
+    option_map (λ (span : SourceSpan). record { message = message; location = span }) location
 
 -- the name and an earlier place, where it is known
 abbrev pub of_earlier : List ℕ → List ℕ → Option SourceSpan → AboutView

@@ -11,11 +11,15 @@ use Rattle.apollo_reporting.specs.declared.detail.Detail.{Detail}
 abbrev pub document_fault_about : BuildError → AboutView
 document_fault_about (e.TypeSystemDefinition _ _) = of_kind (codes "TypeSystemDefinition")
 document_fault_about e.AmbiguousAnonymousOperation = of_kind (codes "AmbiguousAnonymousOperation")
-document_fault_about (e.OperationNameCollision kept) = of_earlier (codes "OperationNameCollision") (codes "first defined here") kept.location
-document_fault_about (e.FragmentNameCollision kept) = of_earlier (codes "FragmentNameCollision") (codes "first defined here") kept.location
+document_fault_about (e.OperationNameCollision kept) =
+    of_earlier (codes "OperationNameCollision") (codes "first defined here") kept.location
+document_fault_about (e.FragmentNameCollision kept) =
+    of_earlier (codes "FragmentNameCollision") (codes "first defined here") kept.location
 document_fault_about (e.UndefinedRootOperation _) = of_kind (codes "UndefinedRootOperation")
-document_fault_about (e.UndefinedTypeInNamedFragmentTypeCondition _ _) = of_kind (codes "UndefinedTypeInNamedFragmentTypeCondition")
-document_fault_about (e.UndefinedTypeInInlineFragmentTypeCondition _ path) = of_path (codes "UndefinedTypeInInlineFragmentTypeCondition") path
+document_fault_about (e.UndefinedTypeInNamedFragmentTypeCondition _ _) =
+    of_kind (codes "UndefinedTypeInNamedFragmentTypeCondition")
+document_fault_about (e.UndefinedTypeInInlineFragmentTypeCondition _ path) =
+    of_path (codes "UndefinedTypeInInlineFragmentTypeCondition") path
 document_fault_about (e.SubselectionOnScalarType _ path) = of_path (codes "SubselectionOnScalarType") path
 document_fault_about (e.SubselectionOnEnumType _ path) = of_path (codes "SubselectionOnEnumType") path
 document_fault_about (e.UndefinedField _ _ path) = of_path (codes "UndefinedField") path
@@ -23,7 +27,8 @@ document_fault_about (e.UndefinedField _ _ path) = of_path (codes "UndefinedFiel
 -- a definition: its name, if it has one, and what it is
 abbrev pub definition_details : Option NameView → List ℕ → List Detail
 definition_details name describe =
-    optional_text (codes "name") (option_map (λ (n : NameView). n.text) name) ∷ one_text (codes "describe") describe
+    optional_text (codes "name") (option_map (λ (n : NameView). n.text) name)
+    ∷ one_text (codes "describe") describe
 
 -- the fields of the variant by their names, in order, but for the path
 abbrev pub document_fault_details : BuildError → List Detail

@@ -1,6 +1,7 @@
--- What a report shows of a text: the line of an offset, and marks under it. A line ends with a line terminator: GraphQL
--- specification of October 2021, section 2.1.3.
-use Rattle.std.specs.Prelude.{ℕ, zero, suc, Bool, ◌||◌, ◌-◌, cond, max, List, [], ◌∷◌, take, drop, slice_range, count_by, nat_eq, codes}
+-- What a report shows of a text: the line of an offset, and marks under it. A line ends with a line
+-- terminator: GraphQL specification of October 2021, section 2.1.3.
+use Rattle.std.specs.Prelude.{ℕ, zero, suc, Bool, ◌||◌, ◌-◌, cond, max, List, [], ◌∷◌, take, drop}
+use Rattle.std.specs.Prelude.{slice_range, count_by, nat_eq, codes}
 use Rattle.std.specs.List.{before_first, flat_map, repeat}
 use Rattle.graphql_nodes.specs.LineColumns.{begins_char, ends_line}
 
@@ -25,7 +26,8 @@ line_around text offset = first_line (drop (line_start text offset) text)
 abbrev pub before_on_line : List ℕ → ℕ → List ℕ
 before_on_line text offset = slice_range text (line_start text offset) offset
 
--- what stands under a byte before the marks: a tab under a tab, a blank under any other character's first byte
+-- what stands under a byte before the marks: a tab under a tab, a blank under any other character's first
+-- byte
 abbrev pub blank_under : ℕ → List ℕ
 blank_under b = cond (nat_eq b 9) (9 ∷ []) (cond (begins_char b) (32 ∷ []) [])
 

@@ -1,12 +1,14 @@
 -- What JSON has of faults.
-use Rattle.std.specs.Prelude.{ℕ, List, [], ◌∷◌, ◌++◌, map, Option, None, Some, codes, option_and_then, option_map}
+use Rattle.std.specs.Prelude.{ℕ, List, [], ◌∷◌, ◌++◌, map, Option, None, Some, codes, option_and_then}
+use Rattle.std.specs.Prelude.{option_map}
 use Rattle.graphql_nodes.specs.NameView.{NameView}
 use Rattle.graphql_nodes.specs.Sources.{Files, same_file}
 use Rattle.graphql_nodes.specs.Tables.{lookup}
 use Rattle.graphql_nodes.specs.declared.line_column.LineColumn.{LineColumn}
 use Rattle.graphql_nodes.specs.declared.source.SourceFile.{SourceFile}
 use Rattle.graphql_nodes.specs.declared.source.SourceSpan.{SourceSpan}
-use Rattle.serde_json.specs.Data.{Data, Members, array, member, no_members, null, number, object, string, unsigned}
+use Rattle.serde_json.specs.Data.{Data, Members, array, member, no_members, null, number, object, string}
+use Rattle.serde_json.specs.Data.{unsigned}
 use Rattle.serde_json.specs.View.{items_of}
 use Rattle.apollo_reporting.specs.Abouts.{AboutView}
 use Rattle.apollo_reporting.specs.Places.{ends, starts}
@@ -41,12 +43,15 @@ number_data (Some n) = number (unsigned n)
 
 -- the path of the file of a location, where the sources have the file
 abbrev pub path_of_file : Option SourceSpan → Files → Option (List ℕ)
-path_of_file location files = option_map (λ (file : SourceFile). file.path) (option_and_then (λ (span : SourceSpan). lookup (same_file span.file) files) location)
+path_of_file location files =
+    option_map (λ (file : SourceFile). file.path)
+    (option_and_then (λ (span : SourceSpan). lookup (same_file span.file) files) location)
 
 -- the line and the column of a place, under these names
 abbrev pub place_members : List ℕ → List ℕ → Option LineColumn → List Member
 place_members line column at =
-    (line, number_data (option_map (λ (a : LineColumn). a.line) at)) ∷ (column, number_data (option_map (λ (a : LineColumn). a.column) at)) ∷ []
+    (line, number_data (option_map (λ (a : LineColumn). a.line) at))
+    ∷ (column, number_data (option_map (λ (a : LineColumn). a.column) at)) ∷ []
 
 -- the file of a location
 abbrev pub file_member : Option SourceSpan → Files → Member
@@ -54,7 +59,8 @@ file_member location files = (codes "file", text_data (path_of_file location fil
 
 -- where a location starts and ends
 abbrev pub span_members : Option SourceSpan → Files → List Member
-span_members location files = place_members (codes "line") (codes "column") (starts location files) ++ place_members (codes "end_line") (codes "end_column") (ends location files)
+span_members location files = place_members (codes "line") (codes "column") (starts location files)
+    ++ place_members (codes "end_line") (codes "end_column") (ends location files)
 
 -- a location as an object
 abbrev pub span_data : SourceSpan → Files → Data

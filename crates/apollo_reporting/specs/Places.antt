@@ -10,7 +10,8 @@ use Rattle.graphql_nodes.specs.declared.source.SourceSpan.{SourceSpan}
 
 -- the line and column of an offset in the file of this number, where there is such a place
 abbrev pub line_column_in : FileId → ℕ → Files → Option LineColumn
-line_column_in number offset files = option_and_then (λ (file : SourceFile). line_column_of file.text offset) (lookup (same_file number) files)
+line_column_in number offset files =
+    option_and_then (λ (file : SourceFile). line_column_of file.text offset) (lookup (same_file number) files)
 
 -- where a location starts, if there is one, and its file has the place
 abbrev pub starts : Option SourceSpan → Files → Option LineColumn

@@ -40,16 +40,19 @@ line_text it = dots it.cut_before ++ visible it.line ++ dots it.cut_behind
 
 -- an empty line, and a line behind its number, which has so many digits
 unfoldable pub numbered_line : ℕ → ℕ → Shown → List ℕ
-numbered_line width number it = line_begin width ++ codes " |\n " ++ decimal number ++ codes " | " ++ line_text it ++ codes "\n"
+numbered_line width number it =
+    line_begin width ++ codes " |\n " ++ decimal number ++ codes " | " ++ line_text it ++ codes "\n"
 
 -- the line under it, with the marks
 unfoldable pub mark_line : ℕ → Shown → List ℕ
-mark_line width it = line_begin width ++ codes " | " ++ under_dots it.cut_before ++ pad it.before ++ marks it.marks ++ codes "\n"
+mark_line width it = line_begin width ++ codes " | " ++ under_dots it.cut_before ++ pad it.before
+    ++ marks it.marks ++ codes "\n"
 
 -- what is shown of the line where a span starts, and the marks under it
 unfoldable pub excerpt_text : LineColumn → List ℕ → SourceSpan → List ℕ
 excerpt_text at text span =
-    numbered_line (gutter (Some at)) at.line (shown text span.start span.end) ++ mark_line (gutter (Some at)) (shown text span.start span.end)
+    numbered_line (gutter (Some at)) at.line (shown text span.start span.end)
+    ++ mark_line (gutter (Some at)) (shown text span.start span.end)
 
 -- the same in a text that doesn't end before, or else nothing
 abbrev pub excerpt_at : Option LineColumn → List ℕ → SourceSpan → List ℕ
@@ -67,7 +70,9 @@ arrow_line place = codes "--> " ++ place ++ codes "\n"
 
 -- where a span starts, and its line
 unfoldable pub span_text : SourceSpan → Files → List ℕ
-span_text span files = line_begin (gutter (start_of span files)) ++ (arrow_line (place_text span files) ++ excerpt_in (lookup (same_file span.file) files) span)
+span_text span files =
+    line_begin (gutter (start_of span files))
+    ++ (arrow_line (place_text span files) ++ excerpt_in (lookup (same_file span.file) files) span)
 
 -- where a fault starts, and its line, or nothing where it stands nowhere
 abbrev pub location_text : Option SourceSpan → Files → List ℕ
@@ -85,13 +90,17 @@ path_line width None = []
 
 -- an earlier place, and its line, or nothing where there is none
 unfoldable pub note_text : Option Earlier → Files → List ℕ
-note_text (Some earlier) files = codes "note: " ++ earlier.message ++ codes "\n" ++ span_text earlier.location files
+note_text (Some earlier) files =
+    codes "note: " ++ earlier.message ++ codes "\n" ++ span_text earlier.location files
 note_text None files = []
 
 -- what stands behind the first line of a report
 unfoldable pub lines_behind : Files → Option SourceSpan → AboutView → List ℕ
-lines_behind files location about = location_text location files ++ (path_line (gutter_of location files) about.path ++ note_text about.earlier files)
+lines_behind files location about =
+    location_text location files
+    ++ (path_line (gutter_of location files) about.path ++ note_text about.earlier files)
 
 -- a report of a fault, of which this is said in a sentence
 abbrev pub report_text : Files → Option SourceSpan → AboutView → List ℕ → List ℕ
-report_text files location about said = codes "error: " ++ (said ++ (codes "\n" ++ lines_behind files location about))
+report_text files location about said =
+    codes "error: " ++ (said ++ (codes "\n" ++ lines_behind files location about))

@@ -14,13 +14,16 @@ abbrev pub OfSaid : {A : Type 0} → Option A → (A → Type 0) → Type 0
 OfSaid (Some said) Fact = Fact said
 OfSaid {A} None Fact = (something : A) × Fact something
 
--- a text is the report of a fault at a location: of its sentence, as it is shown, and of what else reports say of it
+-- a text is the report of a fault at a location: of its sentence, as it is shown, and of what else reports
+-- say of it
 abbrev pub IsReport : {E : Type 0} → (E → Option (List ℕ)) → (E → AboutView) → Files → Option SourceSpan → E
     → List ℕ → Type 0
 IsReport sentence_of about_of files location fault text =
-    OfSaid (sentence_of fault) (λ sentence. text ≡ report_text files location (about_of fault) (visible sentence))
+    OfSaid (sentence_of fault) (λ sentence. text
+    ≡ report_text files location (about_of fault) (visible sentence))
 
--- a text is the JSON of a fault at a location: of its sentence, of what else reports say of it, and of its details
+-- a text is the JSON of a fault at a location: of its sentence, of what else reports say of it, and of its
+-- details
 abbrev pub IsFaultJson : {E : Type 0} → (E → Option (List ℕ)) → (E → AboutView) → (E → Option (List Detail))
     → Files → Option SourceSpan → E → List ℕ → Type 0
 IsFaultJson sentence_of about_of details_of files location fault text =

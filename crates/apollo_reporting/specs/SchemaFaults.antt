@@ -19,21 +19,33 @@ first_listed kind location = of_earlier kind (codes "first listed here") locatio
 -- the name of the variant, and the place of what is kept, or of the definition of another kind
 abbrev pub schema_fault_about : BuildError → AboutView
 schema_fault_about (e.ExecutableDefinition _) = of_kind (codes "ExecutableDefinition")
-schema_fault_about (e.SchemaDefinitionCollision previous) = first_defined (codes "SchemaDefinitionCollision") previous
-schema_fault_about (e.DirectiveDefinitionCollision previous _) = first_defined (codes "DirectiveDefinitionCollision") previous
-schema_fault_about (e.TypeDefinitionCollision previous _) = first_defined (codes "TypeDefinitionCollision") previous
+schema_fault_about (e.SchemaDefinitionCollision previous) =
+    first_defined (codes "SchemaDefinitionCollision") previous
+schema_fault_about (e.DirectiveDefinitionCollision previous _) =
+    first_defined (codes "DirectiveDefinitionCollision") previous
+schema_fault_about (e.TypeDefinitionCollision previous _) =
+    first_defined (codes "TypeDefinitionCollision") previous
 schema_fault_about e.BuiltInScalarTypeRedefinition = of_kind (codes "BuiltInScalarTypeRedefinition")
 schema_fault_about e.OrphanSchemaExtension = of_kind (codes "OrphanSchemaExtension")
 schema_fault_about (e.OrphanTypeExtension _) = of_kind (codes "OrphanTypeExtension")
-schema_fault_about (e.TypeExtensionKindMismatch _ _ definition _) = of_earlier (codes "TypeExtensionKindMismatch") (codes "defined here") definition
-schema_fault_about (e.DuplicateRootOperation previous _) = first_defined (codes "DuplicateRootOperation") previous
-schema_fault_about (e.DuplicateImplementsInterfaceInObject kept _) = first_listed (codes "DuplicateImplementsInterfaceInObject") kept.location
-schema_fault_about (e.DuplicateImplementsInterfaceInInterface kept _) = first_listed (codes "DuplicateImplementsInterfaceInInterface") kept.location
-schema_fault_about (e.ObjectFieldNameCollision kept _) = first_defined (codes "ObjectFieldNameCollision") kept.location
-schema_fault_about (e.InterfaceFieldNameCollision kept _) = first_defined (codes "InterfaceFieldNameCollision") kept.location
-schema_fault_about (e.EnumValueNameCollision kept _) = first_defined (codes "EnumValueNameCollision") kept.location
-schema_fault_about (e.UnionMemberNameCollision kept _) = first_listed (codes "UnionMemberNameCollision") kept.location
-schema_fault_about (e.InputFieldNameCollision kept _) = first_defined (codes "InputFieldNameCollision") kept.location
+schema_fault_about (e.TypeExtensionKindMismatch _ _ definition _) =
+    of_earlier (codes "TypeExtensionKindMismatch") (codes "defined here") definition
+schema_fault_about (e.DuplicateRootOperation previous _) =
+    first_defined (codes "DuplicateRootOperation") previous
+schema_fault_about (e.DuplicateImplementsInterfaceInObject kept _) =
+    first_listed (codes "DuplicateImplementsInterfaceInObject") kept.location
+schema_fault_about (e.DuplicateImplementsInterfaceInInterface kept _) =
+    first_listed (codes "DuplicateImplementsInterfaceInInterface") kept.location
+schema_fault_about (e.ObjectFieldNameCollision kept _) =
+    first_defined (codes "ObjectFieldNameCollision") kept.location
+schema_fault_about (e.InterfaceFieldNameCollision kept _) =
+    first_defined (codes "InterfaceFieldNameCollision") kept.location
+schema_fault_about (e.EnumValueNameCollision kept _) =
+    first_defined (codes "EnumValueNameCollision") kept.location
+schema_fault_about (e.UnionMemberNameCollision kept _) =
+    first_listed (codes "UnionMemberNameCollision") kept.location
+schema_fault_about (e.InputFieldNameCollision kept _) =
+    first_defined (codes "InputFieldNameCollision") kept.location
 
 -- the place of the thing that is kept, where it is known
 abbrev pub previous_detail : Option SourceSpan → Detail

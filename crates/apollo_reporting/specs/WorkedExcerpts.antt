@@ -11,7 +11,12 @@ pub record Drawn : Type 0 where
 
 -- what is drawn of a text for the bytes from one offset up to another
 abbrev pub drawn : List ℕ → ℕ → ℕ → Drawn
-drawn text start end = record { line = (shown text start end).line; before = pad (shown text start end).before; marks = marks (shown text start end).marks }
+drawn text start end =
+    record {
+      line = (shown text start end).line;
+      before = pad (shown text start end).before;
+      marks = marks (shown text start end).marks;
+    }
 
 -- `é"√"` in UTF-8
 abbrev pub wide_text : List ℕ

@@ -39,7 +39,8 @@ impl<'a> About<'a> {
 
     /// The same with an earlier place, where it is known, and what stands there.
     pub fn with_earlier(mut self, message: &'static str, location: Option<SourceSpan>) -> About<'a>
-        ensures { about_view result ≡ record (about_view self.entry) { earlier = earlier_at message.now location } }
+        ensures { about_view result
+            ≡ record (about_view self.entry) { earlier = earlier_at message.now location } }
     {
         self.earlier = match location {
             Some(location) => Some(Earlier {

@@ -20,8 +20,8 @@ pub struct Detail {
 pub enum DetailValue {
     /// A text, where there is one: JSON has it as a string.
     Words(Option<Text>),
-    /// A place, where it is known: JSON has it as an object, with the members `file`, `line`, `column`, `end_line` and
-    /// `end_column`.
+    /// A place, where it is known: JSON has it as an object, with the members `file`, `line`, `column`,
+    /// `end_line` and `end_column`.
     Place(Option<SourceSpan>),
 }
 
@@ -42,7 +42,8 @@ impl Detail {
         name: &'static str,
         text: Option<&str>,
     ) -> Result<Detail, AllocError>
-        ensures { IfOk result (λ detail. detail ≡ spec.optional_text name.now (option_map (λ text. text.now) text.entry)) }
+        ensures { IfOk result (λ detail. detail
+            ≡ spec.optional_text name.now (option_map (λ text. text.now) text.entry)) }
     {
         match text {
             Some(text) => Detail::text(alloc, name, text),
@@ -82,7 +83,8 @@ pub(crate) fn two_texts(
     first: (&'static str, &str),
     second: (&'static str, &str),
 ) -> Result<Vec<Detail>, AllocError>
-    ensures { IfOk result (λ details. details.items ≡ spec.two_texts first.entry.0.now first.entry.1.now second.entry.0.now second.entry.1.now) }
+    ensures { IfOk result (λ details. details.items
+        ≡ spec.two_texts first.entry.0.now first.entry.1.now second.entry.0.now second.entry.1.now) }
 {
     let first = Detail::text(alloc, first.0, first.1)?;
     let second = Detail::text(alloc, second.0, second.1)?;

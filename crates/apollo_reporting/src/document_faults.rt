@@ -1,6 +1,7 @@
 //! Faults of executable documents, as they are reported.
 ghost use Rattle.std.specs.Prelude.{◌≡◌, IfOk, Some};
-ghost use Rattle.apollo_reporting.specs.DocumentFaults.{definition_details, document_fault_about, document_fault_details};
+ghost use Rattle.apollo_reporting.specs.DocumentFaults.{definition_details, document_fault_about};
+ghost use Rattle.apollo_reporting.specs.DocumentFaults.{document_fault_details};
 
 use crate::about::About;
 use crate::detail::{Detail, one_text, two_texts};
@@ -13,8 +14,8 @@ use std::alloc::{AllocError, Global};
 /// What stands at the place of a definition that is kept.
 const FIRST_DEFINED: &str = "first defined here";
 
-/// An earlier place is that of the definition that is kept. Details are the fields of the variant, in order, but for the
-/// path.
+/// An earlier place is that of the definition that is kept. Details are the fields of the variant, in order,
+/// but for the path.
 impl Reported for BuildError {
     ghost said_about = { document_fault_about };
 

@@ -1,4 +1,5 @@
-//! The line of a span, and what of it is marked. Lines end as the GraphQL specification of October 2021 says, section 2.1.3.
+//! The line of a span, and what of it is marked. Lines end as the GraphQL specification of October 2021 says,
+//! section 2.1.3.
 ghost use Rattle.std.specs.Prelude.{◌≡◌, ◌≤◌, Some, length};
 ghost use Rattle.std.specs.List.{position_or_len};
 ghost use Rattle.graphql_nodes.specs.LineColumns.{column_of, line_column_of};

@@ -1,7 +1,9 @@
 //! What JSON has of faults, added to its text. The error of each call is out of memory.
 ghost use Rattle.std.specs.Prelude.{◌≡◌, ◌++◌, OnOk, map, option_map, string_bytes};
 ghost use Rattle.apollo_reporting.specs.Abouts.{about_view};
-ghost use Rattle.apollo_reporting.specs.FaultData.{detail_member, fault_data, file_member, keys_data, location_data, path_members, path_of_file, place_members, span_data, span_members, steps_data, value_data};
+ghost use Rattle.apollo_reporting.specs.FaultData.{detail_member, fault_data, file_member, keys_data};
+ghost use Rattle.apollo_reporting.specs.FaultData.{location_data, path_members, path_of_file, place_members};
+ghost use Rattle.apollo_reporting.specs.FaultData.{span_data, span_members, steps_data, value_data};
 ghost use Rattle.apollo_reporting.specs.MemberTexts.{data_text, items_behind, member_text, members_behind};
 
 use crate::about::About;
@@ -30,7 +32,8 @@ fn push_file<S: Sources>(
     sources: &S,
     location: Option<SourceSpan>,
 ) -> Result<(), AllocError>
-    ensures { OnOk result (string_bytes text.new ≡ string_bytes text.old ++ member_text sign.now (file_member location (S.files sources.now))) }
+    ensures { OnOk result (string_bytes text.new
+        ≡ string_bytes text.old ++ member_text sign.now (file_member location (S.files sources.now))) }
 {
     push_key(alloc, text, sign, "file")?;
     push_text(alloc, text, file_path(sources, location))
@@ -44,7 +47,8 @@ fn push_place(
     column: &str,
     at: Option<LineColumn>,
 ) -> Result<(), AllocError>
-    ensures { OnOk result (string_bytes text.new ≡ string_bytes text.old ++ members_behind (place_members line.now column.now at)) }
+    ensures { OnOk result (string_bytes text.new
+        ≡ string_bytes text.old ++ members_behind (place_members line.now column.now at)) }
 {
     push_key(alloc, text, ",", line)?;
     push_number(text, at.map(|at| at.line))?;
@@ -59,7 +63,8 @@ fn push_span<S: Sources>(
     sources: &S,
     location: Option<SourceSpan>,
 ) -> Result<(), AllocError>
-    ensures { OnOk result (string_bytes text.new ≡ string_bytes text.old ++ members_behind (span_members location (S.files sources.now))) }
+    ensures { OnOk result (string_bytes text.new
+        ≡ string_bytes text.old ++ members_behind (span_members location (S.files sources.now))) }
 {
     push_place(alloc, text, "line", "column", start(sources, location))?;
     push_place(
@@ -78,7 +83,8 @@ fn push_object<S: Sources>(
     sources: &S,
     span: SourceSpan,
 ) -> Result<(), AllocError>
-    ensures { OnOk result (string_bytes text.new ≡ string_bytes text.old ++ data_text (span_data span (S.files sources.now))) }
+    ensures { OnOk result (string_bytes text.new
+        ≡ string_bytes text.old ++ data_text (span_data span (S.files sources.now))) }
 {
     push_file(alloc, text, "{", sources, Some(span))?;
     push_span(alloc, text, sources, Some(span))?;
@@ -94,7 +100,8 @@ fn push_location<S: Sources>(
     sources: &S,
     location: Option<SourceSpan>,
 ) -> Result<(), AllocError>
-    ensures { OnOk result (string_bytes text.new ≡ string_bytes text.old ++ data_text (location_data location (S.files sources.now))) }
+    ensures { OnOk result (string_bytes text.new
+        ≡ string_bytes text.old ++ data_text (location_data location (S.files sources.now))) }
 {
     match location {
         Some(span) => push_object(alloc, text, sources, span),
@@ -104,7 +111,8 @@ fn push_location<S: Sources>(
 
 /// Adds response keys, each behind a comma.
 fn push_keys(alloc: Global, text: &mut String, keys: &[Name]) -> Result<(), AllocError>
-    ensures { OnOk result (string_bytes text.new ≡ string_bytes text.old ++ items_behind (keys_data keys.now)) }
+    ensures { OnOk result (string_bytes text.new
+        ≡ string_bytes text.old ++ items_behind (keys_data keys.now)) }
 {
     for key in keys {
         text.push_str(",")?;
@@ -131,7 +139,8 @@ fn push_path(
     text: &mut String,
     path: Option<&SelectionPath>,
 ) -> Result<(), AllocError>
-    ensures { OnOk result (string_bytes text.new ≡ string_bytes text.old ++ members_behind (path_members (option_map (λ path. path.now) path.entry))) }
+    ensures { OnOk result (string_bytes text.new
+        ≡ string_bytes text.old ++ members_behind (path_members (option_map (λ path. path.now) path.entry))) }
 {
     push_key(alloc, text, ",", "path")?;
     match path {
@@ -147,7 +156,8 @@ fn push_value<S: Sources>(
     sources: &S,
     value: &DetailValue,
 ) -> Result<(), AllocError>
-    ensures { OnOk result (string_bytes text.new ≡ string_bytes text.old ++ data_text (value_data (S.files sources.now) value.now)) }
+    ensures { OnOk result (string_bytes text.new
+        ≡ string_bytes text.old ++ data_text (value_data (S.files sources.now) value.now)) }
 {
     match value {
         DetailValue::Words(Some(words)) => push_text(alloc, text, Some(words.as_str())),
@@ -163,7 +173,8 @@ fn push_details<S: Sources>(
     sources: &S,
     details: &[Detail],
 ) -> Result<(), AllocError>
-    ensures { OnOk result (string_bytes text.new ≡ string_bytes text.old ++ members_behind (map (detail_member (S.files sources.now)) details.now)) }
+    ensures { OnOk result (string_bytes text.new
+        ≡ string_bytes text.old ++ members_behind (map (detail_member (S.files sources.now)) details.now)) }
 {
     for detail in details {
         push_key(alloc, text, ",", detail.name.as_str())?;
@@ -182,7 +193,10 @@ pub(crate) fn push_fault<S: Sources>(
     said: &str,
     details: &[Detail],
 ) -> Result<(), AllocError>
-    ensures { OnOk result (string_bytes text.new ≡ string_bytes text.old ++ data_text (fault_data (S.files sources.now) location (about_view about.now) said.now details.now)) }
+    ensures { OnOk result (string_bytes text.new
+        ≡ string_bytes text.old
+        ++ data_text
+        (fault_data (S.files sources.now) location (about_view about.now) said.now details.now)) }
 {
     push_string_member(alloc, text, "{", "kind", about.kind.as_str())?;
     push_string_member(alloc, text, ",", "message", said)?;

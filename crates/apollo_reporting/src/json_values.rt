@@ -23,7 +23,8 @@ pub(crate) fn push_text(
     text: &mut String,
     value: Option<&str>,
 ) -> Result<(), AllocError>
-    ensures { OnOk result (string_bytes text.new ≡ string_bytes text.old ++ data_text (text_data (option_map (λ value. value.now) value.entry))) }
+    ensures { OnOk result (string_bytes text.new
+        ≡ string_bytes text.old ++ data_text (text_data (option_map (λ value. value.now) value.entry))) }
 {
     match value {
         Some(value) => push_string(alloc, text, value),
@@ -65,7 +66,8 @@ pub(crate) fn push_string_member(
     key: &str,
     value: &str,
 ) -> Result<(), AllocError>
-    ensures { OnOk result (string_bytes text.new ≡ string_bytes text.old ++ member_text sign.now (key.now, string value.now)) }
+    ensures { OnOk result (string_bytes text.new
+        ≡ string_bytes text.old ++ member_text sign.now (key.now, string value.now)) }
 {
     push_key(alloc, text, sign, key)?;
     push_string(alloc, text, value)

@@ -4,7 +4,8 @@ ghost use Rattle.std.specs.Fmt.{WritesOnOk};
 ghost use Rattle.graphql_nodes.specs.VisibleTexts.{visible};
 ghost use Rattle.apollo_reporting.specs.Abouts.{about_view};
 ghost use Rattle.apollo_reporting.specs.Places.{starts};
-ghost use Rattle.apollo_reporting.specs.Reports.{lines_behind, location_text, note_text, path_line, report_text};
+ghost use Rattle.apollo_reporting.specs.Reports.{lines_behind, location_text, note_text, path_line};
+ghost use Rattle.apollo_reporting.specs.Reports.{report_text};
 ghost use Rattle.apollo_reporting.specs.Said.{IsReport};
 
 use crate::about::{About, Earlier};
@@ -42,8 +43,8 @@ use std::fmt::{Formatter, Write};
 /// form, behind `note:` and what stands there. Where the sources lack the file, or its text ends before, the
 /// line isn't shown.
 ///
-/// The sentence, the file's name, its lines and the path are written as [`visible`] shows them, with no control character
-/// but tab.
+/// The sentence, the file's name, its lines and the path are written as [`visible`] shows them, with no
+/// control character but tab.
 pub struct FaultReport<'s, 'f, S, E> {
     pub sources: &'s S,
     pub location: Option<SourceSpan>,
@@ -105,7 +106,8 @@ pub fn report_text<S: Sources, E: Reported>(
     location: Option<SourceSpan>,
     fault: &E,
 ) -> Result<String, AllocError>
-    ensures { IfOk result (λ text. IsReport E.output E.said_about (S.files sources.now) location fault.now (string_bytes text)) }
+    ensures { IfOk result (λ text.
+        IsReport E.output E.said_about (S.files sources.now) location fault.now (string_bytes text)) }
 {
     let said = fault.to_string(alloc)?;
     let about = fault.about();
@@ -135,7 +137,8 @@ impl<S> Drop for LinesBehind<'_, '_, '_, S> {
 }
 
 impl<S: Sources> fmt::Display for LinesBehind<'_, '_, '_, S> {
-    ghost output = { λ it. Some (lines_behind (S.files it.sources.now) it.location (about_view it.about.now)) };
+    ghost output = { λ it.
+        Some (lines_behind (S.files it.sources.now) it.location (about_view it.about.now)) };
 
     fn fmt<W: Write>(&self, f: &mut Formatter<W>) -> fmt::Result {
         write_lines_behind(f, self.sources, self.location, self.about)
@@ -149,7 +152,8 @@ fn write_lines_behind<W: Write, S: Sources>(
     location: Option<SourceSpan>,
     about: &About<'_>,
 ) -> fmt::Result
-    ensures { WritesOnOk W.write_str_gives f.old result (lines_behind (S.files sources.now) location (about_view about.now)) f.new }
+    ensures { WritesOnOk W.write_str_gives f.old result
+        (lines_behind (S.files sources.now) location (about_view about.now)) f.new }
 {
     let at = start(sources, location);
     write_location(f, sources, location, at)?;
@@ -180,7 +184,8 @@ fn write_path<W: Write>(
     width: usize,
     path: Option<&SelectionPath>,
 ) -> fmt::Result
-    ensures { WritesOnOk W.write_str_gives f.old result (path_line width (option_map (λ path. path.now) path.entry)) f.new }
+    ensures { WritesOnOk W.write_str_gives f.old result
+        (path_line width (option_map (λ path. path.now) path.entry)) f.new }
 {
     match path {
         Some(path) => {

@@ -1,7 +1,8 @@
 //! Faults of schemas, as they are reported.
 ghost use Rattle.std.specs.Prelude.{◌≡◌, ◌∷◌, [], IfOk, Some};
 ghost use Rattle.apollo_reporting.specs.SchemaFaults as spec;
-ghost use Rattle.apollo_reporting.specs.SchemaFaults.{kind_details, previous_and_text, previous_detail, schema_fault_about, schema_fault_details};
+ghost use Rattle.apollo_reporting.specs.SchemaFaults.{kind_details, previous_and_text, previous_detail};
+ghost use Rattle.apollo_reporting.specs.SchemaFaults.{schema_fault_about, schema_fault_details};
 
 use crate::about::About;
 use crate::detail::{Detail, one_text, two_texts};
@@ -19,8 +20,8 @@ const FIRST_LISTED: &str = "first listed here";
 /// What stands at the place of a definition.
 const DEFINED: &str = "defined here";
 
-/// An earlier place is that of the thing that is kept, or the definition of another kind. Details are the fields of the
-/// variant, in order.
+/// An earlier place is that of the thing that is kept, or the definition of another kind. Details are the
+/// fields of the variant, in order.
 impl Reported for BuildError {
     ghost said_about = { schema_fault_about };
 
@@ -228,7 +229,8 @@ fn kinds(
     location: Option<SourceSpan>,
     definition: &StaticText,
 ) -> Result<Vec<Detail>, AllocError>
-    ensures { IfOk result (λ details. details.items ≡ kind_details name.now.text extension.now location definition.now) }
+    ensures { IfOk result (λ details. details.items
+        ≡ kind_details name.now.text extension.now location definition.now) }
 {
     let name = Detail::text(alloc, "name", name.as_str())?;
     let extension = Detail::text(alloc, "describe_ext", extension.as_str())?;

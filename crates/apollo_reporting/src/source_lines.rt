@@ -10,9 +10,9 @@ use std::alloc::{AllocError, Global};
 
 /// Source files, with an index of the lines of each.
 ///
-/// Make it once for many reports: each text is read once then, where [`SourceMap`] alone reads it from its start for each
-/// line and column. So the time of all reports grows with the texts and with how many faults there are, and not with one
-/// times the other.
+/// Make it once for many reports: each text is read once then, where [`SourceMap`] alone reads it from its
+/// start for each line and column. So the time of all reports grows with the texts and with how many faults
+/// there are, and not with one times the other.
 #[derive(Drop)]
 pub struct SourceLines<'a> {
     sources: &'a SourceMap,

@@ -6,8 +6,8 @@ use graphql_nodes::source::{FileId, SourceFile, SourceMap};
 
 /// Source files by their numbers, in which faults stand.
 ///
-/// A [`SourceMap`] is such, and reads a text from its start for each line and column that it is asked for. For many
-/// reports take [`SourceLines`](crate::source_lines::SourceLines), which doesn't.
+/// A [`SourceMap`] is such, and reads a text from its start for each line and column that it is asked for.
+/// For many reports take [`SourceLines`](crate::source_lines::SourceLines), which doesn't.
 pub trait Sources {
     ghost use Rattle.std.specs.Prelude.{◌≡◌};
     ghost use Rattle.std.specs.Option.{option_copied};
@@ -22,8 +22,8 @@ pub trait Sources {
     fn file(&self, number: FileId) -> Option<&SourceFile>
         ensures { option_copied result ≡ lookup (same_file number) (files self.now) };
 
-    /// The line and column of a byte offset in the file of this number. There are none if there is no such file, or if the
-    /// offset is beyond the end of its text.
+    /// The line and column of a byte offset in the file of this number. There are none if there is no such
+    /// file, or if the offset is beyond the end of its text.
     fn line_column(&self, number: FileId, offset: usize) -> Option<LineColumn>
         ensures { result ≡ line_column_in number offset (files self.now) };
 }

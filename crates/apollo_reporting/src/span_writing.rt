@@ -4,7 +4,8 @@ ghost use Rattle.std.specs.Fmt.{WritesOnOk};
 ghost use Rattle.graphql_nodes.specs.LineColumns.{line_column_of, start_of};
 ghost use Rattle.graphql_nodes.specs.PlaceTexts.{behind_path, place_in};
 ghost use Rattle.graphql_nodes.specs.VisibleTexts.{visible};
-ghost use Rattle.apollo_reporting.specs.Reports.{arrow_line, dots, excerpt_in, excerpt_text, gutter, line_text, mark_line, numbered_line, span_text, under_dots};
+ghost use Rattle.apollo_reporting.specs.Reports.{arrow_line, dots, excerpt_in, excerpt_text, gutter};
+ghost use Rattle.apollo_reporting.specs.Reports.{line_text, mark_line, numbered_line, span_text, under_dots};
 ghost use Rattle.apollo_reporting.specs.Windows.{shown_by};
 
 use crate::excerpt::Excerpt;
@@ -59,7 +60,8 @@ fn write_source_line<W: Write>(
     number: usize,
     excerpt: &Excerpt<'_>,
 ) -> fmt::Result
-    ensures { WritesOnOk W.write_str_gives f.old result (numbered_line width number (shown_by excerpt.now)) f.new }
+    ensures { WritesOnOk W.write_str_gives f.old result (numbered_line width number (shown_by excerpt.now))
+        f.new }
 {
     write_line_begin(f, width)?;
     write!(f, " |\n {number} | ")?;
@@ -84,7 +86,8 @@ fn write_mark_line<W: Write>(
     f.write_str("\n")
 }
 
-/// Writes what is shown of the line where a span starts, behind its number, and the line with the marks under it.
+/// Writes what is shown of the line where a span starts, behind its number, and the line with the marks under
+/// it.
 #[tactic(auto, unfolding(crate::specs::Reports::excerpt_text))]
 fn write_excerpt<W: Write>(
     f: &mut Formatter<W>,
@@ -104,7 +107,9 @@ fn write_excerpt<W: Write>(
 /// Writes the path of a file, and a line and column of it, behind an arrow.
 #[tactic(auto, unfolding(crate::specs::Reports::arrow_line))]
 fn write_arrow_line<W: Write>(f: &mut Formatter<W>, path: &str, at: LineColumn) -> fmt::Result
-    ensures { (start : ℕ) → WritesOnOk W.write_str_gives f.old result (arrow_line (visible path.now ++ behind_path (Some at) start)) f.new }
+    ensures { (start : ℕ)
+        → WritesOnOk W.write_str_gives f.old result
+        (arrow_line (visible path.now ++ behind_path (Some at) start)) f.new }
 {
     write!(f, "--> {}:{}:{}\n", visible(path), at.line, at.column)
 }
@@ -112,7 +117,8 @@ fn write_arrow_line<W: Write>(f: &mut Formatter<W>, path: &str, at: LineColumn) 
 /// Writes the path of a file, and an offset that is beyond its end, behind an arrow.
 #[tactic(auto, unfolding(crate::specs::Reports::arrow_line))]
 fn write_beyond_line<W: Write>(f: &mut Formatter<W>, path: &str, start: usize) -> fmt::Result
-    ensures { WritesOnOk W.write_str_gives f.old result (arrow_line (visible path.now ++ behind_path None start)) f.new }
+    ensures { WritesOnOk W.write_str_gives f.old result
+        (arrow_line (visible path.now ++ behind_path None start)) f.new }
 {
     write!(f, "--> {}, byte {start}\n", visible(path))
 }
@@ -125,7 +131,8 @@ fn write_span_in<W: Write>(
     at: LineColumn,
 ) -> fmt::Result
     requires { line_column_of file.now.text span.start ≡ Some at }
-    ensures { WritesOnOk W.write_str_gives f.old result (arrow_line (place_in span (Some file.now)) ++ excerpt_in (Some file.now) span) f.new }
+    ensures { WritesOnOk W.write_str_gives f.old result (arrow_line (place_in span (Some file.now))
+        ++ excerpt_in (Some file.now) span) f.new }
 {
     write_arrow_line(f, file.path.as_str(), at)?;
     write_excerpt(f, at, file.text.as_str(), span)

@@ -1,6 +1,7 @@
 //! Refusals of texts, as they are reported.
 ghost use Rattle.std.specs.Prelude.{Some};
-ghost use Rattle.apollo_reporting.specs.TextErrors.{parse_error_about, parse_error_details, parse_error_kind_about, parse_error_kind_details};
+ghost use Rattle.apollo_reporting.specs.TextErrors.{parse_error_about, parse_error_details};
+ghost use Rattle.apollo_reporting.specs.TextErrors.{parse_error_kind_about, parse_error_kind_details};
 
 use crate::about::About;
 use crate::detail::{Detail, one_text, two_texts};
@@ -8,7 +9,8 @@ use crate::reported::Reported;
 use graphql_text::parse_error::{ParseError, ParseErrorKind};
 use std::alloc::{AllocError, Global};
 
-/// It has no earlier place and no path. Details are the fields of the variant; a field without a name stands under `name`.
+/// It has no earlier place and no path. Details are the fields of the variant; a field without a name stands
+/// under `name`.
 impl Reported for ParseErrorKind {
     ghost said_about = { parse_error_kind_about };
 

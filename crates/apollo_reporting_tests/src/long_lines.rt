@@ -8,8 +8,8 @@ use std::alloc::{AllocError, Global};
 /// How many bytes `√` has.
 const WIDTH: usize = 3;
 
-/// A line of so many `√`, a fault from one of them up to another, and what is shown: so many of them before the marks and in
-/// all, with dots before and behind, and so many marks.
+/// A line of so many `√`, a fault from one of them up to another, and what is shown: so many of them before
+/// the marks and in all, with dots before and behind, and so many marks.
 struct Row {
     line: usize,
     start: usize,
@@ -21,8 +21,8 @@ struct Row {
     marks: usize,
 }
 
-/// The longest line that is shown whole, and lines that are one longer, marked in the beginning, in the end and to the end.
-/// Last a line of which something is left out on both sides.
+/// The longest line that is shown whole, and lines that are one longer, marked in the beginning, in the end
+/// and to the end. Last a line of which something is left out on both sides.
 static ROWS: [Row; 5] = [
     Row {
         line: 160,

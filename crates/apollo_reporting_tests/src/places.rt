@@ -37,7 +37,8 @@ const BUILT_IN: SourceSpan = SourceSpan {
     end: 0,
 };
 
-/// A fault at a location, with an earlier place, the report of it, and its JSON, which is broken into lines here.
+/// A fault at a location, with an earlier place, the report of it, and its JSON, which is broken into lines
+/// here.
 struct Row {
     location: Option<SourceSpan>,
     previous_location: Option<SourceSpan>,

@@ -1,4 +1,5 @@
--- What a list of definitions says of a name, of the schema and of directives, and where nothing in it is at fault.
+-- What a list of definitions says of a name, of the schema and of directives, and where nothing in it is at
+-- fault.
 pub mod About
 pub mod TypeFaults
 pub mod Meant

@@ -1,4 +1,5 @@
--- A whole schema, and what its write-out means: types, directives and the schema definition again, without fault.
+-- A whole schema, and what its write-out means: types, directives and the schema definition again, without
+-- fault.
 pub mod TypesAgain
 pub mod DirectivesAgain
 pub mod WrittenList

@@ -1,4 +1,5 @@
--- What a definition is about, and what lists say of a subject, where those of its groups stand in both in the same order.
+-- What a definition is about, and what lists say of a subject, where those of its groups stand in both in the
+-- same order.
 use Rattle.apollo_meaning.proofs.Prelude.{◌&&◌, ◌∙◌, ◌∷◌, ◌≡◌, Bool, Defined, DirectiveDefinition, Extended, List, ListItem, NodeView, None, Option, Other, SchemaDefined, SchemaExtended, TypePart, [], ap, arith, defined_part, defined_schema, directive_definitions, extended_part, extended_schema, extension_faults, extensions_of, false, filter, filter_map, find, first, first_schema, found_at, further_definition, further_schema, is_some, key_of, option_map_or, option_or, refl, same, same-true, schema_begun_faults, schema_extensions, schema_faults, slice_get, sym, true, ℕ}
 use Rattle.apollo_schema_laws.proofs.Rearranged.Words.{DefinitionsOf, DirectiveDefinitionsOf, ExtensionsOf, Group, IsOwn, IsTest, SchemaDefinitions, SchemaExtensions, chosen-wider, directive_of, directive_part, filter-wider, filter_map-wider, find-first, has_text, is_handed_in, is_in, last_or, lookup-keyed, type_begun_faults}
 use Rattle.graphql_nodes.proofs.Texts.{same-refl}

@@ -12,7 +12,8 @@ use Rattle.apollo_schema.specs.declared.schema.Schema.{Schema}
 
 -- the schemas that two lists mean are equal, whatever numbers their extensions get
 abbrev pub MeanEqualSchemas : Bool → List Added → List Added → Type 0
-MeanEqualSchemas adopts xs ys = (start other : ℕ) (s t : Schema) → MeansSchema start adopts xs s → MeansSchema other adopts ys t → AreEqualSchemas s t
+MeanEqualSchemas adopts xs ys = (start other : ℕ) (s t : Schema) → MeansSchema start adopts xs s
+    → MeansSchema other adopts ys t → AreEqualSchemas s t
 
 -- builders with one setting of adoption, of which one stands for the first list and the other for the second
 pub record StandFor (xs ys : List Added) (b c : Building) : Type 0 where
@@ -30,7 +31,8 @@ BuildEqualSchemas b c = (s t : Schema) → IsMeant b s → IsMeant c t → AreEq
 
 -- where they find faults, these are the same, with locations, in some order, and what could be built is equal
 abbrev pub BuildSameFaults : Building → Building → Type 0
-BuildSameFaults b c = (s t : Schema) (faults others : List Fault) → IsFoundIn b s faults → IsFoundIn c t others → IsPermutation faults others × AreEqualSchemas s t
+BuildSameFaults b c = (s t : Schema) (faults others : List Fault) → IsFoundIn b s faults
+    → IsFoundIn c t others → IsPermutation faults others × AreEqualSchemas s t
 
 -- where the first is without fault, none are found in the second
 abbrev pub BuildFaultlessTogether : Building → Building → Type 0

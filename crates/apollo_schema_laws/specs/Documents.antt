@@ -1,5 +1,5 @@
--- Documents that are added under one setting of whether redefinitions of built-in types are ignored. GraphQL specification of
--- October 2021, section 3.
+-- Documents that are added under one setting of whether redefinitions of built-in types are ignored. GraphQL
+-- specification of October 2021, section 3.
 use Rattle.std.specs.Prelude.{Bool, List}
 use Rattle.std.specs.List.{flat_map}
 use Rattle.graphql_ast.specs.declared.definition.Definition.{Definition}

@@ -1,6 +1,7 @@
--- What is dropped from a list, by places of the whole list, and the fault of each: GraphQL specification of October 2021, sections
--- 2.2, 3, 3.3, 3.3.2, 3.4.3 and 3.13.
-use Rattle.std.specs.Prelude.{ℕ, Bool, List, None, Some, Option, ◌&&◌, filter, filter_map, flat_map, if◌then◌else◌, is_none, nat_lt, not, option_and_then, option_map}
+-- What is dropped from a list, by places of the whole list, and the fault of each: GraphQL specification of
+-- October 2021, sections 2.2, 3, 3.3, 3.3.2, 3.4.3 and 3.13.
+use Rattle.std.specs.Prelude.{ℕ, Bool, List, None, Some, Option, ◌&&◌, filter, filter_map, flat_map}
+use Rattle.std.specs.Prelude.{if◌then◌else◌, is_none, nat_lt, not, option_and_then, option_map}
 use Rattle.std.specs.List.{enumerate_from}
 use Rattle.graphql_nodes.specs.BuiltIn.{is_built_in}
 use Rattle.graphql_nodes.specs.NodeView.{NodeView}
@@ -15,7 +16,8 @@ use Rattle.apollo_meaning.specs.Faults.Collisions.{Fault}
 use Rattle.apollo_meaning.specs.Faults.TypeFaults.{built_in_redefinition, redefinition}
 use Rattle.apollo_meaning.specs.Items.ListItems.{ListItem}
 use Rattle.apollo_meaning.specs.Items.Parts.{SchemaPart, TypePart, key_of}
-use Rattle.apollo_meaning.specs.Order.Places.{Family, Placed, definition_places, extension_places, first_place, is_folded, placed_by, schemas, types}
+use Rattle.apollo_meaning.specs.Order.Places.{Family, Placed, definition_places, extension_places}
+use Rattle.apollo_meaning.specs.Order.Places.{first_place, is_folded, placed_by, schemas, types}
 use Rattle.apollo_meaning.specs.declared.build_error.BuildError.TheVariants as errors
 
 -- an operation or a fragment is dropped: at its node, with what it is

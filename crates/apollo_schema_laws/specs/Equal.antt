@@ -17,10 +17,12 @@ abbrev pub is_built_in_directive : Definition → Bool
 is_built_in_directive (ast.DirectiveDefinition n) = is_built_in n.location
 is_built_in_directive _ = false
 
--- what is compared of a definition: all but locations, and of one of a directive whether it is marked built-in
+-- what is compared of a definition: all but locations, and of one of a directive whether it is marked
+-- built-in
 abbrev pub compared : Added → Bool × Definition
 compared a = (is_built_in_directive a.1, bare_definition a.1)
 
--- the definitions are equal one by one, whatever their locations, and those of directives are marked built-in alike
+-- the definitions are equal one by one, whatever their locations, and those of directives are marked built-in
+-- alike
 abbrev pub AreEqualLists : List Added → List Added → Type 0
 AreEqualLists xs ys = map compared xs ≡ map compared ys

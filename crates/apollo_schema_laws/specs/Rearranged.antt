@@ -1,4 +1,5 @@
--- Lists of the same definitions in another order: GraphQL specification of October 2021, sections 3 and 3.4.3.
+-- Lists of the same definitions in another order: GraphQL specification of October 2021, sections 3 and
+-- 3.4.3.
 --
 -- **Group.** One of these sublists of a list: the definitions of a type's name, the extensions of a
 -- type's name, the directive definitions of a name, the schema definitions, the schema extensions
@@ -23,15 +24,17 @@ use Rattle.graphql_nodes.specs.SameText.{same}
 use Rattle.graphql_ast.specs.BareTypeSystem.{bare_directive_definition}
 use Rattle.graphql_ast.specs.declared.type_system.DirectiveDefinition.{DirectiveDefinition}
 use Rattle.apollo_meaning.specs.Directives.{directive_definitions, directive_of, directive_part, has_text}
-use Rattle.apollo_meaning.specs.Items.ListItems.{ListItem, defined_part, defined_schema, extended_part, extended_schema}
+use Rattle.apollo_meaning.specs.Items.ListItems.{ListItem, defined_part, defined_schema, extended_part}
+use Rattle.apollo_meaning.specs.Items.ListItems.{extended_schema}
 use Rattle.apollo_meaning.specs.Items.Parts.{key_of}
 use Rattle.apollo_meaning.specs.Order.Places.{folding_order}
 use Rattle.apollo_meaning.specs.Schema.Definition.{schema_of}
 use Rattle.apollo_meaning.specs.Types.Meaning.{type_of}
-use Rattle.apollo_types.specs.BareTypes.{BareSchemaDefinition, BareType, bare_extended_type, bare_schema_definition}
+use Rattle.apollo_types.specs.BareTypes.{BareSchemaDefinition, BareType, bare_extended_type}
+use Rattle.apollo_types.specs.BareTypes.{bare_schema_definition}
 
--- definitions among which the order counts: those of a type's name, the extensions of a type's name, the directive
--- definitions of a name, the definitions of the schema, and its extensions
+-- definitions among which the order counts: those of a type's name, the extensions of a type's name, the
+-- directive definitions of a name, the definitions of the schema, and its extensions
 pub data Group : Type 0 where
   -- the definitions of the type of this name
   DefinitionsOf : List ℕ → Group
@@ -52,8 +55,8 @@ is_in (DirectiveDefinitionsOf n) x = option_map_or (has_text n) (directive_part 
 is_in SchemaDefinitions x = is_some (defined_schema x)
 is_in SchemaExtensions x = is_some (extended_schema x)
 
--- the lists have the same definitions, and those of each group stand in the same order; those of different groups may
--- change places
+-- the lists have the same definitions, and those of each group stand in the same order; those of different
+-- groups may change places
 pub record AreRearranged (xs ys : List ListItem) : Type 0 where
   pub same_definitions : IsPermutation xs ys
   pub in_order : (g : Group) → filter (is_in g) xs ≡ filter (is_in g) ys
@@ -64,8 +67,10 @@ type_meant start xs n = option_map bare_extended_type (type_of start (folding_or
 
 -- what `==` compares of the schema definition that a list means, if it means one
 abbrev pub schema_meant : ℕ → List ListItem → Option BareSchemaDefinition
-schema_meant start xs = option_map (λ s. bare_schema_definition s.value) (schema_of start (folding_order xs) xs)
+schema_meant start xs =
+    option_map (λ s. bare_schema_definition s.value) (schema_of start (folding_order xs) xs)
 
 -- what `==` compares of the directive definition that a name means
 abbrev pub directive_meant : List ListItem → List ℕ → Option DirectiveDefinition
-directive_meant xs n = option_map (λ d. bare_directive_definition d.value) (directive_of (directive_definitions xs) n)
+directive_meant xs n =
+    option_map (λ d. bare_directive_definition d.value) (directive_of (directive_definitions xs) n)

@@ -1,4 +1,5 @@
--- The faults of a list by their sorts: GraphQL specification of October 2021, sections 2.2, 3, 3.3, 3.4.3, 3.5 to 3.10 and 3.13.
+-- The faults of a list by their sorts: GraphQL specification of October 2021, sections 2.2, 3, 3.3, 3.4.3,
+-- 3.5 to 3.10 and 3.13.
 --
 -- **Reported.** The **sort** of a fault is what it is that is dropped (`sort_of`): an operation or a
 -- fragment; a further definition of the schema, of a directive or of a type; an extension of a type or of the
@@ -27,9 +28,10 @@ use Rattle.apollo_meaning.specs.Faults.Collisions.{Fault}
 use Rattle.apollo_meaning.specs.Faults.ListFaults.{faults_of}
 use Rattle.apollo_meaning.specs.Items.ListItems.{Added}
 
--- what it is that is dropped: an operation or a fragment; a further definition of the schema, of a directive or of a type; an
--- extension of a type or of the schema that has no definition; an extension of the type of this name that is of another kind; a
--- component that is given a second time to the type of this name; a root that is given a second time
+-- what it is that is dropped: an operation or a fragment; a further definition of the schema, of a directive
+-- or of a type; an extension of a type or of the schema that has no definition; an extension of the type of
+-- this name that is of another kind; a component that is given a second time to the type of this name; a root
+-- that is given a second time
 pub data Sort : Type 0 where
   Executable : Sort
   FurtherSchema : Sort

@@ -8,7 +8,8 @@ use Rattle.apollo_meaning.specs.declared.build_error.BuildError.TheVariants as e
 -- the sort of each, in order of discovery
 abbrev pub its_sorts : List Sort
 its_sorts =
-    RepeatedComponent (codes "T") ∷ RepeatedComponent (codes "T") ∷ RepeatedComponent (codes "T") ∷ RepeatedComponent (codes "T")
+    RepeatedComponent (codes "T") ∷ RepeatedComponent (codes "T") ∷ RepeatedComponent (codes "T")
+    ∷ RepeatedComponent (codes "T")
     ∷ OtherKind (codes "T") ∷ FurtherType ∷ RepeatedComponent (codes "T") ∷ OrphanOfType ∷ []
 
 -- the further definition of its type
@@ -17,7 +18,11 @@ its_further_definition = (line 11, errors.TypeDefinitionCollision (line 6) (name
 
 -- the extension of that type that is of another kind
 abbrev pub its_mismatch : List Fault
-its_mismatch = (line 4, errors.TypeExtensionKindMismatch (name_on_line (codes "T") 4) (codes "an enum type extension") (line 6) (codes "an object type")) ∷ []
+its_mismatch = (
+  line 4,
+  errors.TypeExtensionKindMismatch (name_on_line (codes "T") 4) (codes "an enum type extension")
+      (line 6) (codes "an object type"),
+) ∷ []
 
 -- the extension without a definition
 abbrev pub its_orphan : List Fault

@@ -1,5 +1,5 @@
--- The components of a type or of the schema's definition, sort by sort, and those that parts under their origins make:
--- GraphQL specification of October 2021, sections 3.3, 3.4.3 and 3.5 to 3.10.
+-- The components of a type or of the schema's definition, sort by sort, and those that parts under their
+-- origins make: GraphQL specification of October 2021, sections 3.3, 3.4.3 and 3.5 to 3.10.
 use Rattle.std.specs.Prelude.{◌≡◌, List, [], ◌∷◌, map}
 use Rattle.std.specs.List.{IsDistinct, flat_map}
 use Rattle.std.specs.List.Sorted.{IsPermutation}
@@ -37,7 +37,8 @@ as_parts part = map (λ x. (x.0, part x.1))
 abbrev pub in_sections : Sections → List SourcedPart
 in_sections s = flat_map (λ cs. cs) (
     as_parts parts.Directive s.directives ∷ as_parts parts.Name s.names ∷ as_parts parts.Field s.fields
-    ∷ as_parts parts.EnumValue s.values ∷ as_parts parts.InputField s.input_fields ∷ as_parts parts.Root s.roots ∷ []
+    ∷ as_parts parts.EnumValue s.values ∷ as_parts parts.InputField s.input_fields
+    ∷ as_parts parts.Root s.roots ∷ []
     )
 
 -- the definition's parts and those of each extension, with their origins
@@ -45,7 +46,8 @@ abbrev pub with_origins : PartsByOrigin → List (ComponentOrigin × Parts)
 with_origins p = (Definition, p.definition) ∷ map (λ e. (Extension e.0, e.1)) p.extensions
 
 -- what these have of one sort, joined
-abbrev pub joined : {X : Type 0} → (Parts → List X) → List (ComponentOrigin × Parts) → List (ComponentOrigin × X)
+abbrev pub joined : {X : Type 0} → (Parts → List X) → List (ComponentOrigin × Parts)
+    → List (ComponentOrigin × X)
 joined sort = flat_map (λ g. map (λ x. (g.0, x)) (sort g.1))
 
 -- the components that parts under their origins make

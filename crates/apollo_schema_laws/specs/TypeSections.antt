@@ -1,5 +1,5 @@
--- The components of types, sort by sort, and types that have what another is written out as: GraphQL specification of
--- October 2021, sections 3.4.3 and 3.5 to 3.10.
+-- The components of types, sort by sort, and types that have what another is written out as: GraphQL
+-- specification of October 2021, sections 3.4.3 and 3.5 to 3.10.
 use Rattle.std.specs.Prelude.{◌≡◌, List, [], map, Option}
 use Rattle.std.specs.List.{IsDistinct}
 use Rattle.graphql_nodes.specs.NameView.{NameView}
@@ -15,9 +15,11 @@ use Rattle.apollo_component.specs.declared.component.ComponentName.{ComponentNam
 use Rattle.apollo_component.specs.declared.extension.ComponentOrigin.{ComponentOrigin}
 use Rattle.apollo_component.specs.declared.extension.ExtensionId.{ExtensionId}
 use Rattle.apollo_component.specs.declared.parts_by_origin.PartsByOrigin.{PartsByOrigin}
-use Rattle.apollo_types.specs.TypeWriteOut.{type_kind, type_name, type_location, type_description, type_components}
+use Rattle.apollo_types.specs.TypeWriteOut.{type_kind, type_name, type_location, type_description}
+use Rattle.apollo_types.specs.TypeWriteOut.{type_components}
 use Rattle.apollo_types.specs.declared.extended_type.ExtendedType.{ExtendedType}
-use Rattle.apollo_types.specs.declared.extended_type.ExtendedType.TheVariants.{Scalar, Object, Interface, Union, Enum, InputObject}
+use Rattle.apollo_types.specs.declared.extended_type.ExtendedType.TheVariants.{Scalar, Object, Interface}
+use Rattle.apollo_types.specs.declared.extended_type.ExtendedType.TheVariants.{Union, Enum, InputObject}
 use Rattle.apollo_schema_laws.specs.Sections.{Sections, sections_of}
 
 -- a component's node, with its origin
@@ -30,7 +32,14 @@ name_with_origin c = (c.origin, c.name)
 
 -- no components of any sort
 abbrev pub no_components : Sections
-no_components = record { directives = []; names = []; fields = []; values = []; input_fields = []; roots = [] }
+no_components = record {
+  directives = [];
+  names = [];
+  fields = [];
+  values = [];
+  input_fields = [];
+  roots = [];
+}
 
 -- the components of a type
 abbrev pub type_sections : ExtendedType → Sections
@@ -45,16 +54,28 @@ type_sections (Interface n) = record no_components {
   names = map name_with_origin n.value.implements_interfaces;
   fields = map node_with_origin (values_of n.value.fields);
 }
-type_sections (Union n) = record no_components { directives = map node_with_origin n.value.directives.0; names = map name_with_origin n.value.members }
-type_sections (Enum n) = record no_components { directives = map node_with_origin n.value.directives.0; values = map node_with_origin (values_of n.value.values) }
-type_sections (InputObject n) = record no_components { directives = map node_with_origin n.value.directives.0; input_fields = map node_with_origin (values_of n.value.fields) }
+type_sections (Union n) =
+    record no_components {
+      directives = map node_with_origin n.value.directives.0;
+      names = map name_with_origin n.value.members;
+    }
+type_sections (Enum n) =
+    record no_components {
+      directives = map node_with_origin n.value.directives.0;
+      values = map node_with_origin (values_of n.value.values);
+    }
+type_sections (InputObject n) =
+    record no_components {
+      directives = map node_with_origin n.value.directives.0;
+      input_fields = map node_with_origin (values_of n.value.fields);
+    }
 
 -- the parts of extensions, each where it stands
 abbrev pub placed : List (ExtensionId × Parts) → List (Option SourceSpan × Parts)
 placed = map (λ e. (extension_location e.0, e.1))
 
--- type u has what type t is written out as: its definition's parts and those of its extensions, where these stand, under
--- any distinct numbers
+-- type u has what type t is written out as: its definition's parts and those of its extensions, where these
+-- stand, under any distinct numbers
 pub record HasWhatIsWritten (t u : ExtendedType) : Type 0 where
   pub kind : type_kind u ≡ type_kind t
   pub description : type_description u ≡ type_description t

@@ -21,7 +21,8 @@ pub record IsUnmarkedAndRooted (more : List Added) : Type 0 where
   pub unmarked : All (λ a. is_built_in (definition_location a.1) ≡ false) more
   pub rooted : All (λ s. s.roots ≢ []) (filter_map defined_schema (added_items more))
 
--- a schema that some such list means, with extensions numbered from some number, under some setting of adoption
+-- a schema that some such list means, with extensions numbered from some number, under some setting of
+-- adoption
 pub record IsMeantByList (schema : Schema) : Type 0 where
   -- the number of the first extension that is folded
   pub start : ℕ
@@ -38,4 +39,5 @@ written_again ignores schema = with_built_ins (added ignores (write_schema schem
 
 -- what a schema that the list means is written out as
 abbrev pub IsWriteOutOf : ℕ → Bool → List Added → List Definition → Type 0
-IsWriteOutOf start adopts xs ds = (schema : Schema) × MeansSchema start adopts xs schema × (ds ≡ write_schema schema)
+IsWriteOutOf start adopts xs ds = (schema : Schema) × MeansSchema start adopts xs schema
+    × (ds ≡ write_schema schema)

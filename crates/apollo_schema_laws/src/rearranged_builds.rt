@@ -1,4 +1,5 @@
-//! Laws of what equal and rearranged lists of definitions are built to, for those who compose schemas or keep registries of them.
+//! Laws of what equal and rearranged lists of definitions are built to, for those who compose schemas or keep
+//! registries of them.
 ghost use Rattle.std.specs.Prelude.{◌≡◌, ◌++◌, ℕ, Bool, List};
 ghost use Rattle.std.specs.List.Sorted.{IsPermutation};
 ghost use Rattle.apollo_meaning.specs.Faults.ListFaults.{faults_of};
@@ -6,7 +7,8 @@ ghost use Rattle.apollo_meaning.specs.Items.ListItems.{Added, added_items};
 ghost use Rattle.apollo_schema_laws.specs.Documents.{Documents, added_each, added_joined};
 ghost use Rattle.apollo_schema_laws.specs.Equal.{AreEqualLists};
 ghost use Rattle.apollo_schema_laws.specs.Rearranged.{AreRearranged};
-ghost use Rattle.apollo_schema_laws.specs.BuiltAlike.{BuildEqualSchemas, BuildFaultlessTogether, BuildSameFaults, MeanEqualSchemas, StandFor};
+ghost use Rattle.apollo_schema_laws.specs.BuiltAlike.{BuildEqualSchemas, BuildFaultlessTogether};
+ghost use Rattle.apollo_schema_laws.specs.BuiltAlike.{BuildSameFaults, MeanEqualSchemas, StandFor};
 ghost use Rattle.apollo_schema.specs.BuilderStands.{Building, StandsFor};
 ghost use Rattle.apollo_schema.specs.MeantSchema.{MeansSchema};
 ghost use Rattle.apollo_schema.specs.declared.schema.Schema.{Schema};
@@ -26,8 +28,10 @@ use apollo_schema::laws::a_list_means_one_schema;
 /// for them and both adopt or both don't, and where one has no fault, none are found of the other. GraphQL
 /// specification of October 2021, section 3.
 pub fn rearranged()
-    ensures schemas { (adopts : Bool) (xs ys : List Added) → AreRearranged (added_items xs) (added_items ys) → MeanEqualSchemas adopts xs ys }
-    ensures faults { (adopts : Bool) (xs ys : List Added) → AreRearranged (added_items xs) (added_items ys) → IsPermutation (faults_of adopts xs) (faults_of adopts ys) }
+    ensures schemas { (adopts : Bool) (xs ys : List Added) → AreRearranged (added_items xs) (added_items ys)
+        → MeanEqualSchemas adopts xs ys }
+    ensures faults { (adopts : Bool) (xs ys : List Added) → AreRearranged (added_items xs) (added_items ys)
+        → IsPermutation (faults_of adopts xs) (faults_of adopts ys) }
     ensures built { (xs ys : List Added) → AreRearranged (added_items xs) (added_items ys)
         → (b c : Building) → StandFor xs ys b c → BuildEqualSchemas b c }
     ensures found { (xs ys : List Added) → AreRearranged (added_items xs) (added_items ys)
@@ -48,14 +52,19 @@ pub fn rearranged()
 /// both are numbered from one number. Where they aren't, it is an equal one.
 pub fn documents_one_by_one()
     ensures schemas { (adopts ignores : Bool) (xs : List Added) (documents : Documents)
-        → MeanEqualSchemas adopts (xs ++ added_each ignores documents) (xs ++ added_joined ignores documents) }
-    ensures same { (start : ℕ) (adopts ignores : Bool) (xs : List Added) (documents : Documents) (s t : Schema)
-        → MeansSchema start adopts (xs ++ added_each ignores documents) s → MeansSchema start adopts (xs ++ added_joined ignores documents) t
+        → MeanEqualSchemas adopts (xs ++ added_each ignores documents) (xs
+        ++ added_joined ignores documents) }
+    ensures same { (start : ℕ) (adopts ignores : Bool) (xs : List Added) (documents : Documents)
+        (s t : Schema)
+        → MeansSchema start adopts (xs ++ added_each ignores documents) s
+        → MeansSchema start adopts (xs ++ added_joined ignores documents) t
         → s ≡ record t { sources = s.sources } }
     ensures faults { (adopts ignores : Bool) (xs : List Added) (documents : Documents)
-        → faults_of adopts (xs ++ added_each ignores documents) ≡ faults_of adopts (xs ++ added_joined ignores documents) }
+        → faults_of adopts (xs ++ added_each ignores documents)
+        ≡ faults_of adopts (xs ++ added_joined ignores documents) }
     ensures stands { (b : Building) (n : ℕ) (ignores : Bool) (xs : List Added) (documents : Documents)
-        → StandsFor n (xs ++ added_each ignores documents) b → StandsFor n (xs ++ added_joined ignores documents) b }
+        → StandsFor n (xs ++ added_each ignores documents) b
+        → StandsFor n (xs ++ added_joined ignores documents) b }
 {
     rearranged();
     rearranging_is_an_equivalence();
@@ -68,7 +77,8 @@ pub fn documents_one_by_one()
 /// Builders that stand for them, and both adopt or both don't, are built to equal schemas. GraphQL
 /// specification of October 2021, section 3.
 pub fn equal_lists()
-    ensures schemas { (adopts : Bool) (xs ys : List Added) → AreEqualLists xs ys → MeanEqualSchemas adopts xs ys }
+    ensures schemas { (adopts : Bool) (xs ys : List Added) → AreEqualLists xs ys
+        → MeanEqualSchemas adopts xs ys }
     ensures built { (xs ys : List Added) → AreEqualLists xs ys
         → (b c : Building) → StandFor xs ys b c → BuildEqualSchemas b c }
 {

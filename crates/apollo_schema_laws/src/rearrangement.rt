@@ -1,6 +1,7 @@
 //! Laws of lists of definitions that are equal or rearranged, and of the faults of a list name by name. They
 //! are for those who build on what such a list means.
-ghost use Rattle.std.specs.Prelude.{◌≡◌, ◌++◌, ◌∷◌, [], ℕ, Bool, List, None, Some, codes, filter, filter_map, flat_map, map, not, true, false};
+ghost use Rattle.std.specs.Prelude.{◌≡◌, ◌++◌, ◌∷◌, [], ℕ, Bool, List, None, Some, codes, filter, filter_map};
+ghost use Rattle.std.specs.Prelude.{flat_map, map, not, true, false};
 ghost use Rattle.std.specs.List.Sorted.{IsPermutation};
 ghost use Rattle.apollo_meaning.specs.Completion.ImpliedSchema.{completed};
 ghost use Rattle.apollo_meaning.specs.Directives.{directive_definitions, directive_of};
@@ -17,83 +18,103 @@ ghost use Rattle.apollo_meaning.specs.Schema.Whole.{whole};
 ghost use Rattle.apollo_meaning.specs.declared.build_error.BuildError.{BuildError};
 ghost use Rattle.apollo_schema_laws.specs.Documents.{Documents, added_each, added_joined};
 ghost use Rattle.apollo_schema_laws.specs.Equal.{AreEqualLists};
-ghost use Rattle.apollo_schema_laws.specs.Rearranged.{AreRearranged, Group, directive_meant, is_in, schema_meant, type_meant};
-ghost use Rattle.apollo_schema_laws.specs.Dropped.{executable_fault, further_directive, further_directives, further_schemas, further_type, further_types, is_passed_over, of_another_kind, orphans_by_name, undefined_places};
-ghost use Rattle.apollo_schema_laws.specs.Reported.{Executable, FurtherDirective, FurtherSchema, FurtherType, OrphanOfSchema, OrphanOfType, OtherKind, RepeatedComponent, RepeatedRoot, Sort, is_of_sort, reported, reported_sorts, sort_of};
-ghost use Rattle.apollo_schema_laws.specs.ReportedRows.{its_further_definition, its_mismatch, its_orphan, its_sorts};
+ghost use Rattle.apollo_schema_laws.specs.Rearranged.{AreRearranged, Group, directive_meant, is_in};
+ghost use Rattle.apollo_schema_laws.specs.Rearranged.{schema_meant, type_meant};
+ghost use Rattle.apollo_schema_laws.specs.Dropped.{executable_fault, further_directive, further_directives};
+ghost use Rattle.apollo_schema_laws.specs.Dropped.{further_schemas, further_type, further_types};
+ghost use Rattle.apollo_schema_laws.specs.Dropped.{is_passed_over, of_another_kind, orphans_by_name};
+ghost use Rattle.apollo_schema_laws.specs.Dropped.{undefined_places};
+ghost use Rattle.apollo_schema_laws.specs.Reported.{Executable, FurtherDirective, FurtherSchema, FurtherType};
+ghost use Rattle.apollo_schema_laws.specs.Reported.{OrphanOfSchema, OrphanOfType, OtherKind};
+ghost use Rattle.apollo_schema_laws.specs.Reported.{RepeatedComponent, RepeatedRoot, Sort, is_of_sort};
+ghost use Rattle.apollo_schema_laws.specs.Reported.{reported, reported_sorts, sort_of};
+ghost use Rattle.apollo_schema_laws.specs.ReportedRows.{its_further_definition, its_mismatch, its_orphan};
+ghost use Rattle.apollo_schema_laws.specs.ReportedRows.{its_sorts};
 
 use apollo_meaning::laws::{folded_extensions, folded_schema_extensions};
 
-/// Each list is a rearrangement of itself; what is rearranged can be put back; and what is rearranged twice is rearranged.
+/// Each list is a rearrangement of itself; what is rearranged can be put back; and what is rearranged twice
+/// is rearranged.
 pub fn rearranging_is_an_equivalence()
     ensures itself { (xs : List ListItem) → AreRearranged xs xs }
     ensures back { (xs ys : List ListItem) → AreRearranged xs ys → AreRearranged ys xs }
-    ensures twice { (xs ys zs : List ListItem) → AreRearranged xs ys → AreRearranged ys zs → AreRearranged xs zs }
+    ensures twice { (xs ys zs : List ListItem) → AreRearranged xs ys → AreRearranged ys zs
+        → AreRearranged xs zs }
 {}
 
 /// Lists that are joined are rearranged where each of them is.
 pub fn joined_lists_are_rearranged()
-    ensures { (xs ys us vs : List ListItem) → AreRearranged xs ys → AreRearranged us vs → AreRearranged (xs ++ us) (ys ++ vs) }
+    ensures { (xs ys us vs : List ListItem) → AreRearranged xs ys → AreRearranged us vs
+        → AreRearranged (xs ++ us) (ys ++ vs) }
 {}
 
-/// Two neighbours change places where no group has both: definitions of different names, a definition and an extension,
-/// what is of a type and what is of the schema. GraphQL specification of October 2021, section 3.
+/// Two neighbours change places where no group has both: definitions of different names, a definition and an
+/// extension, what is of a type and what is of the schema. GraphQL specification of October 2021, section 3.
 pub fn neighbours_change_places()
-    ensures { (before after : List ListItem) (x y : ListItem) → ((g : Group) → is_in g x ≡ true → is_in g y ≡ false)
+    ensures { (before after : List ListItem) (x y : ListItem)
+        → ((g : Group) → is_in g x ≡ true → is_in g y ≡ false)
         → AreRearranged (before ++ x ∷ y ∷ after) (before ++ y ∷ x ∷ after) }
 {}
 
-/// What rearranged lists are completed with, types that are adopted and an implied schema definition, is rearranged too.
-/// GraphQL specification of October 2021, sections 3.3.1 and 3.4.3.
+/// What rearranged lists are completed with, types that are adopted and an implied schema definition, is
+/// rearranged too. GraphQL specification of October 2021, sections 3.3.1 and 3.4.3.
 pub fn completed_lists_are_rearranged()
-    ensures { (adopts : Bool) (xs ys : List ListItem) → AreRearranged xs ys → AreRearranged (completed adopts xs) (completed adopts ys) }
+    ensures { (adopts : Bool) (xs ys : List ListItem) → AreRearranged xs ys
+        → AreRearranged (completed adopts xs) (completed adopts ys) }
 {}
 
-/// Each name means equal types in rearranged lists, whatever numbers their extensions get. GraphQL specification of October
-/// 2021, section 3.4.3.
+/// Each name means equal types in rearranged lists, whatever numbers their extensions get. GraphQL
+/// specification of October 2021, section 3.4.3.
 pub fn rearranged_types_are_equal()
-    ensures { (start other : ℕ) (xs ys : List ListItem) (n : List ℕ) → AreRearranged xs ys → type_meant start xs n ≡ type_meant other ys n }
+    ensures { (start other : ℕ) (xs ys : List ListItem) (n : List ℕ) → AreRearranged xs ys
+        → type_meant start xs n ≡ type_meant other ys n }
 {
     folded_extensions();
 }
 
-/// The schema definitions that rearranged lists mean are equal, whatever numbers their extensions get, or neither means one.
-/// GraphQL specification of October 2021, sections 3.3 and 3.3.2.
+/// The schema definitions that rearranged lists mean are equal, whatever numbers their extensions get, or
+/// neither means one. GraphQL specification of October 2021, sections 3.3 and 3.3.2.
 pub fn rearranged_schema_definitions_are_equal()
-    ensures { (start other : ℕ) (xs ys : List ListItem) → AreRearranged xs ys → schema_meant start xs ≡ schema_meant other ys }
+    ensures { (start other : ℕ) (xs ys : List ListItem) → AreRearranged xs ys
+        → schema_meant start xs ≡ schema_meant other ys }
 {
     folded_schema_extensions();
 }
 
-/// Each directive's name means the same definition in rearranged lists. GraphQL specification of October 2021, section 3.13.
+/// Each directive's name means the same definition in rearranged lists. GraphQL specification of October
+/// 2021, section 3.13.
 pub fn rearranged_directives_are_the_same()
-    ensures { (xs ys : List ListItem) (n : List ℕ) → AreRearranged xs ys → directive_of (directive_definitions xs) n ≡ directive_of (directive_definitions ys) n }
+    ensures { (xs ys : List ListItem) (n : List ℕ) → AreRearranged xs ys
+        → directive_of (directive_definitions xs) n ≡ directive_of (directive_definitions ys) n }
 {}
 
-/// The schema has the same first definition and the same extensions in rearranged lists. GraphQL specification of October
-/// 2021, sections 3.3 and 3.3.2.
+/// The schema has the same first definition and the same extensions in rearranged lists. GraphQL
+/// specification of October 2021, sections 3.3 and 3.3.2.
 pub fn rearranged_schema_parts_are_the_same()
     ensures definition { (xs ys : List ListItem) → AreRearranged xs ys → first_schema xs ≡ first_schema ys }
-    ensures extensions { (xs ys : List ListItem) → AreRearranged xs ys → schema_extensions xs ≡ schema_extensions ys }
+    ensures extensions { (xs ys : List ListItem) → AreRearranged xs ys
+        → schema_extensions xs ≡ schema_extensions ys }
 {}
 
-/// Rearranged lists have the same faults, with their locations, in some order. GraphQL specification of October 2021,
-/// section 3.
+/// Rearranged lists have the same faults, with their locations, in some order. GraphQL specification of
+/// October 2021, section 3.
 pub fn rearranged_faults_are_the_same()
-    ensures { (adopts : Bool) (xs ys : List Added) → AreRearranged (added_items xs) (added_items ys) → IsPermutation (faults_of adopts xs) (faults_of adopts ys) }
+    ensures { (adopts : Bool) (xs ys : List Added) → AreRearranged (added_items xs) (added_items ys)
+        → IsPermutation (faults_of adopts xs) (faults_of adopts ys) }
 {}
 
-/// Each error of a build is of exactly one sort. So the faults of a list are what is reported of each sort that it has a fault of,
-/// in another order: none is lost, and none is reported twice.
+/// Each error of a build is of exactly one sort. So the faults of a list are what is reported of each sort
+/// that it has a fault of, in another order: none is lost, and none is reported twice.
 pub fn each_fault_is_of_one_sort()
     ensures own { (e : BuildError) → is_of_sort (sort_of e) e ≡ true }
     ensures alone { (s : Sort) (e : BuildError) → is_of_sort s e ≡ true → s ≡ sort_of e }
     ensures together { (adopts : Bool) (xs : List Added)
-        → IsPermutation (faults_of adopts xs) (flat_map (λ s. reported s adopts xs) (reported_sorts adopts xs)) }
+        → IsPermutation (faults_of adopts xs)
+        (flat_map (λ s. reported s adopts xs) (reported_sorts adopts xs)) }
 {}
 
-/// Those faults of a list that say that a definition is not of the type system are those of its operations and fragments: one
-/// for each, in order. GraphQL specification of October 2021, sections 2.2 and 3.
+/// Those faults of a list that say that a definition is not of the type system are those of its operations
+/// and fragments: one for each, in order. GraphQL specification of October 2021, sections 2.2 and 3.
 pub fn reported_executables_are_the_operations_and_fragments()
     ensures { (adopts : Bool) (xs : List Added)
         → reported Executable adopts xs ≡ filter_map (λ a. executable_fault a.1) xs }
@@ -106,12 +127,15 @@ pub fn reported_executables_are_the_operations_and_fragments()
 /// may be ignored has none. GraphQL specification of October 2021, sections 3.3, 3.5 and 3.13.
 pub fn reported_collisions_are_the_further_definitions()
     ensures schemas { (adopts : Bool) (xs : List Added)
-        → reported FurtherSchema adopts xs ≡ map (λ p. further_schema p.0.1 p.1.1) (further_schemas (whole adopts xs)) }
+        → reported FurtherSchema adopts xs
+        ≡ map (λ p. further_schema p.0.1 p.1.1) (further_schemas (whole adopts xs)) }
     ensures directives { (adopts : Bool) (xs : List Added)
-        → reported FurtherDirective adopts xs ≡ map (λ p. further_directive p.0.1 p.1.1) (further_directives (whole adopts xs)) }
+        → reported FurtherDirective adopts xs
+        ≡ map (λ p. further_directive p.0.1 p.1.1) (further_directives (whole adopts xs)) }
     ensures types { (adopts : Bool) (xs : List Added)
         → reported FurtherType adopts xs
-        ≡ map (λ p. further_type p.0.1 p.1.1) (filter (λ p. not (is_passed_over p)) (further_types (whole adopts xs))) }
+        ≡ map (λ p. further_type p.0.1 p.1.1)
+        (filter (λ p. not (is_passed_over p)) (further_types (whole adopts xs))) }
 {}
 
 /// Take those faults of a list that say that an extension has no definition. They are those of the extensions
@@ -122,7 +146,8 @@ pub fn reported_orphans_are_the_extensions_without_a_definition()
     ensures types { (adopts : Bool) (xs : List Added)
         → reported OrphanOfType adopts xs ≡ map (λ e. orphan e.1) (orphans_by_name (whole adopts xs)) }
     ensures schemas { (adopts : Bool) (xs : List Added)
-        → reported OrphanOfSchema adopts xs ≡ map (λ e. schema_orphan e.1) (undefined_places schemas (whole adopts xs)) }
+        → reported OrphanOfSchema adopts xs
+        ≡ map (λ e. schema_orphan e.1) (undefined_places schemas (whole adopts xs)) }
     ensures adopted_types { (xs : List Added) → reported OrphanOfType true xs ≡ [] }
     ensures adopted_schemas { (xs : List Added) → reported OrphanOfSchema true xs ≡ [] }
 {}
@@ -131,10 +156,12 @@ pub fn reported_orphans_are_the_extensions_without_a_definition()
 /// the name's extensions that are not of the kind of its first definition: one for each, in order. Of a name
 /// without a definition there are none. GraphQL specification of October 2021, section 3.4.3.
 pub fn reported_mismatches_are_the_extensions_of_another_kind()
-    ensures dropped { (adopts : Bool) (xs : List Added) (d : Placed TypePart) → first_place types (whole adopts xs) (key_of d.1) ≡ Some d
+    ensures dropped { (adopts : Bool) (xs : List Added) (d : Placed TypePart)
+        → first_place types (whole adopts xs) (key_of d.1) ≡ Some d
         → reported (OtherKind (key_of d.1)) adopts xs
         ≡ map (λ e. kind_mismatch d.1 e.1) (of_another_kind (whole adopts xs) (key_of d.1)) }
-    ensures none { (adopts : Bool) (xs : List Added) (n : List ℕ) → first_place types (whole adopts xs) n ≡ None
+    ensures none { (adopts : Bool) (xs : List Added) (n : List ℕ)
+        → first_place types (whole adopts xs) n ≡ None
         → reported (OtherKind n) adopts xs ≡ [] }
 {}
 
@@ -143,9 +170,11 @@ pub fn reported_mismatches_are_the_extensions_of_another_kind()
 /// extensions that are folded into it; each as often, and in the same order. Of a name without a definition
 /// there are none. GraphQL specification of October 2021, sections 3.4.3 and 3.6 to 3.10.
 pub fn reported_collisions_are_the_dropped_components()
-    ensures dropped { (adopts : Bool) (xs : List Added) (d : Placed TypePart) → first_place types (whole adopts xs) (key_of d.1) ≡ Some d
+    ensures dropped { (adopts : Bool) (xs : List Added) (d : Placed TypePart)
+        → first_place types (whole adopts xs) (key_of d.1) ≡ Some d
         → reported (RepeatedComponent (key_of d.1)) adopts xs ≡ found_of_type (whole adopts xs) d.1 }
-    ensures none { (adopts : Bool) (xs : List Added) (n : List ℕ) → first_place types (whole adopts xs) n ≡ None
+    ensures none { (adopts : Bool) (xs : List Added) (n : List ℕ)
+        → first_place types (whole adopts xs) n ≡ None
         → reported (RepeatedComponent n) adopts xs ≡ [] }
 {}
 
@@ -154,7 +183,8 @@ pub fn reported_collisions_are_the_dropped_components()
 /// and in the same order. Without a definition of the schema there are none. GraphQL specification of October
 /// 2021, sections 3.3.1 and 3.3.2.
 pub fn reported_repeated_roots_are_the_dropped_roots()
-    ensures dropped { (adopts : Bool) (xs : List Added) (s : Placed SchemaPart) → first_place schemas (whole adopts xs) [] ≡ Some s
+    ensures dropped { (adopts : Bool) (xs : List Added) (s : Placed SchemaPart)
+        → first_place schemas (whole adopts xs) [] ≡ Some s
         → reported RepeatedRoot adopts xs ≡ found_of_schema (whole adopts xs) s.1 }
     ensures none { (adopts : Bool) (xs : List Added)
         → first_place schemas (whole adopts xs) [] ≡ None → reported RepeatedRoot adopts xs ≡ [] }
@@ -170,20 +200,25 @@ pub fn faults_by_sort()
     ensures orphan { reported OrphanOfType false (added false faulty_list) ≡ its_orphan }
 {}
 
-/// What is dropped from the same list as a whole, by places from 0 on, computed: the further definition of `T`, at place
-/// 3; the extension of `T` of another kind, at place 1; that of `U`, at place 5. No further definition is passed over, also where
-/// it may be ignored, as `T` is not built-in; of a built-in type one is.
+/// What is dropped from the same list as a whole, by places from 0 on, computed: the further definition of
+/// `T`, at place 3; the extension of `T` of another kind, at place 1; that of `U`, at place 5. No further
+/// definition is passed over, also where it may be ignored, as `T` is not built-in; of a built-in type one
+/// is.
 pub fn dropped_by_places()
     ensures further { map (λ p. p.1.0) (further_types (whole false (added false faulty_list))) ≡ 3 ∷ [] }
-    ensures other_kind { map (λ e. e.0) (of_another_kind (whole false (added false faulty_list)) (codes "T")) ≡ 1 ∷ [] }
+    ensures other_kind { map (λ e. e.0) (of_another_kind (whole false (added false faulty_list)) (codes "T"))
+        ≡ 1 ∷ [] }
     ensures orphan { map (λ e. e.0) (orphans_by_name (whole false (added false faulty_list))) ≡ 5 ∷ [] }
     ensures kept { filter is_passed_over (further_types (whole false (added true faulty_list))) ≡ [] }
-    ensures passed_over { map (λ p. p.1.0) (filter is_passed_over (further_types (whole false (added false built_in_int ++ added true int_again)))) ≡ 1 ∷ [] }
+    ensures passed_over { map (λ p. p.1.0)
+        (filter is_passed_over
+        (further_types (whole false (added false built_in_int ++ added true int_again)))) ≡ 1 ∷ [] }
 {}
 
 /// Documents that are added one by one add what one document of all their definitions adds.
 pub fn documents_one_by_one()
-    ensures { (ignores : Bool) (documents : Documents) → added_each ignores documents ≡ added_joined ignores documents }
+    ensures { (ignores : Bool) (documents : Documents)
+        → added_each ignores documents ≡ added_joined ignores documents }
 {}
 
 /// Take lists whose definitions are equal one by one, whatever their locations, and whose directive
@@ -191,9 +226,12 @@ pub fn documents_one_by_one()
 /// and equal schema definitions or none, whatever numbers their extensions get. GraphQL specification of
 /// October 2021, sections 3, 3.3 and 3.13.
 pub fn equal_lists_mean_equal_definitions()
-    ensures types { (start other : ℕ) (adopts : Bool) (xs ys : List Added) (n : List ℕ) → AreEqualLists xs ys → type_meant start (whole adopts xs) n ≡ type_meant other (whole adopts ys) n }
-    ensures definition { (start other : ℕ) (adopts : Bool) (xs ys : List Added) → AreEqualLists xs ys → schema_meant start (whole adopts xs) ≡ schema_meant other (whole adopts ys) }
-    ensures directives { (adopts : Bool) (xs ys : List Added) (n : List ℕ) → AreEqualLists xs ys → directive_meant (whole adopts xs) n ≡ directive_meant (whole adopts ys) n }
+    ensures types { (start other : ℕ) (adopts : Bool) (xs ys : List Added) (n : List ℕ) → AreEqualLists xs ys
+        → type_meant start (whole adopts xs) n ≡ type_meant other (whole adopts ys) n }
+    ensures definition { (start other : ℕ) (adopts : Bool) (xs ys : List Added) → AreEqualLists xs ys
+        → schema_meant start (whole adopts xs) ≡ schema_meant other (whole adopts ys) }
+    ensures directives { (adopts : Bool) (xs ys : List Added) (n : List ℕ) → AreEqualLists xs ys
+        → directive_meant (whole adopts xs) n ≡ directive_meant (whole adopts ys) n }
 {
     folded_extensions();
     folded_schema_extensions();

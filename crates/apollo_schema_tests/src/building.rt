@@ -194,7 +194,8 @@ fn push_adding(
     Ok(())
 }
 
-/// Adds what a builder of the documents says, and what it builds, and to another text what a copy of it builds.
+/// Adds what a builder of the documents says, and what it builds, and to another text what a copy of it
+/// builds.
 fn tell(
     alloc: Global,
     text: &mut String,

@@ -1,5 +1,5 @@
-//! Documents whose definitions change places: their schemas are equal and their faults the same, or, where extensions of one
-//! name change places, they are not.
+//! Documents whose definitions change places: their schemas are equal and their faults the same, or, where
+//! extensions of one name change places, they are not.
 
 use crate::building::{ADOPTING, PLAIN, Settings, built_of, is_built_of, schema_in};
 use apollo_schema::build_failure::BuildFailure;
@@ -144,7 +144,8 @@ fn a_type_with_six_faults_is_defined_first(rt: HostRuntime) {
     expect(&rt, &PLAIN, input, &[2, 0, 1, 3, 4, 5], SIX_FAULTS);
 }
 
-/// The faults of a type that an extension comes before, and of an extension of no type; and so for the type's definition first.
+/// The faults of a type that an extension comes before, and of an extension of no type; and so for the type's
+/// definition first.
 const SIX_FAULTS: &str =
     "1:8 object type `T` implements interface `I` more than once; 1:7 1:6 \n1:10 duplicate definitions for the `a` field of object type `T`; 1:9 1:6 \n1:2 object type `T` implements interface `I` more than once; 1:7 1:1 \n1:3 duplicate definitions for the `a` field of object type `T`; 1:9 1:1 \n1:4 adding an enum type extension, but `T` is an object type; 1:6 1:4 \n1:11 the type `T` is defined multiple times in the schema; 1:6 1:11 \n1:13 duplicate definitions for the `a` field of object type `T`; 1:9 1:12 \n1:14 type extension for undefined type `U`; 1:14 \nequal: true\n1:8 object type `T` implements interface `I` more than once; 1:7 1:6 \n1:10 duplicate definitions for the `a` field of object type `T`; 1:9 1:6 \n1:2 object type `T` implements interface `I` more than once; 1:7 1:1 \n1:3 duplicate definitions for the `a` field of object type `T`; 1:9 1:1 \n1:4 adding an enum type extension, but `T` is an object type; 1:6 1:4 \n1:11 the type `T` is defined multiple times in the schema; 1:6 1:11 \n1:13 duplicate definitions for the `a` field of object type `T`; 1:9 1:12 \n1:14 type extension for undefined type `U`; 1:14 \nequal: true\n";
 

@@ -11,7 +11,8 @@ use std::alloc::{AllocError, Global};
 use std::process::Abort;
 use telling::Tell;
 
-/// An interface that an interface implements, which an object implements; and a union with a member that isn't defined.
+/// An interface that an interface implements, which an object implements; and a union with a member that
+/// isn't defined.
 const CHAIN: &str =
     "def interface Foo\nfield me String\ndef interface Bar\nimplements Foo\nfield me String\ndef object Obj\nimplements Bar\nfield me String\ndef union U\nmember Obj\nmember Gone\n";
 
@@ -56,7 +57,8 @@ fn push_map(text: &mut String, map: &Table<Name, Implementers>) -> Result<(), Al
     write!(text, "copied equal: {is_copied}\n")
 }
 
-/// An interface that isn't defined, which an interface and two objects implement, one of them with another such.
+/// An interface that isn't defined, which an interface and two objects implement, one of them with another
+/// such.
 const WIDE: &str =
     "def interface Wide\nimplements I\nfield a Int\ndef object B\nimplements J\nimplements I\nfield a Int\ndef object A\nimplements I\nfield a Int\n";
 

@@ -7,7 +7,8 @@ use bench_notation::reading::read;
 use graphql_ast::document::Document;
 use std::alloc::{AllocError, Global};
 
-/// Adds a document, and answers whether that was done. What the call promises stays here, so that no loop carries it along.
+/// Adds a document, and answers whether that was done. What the call promises stays here, so that no loop
+/// carries it along.
 fn is_added(builder: &mut SchemaBuilder, document: &Document) -> bool {
     builder.add_ast(document).is_ok()
 }

@@ -1,4 +1,5 @@
-//! A query over a schema, both in files that the command line names: what is at fault in them, and which fields each operation reaches.
+//! A query over a schema, both in files that the command line names: what is at fault in them, and which
+//! fields each operation reaches.
 #![tactic(auto)]
 
 use anyhow::{Context, Result};

@@ -1,5 +1,6 @@
-//! What a registry runs on each upload: one schema of several files of GraphQL text, refused where it has faults, and else written
-//! in its canonical form. A service may extend types that no file defines: they are taken as defined.
+//! What a registry runs on each upload: one schema of several files of GraphQL text, refused where it has
+//! faults, and else written in its canonical form. A service may extend types that no file defines: they are
+//! taken as defined.
 #![tactic(auto)]
 
 use anyhow::{Context, Result, ensure};
@@ -32,7 +33,8 @@ fn schema_text(alloc: Global, schema: &Schema) -> Result<String> {
     Ok(definitions_text(alloc, written.as_slice())?)
 }
 
-/// Whether the text of a schema, built again, has no fault, and makes an equal schema with the same text. It is proved that it does.
+/// Whether the text of a schema, built again, has no fault, and makes an equal schema with the same text. It
+/// is proved that it does.
 fn is_canonical(alloc: Global, keys: HashKeys, schema: &Schema, text: &str) -> Result<bool> {
     let (mut sources, options) = (SourceMap::new(alloc), ParseOptions::new());
     let documents = [parse_file(alloc, &mut sources, "schema.graphql", text, options)?];

@@ -1,5 +1,5 @@
-//! Trees made by calls: a schema of two documents, and a query over it, with a variable and a fragment. Both are written as
-//! GraphQL text.
+//! Trees made by calls: a schema of two documents, and a query over it, with a variable and a fragment. Both
+//! are written as GraphQL text.
 #![tactic(auto)]
 
 use anyhow::{Result, ensure};
@@ -12,7 +12,8 @@ use apollo_compiler::text::{definitions, text};
 use apollo_compiler::{ExecutableOptions, Name, Node, Schema, build_executable_document};
 use std::alloc::Global;
 
-/// A name, which is refused where it is no name of GraphQL. Every other call here fails only where memory runs out.
+/// A name, which is refused where it is no name of GraphQL. Every other call here fails only where memory
+/// runs out.
 fn name(alloc: Global, text: &str) -> Result<Name> {
     Ok(Name::new(alloc, text)?)
 }

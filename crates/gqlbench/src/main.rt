@@ -1,4 +1,5 @@
-//! `gqlbench`: the times of work on the schema and the documents that standard input says, written to standard output.
+//! `gqlbench`: the times of work on the schema and the documents that standard input says, written to
+//! standard output.
 #![tactic(auto)]
 
 use gqlbench_run::running::run;

@@ -1,5 +1,5 @@
-//! What work is done with, and what it begins with. What builds promise stands in their contracts; here nothing is
-//! promised, so that no work carries it along.
+//! What work is done with, and what it begins with. What builds promise stands in their contracts; here
+//! nothing is promised, so that no work carries it along.
 
 use crate::command::{Command, Work};
 use crate::failure::Failure;

@@ -1,5 +1,5 @@
-//! The phases of each work. A repetition answers what it counts, and the first one is not timed, so that all others find
-//! the memory of an earlier one.
+//! The phases of each work. A repetition answers what it counts, and the first one is not timed, so that all
+//! others find the memory of an earlier one.
 
 use crate::bench::{Bench, Built, Questions, Ready, Typed};
 use crate::failure::Failure;

@@ -22,7 +22,8 @@ use telling::Tell;
 /// What is asked of executable documents over a schema.
 #[derive(Clone, Copy)]
 pub enum OfDocuments {
-    /// `ExecutableDocumentBuilder::add_ast_document` and `ExecutableDocumentBuilder::build`, over the schema and without one.
+    /// `ExecutableDocumentBuilder::add_ast_document` and `ExecutableDocumentBuilder::build`, over the schema
+    /// and without one.
     Build,
     /// `FieldSet::from_ast` and `FieldSet::to_ast`, of the selections of each operation and fragment.
     FieldSets,
@@ -49,7 +50,8 @@ pub enum OfBuilt {
     Sets(OfSet),
 }
 
-/// Has a builder take these documents. Answers whether memory was refused to it: from then on it answers `Failed`.
+/// Has a builder take these documents. Answers whether memory was refused to it: from then on it answers
+/// `Failed`.
 fn take_all(
     builder: &mut ExecutableDocumentBuilder<'_>,
     documents: &[Document],

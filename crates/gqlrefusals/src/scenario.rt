@@ -214,8 +214,9 @@ impl Scenario {
         }
     }
 
-    /// Makes the scenario's calls, and tells their answers in full. `Memory` comes where a request was refused and all
-    /// stands that is promised then, and `Wrong` where something else comes than what is promised.
+    /// Makes the scenario's calls, and tells their answers in full. `Memory` comes where a request was
+    /// refused and all stands that is promised then, and `Wrong` where something else comes than what is
+    /// promised.
     pub fn tell(self, alloc: Global, text: &mut String) -> Told {
         for input in self.inputs() {
             self.ask(alloc, text, *input)?;

@@ -56,7 +56,8 @@ fn tell_fields(text: &mut String, fields: Result<Vec<&Node<Field>>, AllocError>)
     Ok(text.push_str("\n")?)
 }
 
-/// A walk that ended so gave these fields: they are those of the whole, or, if it ran out of memory, a beginning of them.
+/// A walk that ended so gave these fields: they are those of the whole, or, if it ran out of memory, a
+/// beginning of them.
 fn tell_ended(text: &mut String, end: End, whole: &str, given: &str) -> Told {
     match end {
         End::Over => {
@@ -71,7 +72,8 @@ fn tell_ended(text: &mut String, end: End, whole: &str, given: &str) -> Told {
     }
 }
 
-/// Tells the fields of a walk, beside those of the whole. However it ended, it gives nothing more, now and later.
+/// Tells the fields of a walk, beside those of the whole. However it ended, it gives nothing more, now and
+/// later.
 fn tell_turns(alloc: Global, text: &mut String, whole: &str, walk: &mut FieldWalk<'_>) -> Told {
     let mut given = String::new(alloc);
     let end = push_walk(&mut given, walk)?;

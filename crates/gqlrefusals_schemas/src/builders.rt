@@ -49,7 +49,8 @@ fn failed(builder: SchemaBuilder) -> Stop {
     }
 }
 
-/// Expects what a refusal of memory comes to: from then on the builder answers `Failed`, and has no orphan names.
+/// Expects what a refusal of memory comes to: from then on the builder answers `Failed`, and has no orphan
+/// names.
 fn expect_failed(builder: &mut SchemaBuilder, document: &Document) -> Told {
     let has_names = builder.iter_orphan_extension_types().next().is_some();
     expect(!has_names, "orphan names after a refusal")?;
@@ -77,8 +78,8 @@ fn push_refused(
     Ok(write!(text, "{error}, and failed from then on: {is_failed}\n")?)
 }
 
-/// Has a builder take these documents, and tells its orphan names after each, or why one is refused. Answers whether memory was
-/// refused to the builder, which has failed then.
+/// Has a builder take these documents, and tells its orphan names after each, or why one is refused. Answers
+/// whether memory was refused to the builder, which has failed then.
 fn take_all(
     text: &mut String,
     builder: &mut SchemaBuilder,

@@ -21,8 +21,8 @@ fn new_field(
     }
 }
 
-/// The calls that make selections of a set's type: `SelectionSet::new_field`, and `SelectionSet::new_inline_fragment` with a
-/// condition and without one.
+/// The calls that make selections of a set's type: `SelectionSet::new_field`, and
+/// `SelectionSet::new_inline_fragment` with a condition and without one.
 pub fn made_in_a_set(alloc: Global, text: &mut String, schema: &Schema) -> Told {
     let set = empty_set(alloc)?;
     new_field(alloc, text, &set, schema, "user")?;

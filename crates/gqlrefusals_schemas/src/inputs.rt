@@ -157,7 +157,8 @@ sel 0 field c
     first: 40,
 };
 
-/// Operations and fragments in several documents, with each sort of selection, and names that are there already.
+/// Operations and fragments in several documents, with each sort of selection, and names that are there
+/// already.
 const SELECTED: Input = Input {
     text: "\
 def object Query

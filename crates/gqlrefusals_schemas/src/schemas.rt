@@ -1,4 +1,5 @@
-//! Schemas, types and their definition as syntax, the identities of their extensions, and the map of implementers.
+//! Schemas, types and their definition as syntax, the identities of their extensions, and the map of
+//! implementers.
 
 use crate::builders::schema_of;
 use crate::in_a_set::made_in_a_set;
@@ -41,11 +42,11 @@ pub enum OfType {
     WrittenTogether,
     /// `ExtendedType::extensions`.
     Extended,
-    /// `ScalarType::to_ast`, `ObjectType::to_ast`, `InterfaceType::to_ast`, `UnionType::to_ast`, `EnumType::to_ast` and
-    /// `InputObjectType::to_ast`.
+    /// `ScalarType::to_ast`, `ObjectType::to_ast`, `InterfaceType::to_ast`, `UnionType::to_ast`,
+    /// `EnumType::to_ast` and `InputObjectType::to_ast`.
     KindWritten,
-    /// `ScalarType::extensions`, `ObjectType::extensions`, `InterfaceType::extensions`, `UnionType::extensions`,
-    /// `EnumType::extensions` and `InputObjectType::extensions`.
+    /// `ScalarType::extensions`, `ObjectType::extensions`, `InterfaceType::extensions`,
+    /// `UnionType::extensions`, `EnumType::extensions` and `InputObjectType::extensions`.
     KindExtended,
 }
 
@@ -81,7 +82,8 @@ fn tell_extensions(
     tell_line(text, ids)
 }
 
-/// Asks something of a type. What is to be written behind what others are goes there, and is written at the end.
+/// Asks something of a type. What is to be written behind what others are goes there, and is written at the
+/// end.
 fn ask_type(
     alloc: Global,
     text: &mut String,

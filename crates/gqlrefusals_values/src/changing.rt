@@ -10,7 +10,8 @@ pub trait Change<T> {
     fn make(&self, alloc: Global, value: &mut T) -> Told;
 }
 
-/// What a call leaves as it was: how the value was written before, with room to write it once more without a request for memory.
+/// What a call leaves as it was: how the value was written before, with room to write it once more without a
+/// request for memory.
 #[derive(Drop)]
 struct Before {
     told: String,
@@ -36,8 +37,8 @@ fn tell_changed<T: Tell>(text: &mut String, before: &str, value: &T) -> Result<(
     text.push_str("\n")
 }
 
-/// Changes a value, of which there is a copy: the copy is as it was. When memory runs out so is the value, and it can be changed
-/// then.
+/// Changes a value, of which there is a copy: the copy is as it was. When memory runs out so is the value,
+/// and it can be changed then.
 fn make_change<T: Tell + PartialEq, C: Change<T>>(
     alloc: Global,
     text: &mut String,

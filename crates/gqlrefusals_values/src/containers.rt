@@ -24,7 +24,8 @@ trait Container: Sized {
     /// One without anything in it.
     fn empty(alloc: Global) -> Result<Self, AllocError>;
 
-    /// Adds the thing of this name. Where memory is refused, that is handed back, if the call hands things back.
+    /// Adds the thing of this name. Where memory is refused, that is handed back, if the call hands things
+    /// back.
     fn add(&mut self, alloc: Global, text: &str) -> Told;
 }
 

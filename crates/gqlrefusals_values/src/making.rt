@@ -96,8 +96,8 @@ fn filled_field(alloc: Global) -> Result<Field, AllocError> {
     field.with_selections(selections(alloc)?)
 }
 
-/// `InlineFragment::with_type_condition`, `InlineFragment::with_directive`, `InlineFragment::with_directives`,
-/// `InlineFragment::with_selection`, `InlineFragment::with_selections`.
+/// `InlineFragment::with_type_condition`, `InlineFragment::with_directive`,
+/// `InlineFragment::with_directives`, `InlineFragment::with_selection`, `InlineFragment::with_selections`.
 fn inline(alloc: Global) -> Result<InlineFragment, AllocError> {
     let inline = InlineFragment::with_type_condition(alloc, name(alloc, "User")?)?;
     let inline = inline.with_directive(directive(alloc, "d")?)?;

@@ -5,7 +5,8 @@ use gqltool_run::running::run;
 use program_io::status::Status;
 use std::alloc::{AllocError, Global};
 
-/// Adds what came in the place of what is expected, where it is another: a comment that names it, and its lines behind a mark.
+/// Adds what came in the place of what is expected, where it is another: a comment that names it, and its
+/// lines behind a mark.
 fn push_difference(
     report: &mut String,
     name: &str,
@@ -22,8 +23,8 @@ fn push_difference(
     Ok(())
 }
 
-/// Runs the program in memory as a row says, and answers what differs from what the row expects. Memory that runs out in the run is a
-/// status too. What the run built is left to the end of the process.
+/// Runs the program in memory as a row says, and answers what differs from what the row expects. Memory that
+/// runs out in the run is a status too. What the run built is left to the end of the process.
 fn differences_of(alloc: Global, row: &Row<'_>) -> Result<String, AllocError> {
     let mut input = row.input.as_bytes();
     let (mut output, mut errors) = (Vec::new(alloc), Vec::new(alloc));
@@ -48,8 +49,8 @@ fn differences_of(alloc: Global, row: &Row<'_>) -> Result<String, AllocError> {
     Ok(report)
 }
 
-/// Runs rows, in order, and reports on them: for each that differs its title and what came, and then how many rows there are and
-/// how many differ. The status is `Done` where none differs, and `Faults` where one does.
+/// Runs rows, in order, and reports on them: for each that differs its title and what came, and then how many
+/// rows there are and how many differ. The status is `Done` where none differs, and `Faults` where one does.
 pub fn report_on(alloc: Global, rows: &[Row<'_>]) -> Result<(String, Status), AllocError> {
     let mut report = String::new(alloc);
     let mut differing: usize = 0;

@@ -4,7 +4,8 @@ use crate::stop::Stop;
 use bench_notation::words::lines_of;
 use std::alloc::{AllocError, Global};
 
-/// A row: the words and the input of a run, and what is to come of it: its status, its output, what stands on standard error.
+/// A row: the words and the input of a run, and what is to come of it: its status, its output, what stands on
+/// standard error.
 #[derive(Drop)]
 pub struct Row<'a> {
     pub title: &'a str,
@@ -36,7 +37,8 @@ fn parts(line: &str) -> (&str, &str) {
     }
 }
 
-/// Why a line says nothing, below a title or not, where the line before it has this mark; none where it says something.
+/// Why a line says nothing, below a title or not, where the line before it has this mark; none where it says
+/// something.
 fn reason_for(has_title: bool, before: &str, line: &str) -> Option<&'static str> {
     let (mark, text) = parts(line);
     let is_known = matches!(mark, "#" | "*" | "$" | "<" | ">" | "!" | "?") || line == "\\";
@@ -71,7 +73,8 @@ fn add_line<'a>(row: &mut Row<'a>, mark: &str, text: &'a str) -> Result<(), Allo
 
 /// Adds the rows of a text to those before it. What is said of the text begins with `place`.
 ///
-/// `Refused` is answered of the first line that says nothing where it stands, or has the title of an earlier row.
+/// `Refused` is answered of the first line that says nothing where it stands, or has the title of an earlier
+/// row.
 pub fn read_rows<'a>(
     alloc: Global,
     place: &str,

@@ -17,11 +17,13 @@ struct Source {
     text: String,
 }
 
-/// Runs the rows of these files, or of a reader where there is none, and writes which differ from what they expect, and how many.
+/// Runs the rows of these files, or of a reader where there is none, and writes which differ from what they
+/// expect, and how many.
 ///
-/// `Done` is the answer where none differs, `Faults` where one does. `Refused` is the answer where a file can't be read or one of its
-/// lines is refused, and `Exhausted` where memory is wanting: then nothing was written on `output`. `NotWritten` is the answer where
-/// the report can't be written. What is wrong is said on `errors`, in one line; that it can't be said there changes nothing.
+/// `Done` is the answer where none differs, `Faults` where one does. `Refused` is the answer where a file
+/// can't be read or one of its lines is refused, and `Exhausted` where memory is wanting: then nothing was
+/// written on `output`. `NotWritten` is the answer where the report can't be written. What is wrong is said
+/// on `errors`, in one line; that it can't be said there changes nothing.
 pub fn run_rows<F: Files + AllocGlobal, R: Read + Drop, O: Write, E: Write>(
     rt: &F,
     files: &[String],

@@ -8,7 +8,8 @@ use program_io::status::Status;
 use std::io;
 use std::process::ExitCode;
 
-/// Keys of the system's randomness, so that nobody can make names that collide, or fixed ones where it gives none.
+/// Keys of the system's randomness, so that nobody can make names that collide, or fixed ones where it gives
+/// none.
 fn drawn_keys(rt: &HostRuntime) -> HashKeys {
     HashKeys::drawn(rt).unwrap_or(HashKeys::FIXED)
 }

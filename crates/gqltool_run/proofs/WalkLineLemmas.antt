@@ -1,4 +1,5 @@
--- The lines of `walk`, put together: those of walks, and then those of the faults of a schema and of a document.
+-- The lines of `walk`, put together: those of walks, and then those of the faults of a schema and of a
+-- document.
 use Rattle.std.proofs.Common.{◌≡◌, ℕ, List, ◌++◌, Option, refl, ap, ◌∙◌, append_assoc}
 use Rattle.apollo_document.specs.Typable.{Fault as DocumentFault}
 use Rattle.apollo_executable.specs.declared.document.ExecutableDocument.{ExecutableDocument}

@@ -16,7 +16,8 @@ use Rattle.bench_notation.specs.Line.{lines_of}
 use Rattle.bench_notation.specs.Documents.{AreDocumentsOf, IsFirstRefused}
 
 -- the schema that the input means with these options, and its faults
-pub record IsBuilt (options : CompileOptions) (input : List ℕ) (schema : Schema) (faults : List Fault) : Type 0 where
+pub record IsBuilt (options : CompileOptions) (input : List ℕ) (schema : Schema) (faults : List Fault) :
+    Type 0 where
   -- the documents that the input says
   pub documents : List Document
   pub says : AreDocumentsOf input documents
@@ -29,12 +30,15 @@ pub record IsBuilt (options : CompileOptions) (input : List ℕ) (schema : Schem
 
 -- what the documents of the input are compiled to with these options, without executable documents
 abbrev pub IsCompiledInput : CompileOptions → List ℕ → Compiled → Type 0
-IsCompiledInput options input compiled = (documents : List Document) × (AreDocumentsOf input documents × IsCompiled options documents [] true compiled)
+IsCompiledInput options input compiled = (documents : List Document)
+    × (AreDocumentsOf input documents × IsCompiled options documents [] true compiled)
 
 -- why nothing is built of an input with these options: a line says nothing where it stands, or the
 -- extensions spend the numbers; that memory ran out says nothing of the input
 abbrev pub IsCause : CompileOptions → List ℕ → Failure → Type 0
 IsCause options input (failures.RefusedLine refused) = IsFirstRefused (lines_of input) refused
 IsCause options input failures.Memory = Unit {0}
-IsCause options input failures.ExtensionIds = (documents : List Document) × (AreDocumentsOf input documents × SpendsIds 0 options.adopt_orphan_extensions (schema_list options documents))
+IsCause options input failures.ExtensionIds = (documents : List Document)
+    × (AreDocumentsOf input documents
+    × SpendsIds 0 options.adopt_orphan_extensions (schema_list options documents))
 IsCause options input _ = ⊥

@@ -31,8 +31,10 @@ IsAnswerOf tasks.Leaf input text has_faults = IsLeafAnswer input text has_faults
 -- of `coord` the lines of the coordinate and of something found; of `walk` the walks over a document; of
 -- `leaf` nothing
 abbrev pub IsPrintOf : Task → List ℕ → Type 0
-IsPrintOf (tasks.Schema options) text = (definitions : List Definition) × (text ≡ printed_definitions definitions)
-IsPrintOf (tasks.Coord coordinate) text = (found : SchemaCoordinateLookup) × (text ≡ coordinate_line coordinate ++ found_line found)
+IsPrintOf (tasks.Schema options) text = (definitions : List Definition)
+    × (text ≡ printed_definitions definitions)
+IsPrintOf (tasks.Coord coordinate) text = (found : SchemaCoordinateLookup)
+    × (text ≡ coordinate_line coordinate ++ found_line found)
 IsPrintOf tasks.Doc text = (definitions : List Definition) × (text ≡ printed_definitions definitions)
 IsPrintOf tasks.Walk text = (document : ExecutableDocument) × AreWalksText document text
 IsPrintOf tasks.Leaf text = text ≡ []
@@ -47,7 +49,8 @@ IsCauseOf tasks.Leaf input failure = IsDocumentCause input failure
 
 -- this input is made of lines of the notation, and the text is the answer to these words and it
 abbrev pub IsAnswerTo : List (List ℕ) → List ℕ → List ℕ → Bool → Type 0
-IsAnswerTo words input text has_faults = All IsLine (lines_of input) × ((task : Task) × (Ask words task × IsAnswerOf task input text has_faults))
+IsAnswerTo words input text has_faults = All IsLine (lines_of input)
+    × ((task : Task) × (Ask words task × IsAnswerOf task input text has_faults))
 
 -- the text is such as these words answer where nothing is at fault
 abbrev pub IsPrintTo : List (List ℕ) → List ℕ → Type 0
@@ -55,11 +58,13 @@ IsPrintTo words text = (task : Task) × (Ask words task × IsPrintOf task text)
 
 -- the text is a beginning of the answer to these words and this input
 abbrev pub IsBeginning : List (List ℕ) → List ℕ → List ℕ → Type 0
-IsBeginning words input text = (rest : List ℕ) × ((has_faults : Bool) × IsAnswerTo words input (text ++ rest) has_faults)
+IsBeginning words input text = (rest : List ℕ)
+    × ((has_faults : Bool) × IsAnswerTo words input (text ++ rest) has_faults)
 
 -- the answer to these words and this input is appended
 abbrev pub AppendAnswer : List (List ℕ) → Bool → Option (List ℕ) → Option (List ℕ) → List ℕ → Type 0
-AppendAnswer words has_faults old new input = (text : List ℕ) × (IsAnswerTo words input text has_faults × Appends old new text)
+AppendAnswer words has_faults old new input = (text : List ℕ)
+    × (IsAnswerTo words input text has_faults × Appends old new text)
 
 -- a beginning of the answer to these words and this input is appended
 abbrev pub AppendBeginning : List (List ℕ) → Option (List ℕ) → Option (List ℕ) → List ℕ → Type 0

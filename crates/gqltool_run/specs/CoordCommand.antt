@@ -42,14 +42,18 @@ found_line found = codes "found " ++ (found_word found ++ codes "\n")
 abbrev pub missing_line : List ℕ → List ℕ
 missing_line said = codes "missing " ++ (said ++ codes "\n")
 
--- the line of what the coordinate points to in the schema, if it does; or else, in some words, of why it points to nothing
+-- the line of what the coordinate points to in the schema, if it does; or else, in some words, of why it
+-- points to nothing
 abbrev pub IsFindingLine : Schema → SchemaCoordinate → Bool → List ℕ → Type 0
-IsFindingLine schema c true line = (found : SchemaCoordinateLookup) × (PointsTo schema c found × (line ≡ found_line found))
-IsFindingLine schema c false line = (error : SchemaLookupError) × (PointsToNothing schema c error × ((said : List ℕ) × (line ≡ missing_line said)))
+IsFindingLine schema c true line = (found : SchemaCoordinateLookup)
+    × (PointsTo schema c found × (line ≡ found_line found))
+IsFindingLine schema c false line = (error : SchemaLookupError)
+    × (PointsToNothing schema c error × ((said : List ℕ) × (line ≡ missing_line said)))
 
 -- the text is the line of the coordinate and that of what it points to in the schema that the input means;
 -- then come those of the schema's faults; something is at fault unless it was found and there is no fault
-pub record IsCoordAnswer (coordinate : SchemaCoordinate) (input text : List ℕ) (has_faults : Bool) : Type 0 where
+pub record IsCoordAnswer (coordinate : SchemaCoordinate) (input text : List ℕ) (has_faults : Bool) :
+    Type 0 where
   pub schema : Schema
   pub faults : List Fault
   pub means : IsBuilt no_options input schema faults

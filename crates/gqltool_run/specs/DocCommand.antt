@@ -10,7 +10,8 @@ use Rattle.bench_notation.specs.Text.{printed_definitions}
 use Rattle.gqltool_run.specs.DocumentBuilding.{IsBuiltDocument}
 use Rattle.gqltool_run.specs.FaultLines.{AreFaultLines}
 
--- the text is the print of the write-out of the typed document that the input means, and then of its schema's faults and its own
+-- the text is the print of the write-out of the typed document that the input means, and then of its schema's
+-- faults and its own
 pub record IsDocAnswer (input text : List ℕ) (has_faults : Bool) : Type 0 where
   pub schema : Schema
   pub document : ExecutableDocument

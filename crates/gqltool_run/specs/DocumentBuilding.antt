@@ -22,7 +22,8 @@ use Rattle.gqltool_run.specs.declared.failure.Failure.TheVariants as failures
 
 -- the schema that the input means, which has no options; its typed document over that; the faults of the
 -- schema; and those of the document, in which definitions of the type system are at fault
-pub record IsBuiltDocument (input : List ℕ) (schema : Schema) (document : ExecutableDocument) (schema_faults : List Fault) (faults : List DocumentFault) : Type 0 where
+pub record IsBuiltDocument (input : List ℕ) (schema : Schema) (document : ExecutableDocument)
+    (schema_faults : List Fault) (faults : List DocumentFault) : Type 0 where
   -- the documents before the line that divides the input
   pub schema_documents : List Document
   -- the documents behind that line
@@ -39,13 +40,18 @@ pub record IsBuiltDocument (input : List ℕ) (schema : Schema) (document : Exec
 
 -- what the documents before the division of the input and those behind it are compiled to, without options
 abbrev pub IsCompiledDivided : List ℕ → Compiled → Type 0
-IsCompiledDivided input compiled = (before : List Document) × ((behind : List Document) × (AreDividedDocumentsOf input before behind × IsCompiled no_options before behind true compiled))
+IsCompiledDivided input compiled = (before : List Document)
+    × ((behind : List Document)
+    × (AreDividedDocumentsOf input before behind × IsCompiled no_options before behind true compiled))
 
 -- why no document is built of an input: a line says nothing where it stands, none divides it, or the
 -- schema's extensions spend the numbers; that memory ran out says nothing of the input
 abbrev pub IsDocumentCause : List ℕ → Failure → Type 0
-IsDocumentCause input (failures.RefusedLine refused) = IsDividedReadError (lines_of input) (reading.Refused refused)
+IsDocumentCause input (failures.RefusedLine refused) =
+    IsDividedReadError (lines_of input) (reading.Refused refused)
 IsDocumentCause input failures.NoDivision = IsDividedReadError (lines_of input) reading.NoDivision
 IsDocumentCause input failures.Memory = Unit {0}
-IsDocumentCause input failures.ExtensionIds = (schema : List Document) × ((executable : List Document) × (AreDividedDocumentsOf input schema executable × SpendsIds 0 false (schema_list no_options schema)))
+IsDocumentCause input failures.ExtensionIds = (schema : List Document)
+    × ((executable : List Document)
+    × (AreDividedDocumentsOf input schema executable × SpendsIds 0 false (schema_list no_options schema)))
 IsDocumentCause input _ = ⊥

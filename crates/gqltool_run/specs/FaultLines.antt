@@ -14,4 +14,5 @@ fault_line location said = codes "fault " ++ location_line location ++ codes " "
 -- the lines of faults, in order, each at its location, with something said of it
 abbrev pub AreFaultLines : {E : Type 0} → List (Option SourceSpan × E) → List ℕ → Type 0
 AreFaultLines [] lines = lines ≡ []
-AreFaultLines (fault ∷ faults) lines = (said : List ℕ) × ((rest : List ℕ) × ((lines ≡ fault_line fault.0 said ++ rest) × AreFaultLines faults rest))
+AreFaultLines (fault ∷ faults) lines = (said : List ℕ)
+    × ((rest : List ℕ) × ((lines ≡ fault_line fault.0 said ++ rest) × AreFaultLines faults rest))

@@ -20,7 +20,8 @@ leaf_kind_word MissingSubselection = codes "missing-subselection"
 
 -- the line of a field that is at fault: where it stands, its response key, and in which way
 abbrev pub leaf_line : LeafFault → List ℕ
-leaf_line fault = codes "leaf " ++ location_line fault.location ++ codes " " ++ fault.response_key.text ++ codes " " ++ leaf_kind_word fault.kind ++ codes "\n"
+leaf_line fault = codes "leaf " ++ location_line fault.location ++ codes " " ++ fault.response_key.text
+    ++ codes " " ++ leaf_kind_word fault.kind ++ codes "\n"
 
 -- the text has a line for each leaf fault of the typed document that the input means, over its schema; then
 -- come those of the schema's faults and the document's own; something is at fault unless there is no line
@@ -37,4 +38,6 @@ pub record IsLeafAnswer (input text : List ℕ) (has_faults : Bool) : Type 0 whe
   pub prints : text ≡ flat_map leaf_line (leaf_faults schema document) ++ (schema_lines ++ lines)
   pub schema_tells : AreFaultLines schema_faults schema_lines
   pub tells : AreFaultLines faults lines
-  pub any : has_faults ≡ not ((length (leaf_faults schema document) == 0) && ((length schema_faults == 0) && (length faults == 0)))
+  pub any : has_faults
+      ≡ not ((length (leaf_faults schema document) == 0)
+      && ((length schema_faults == 0) && (length faults == 0)))

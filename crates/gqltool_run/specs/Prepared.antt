@@ -14,7 +14,8 @@ use Rattle.gqltool_run.specs.WalkCommand.{AreLines, any_fault}
 
 -- the text is what `walk` says of this, with faults or without
 abbrev pub AreLinesOf : Compiled → List ℕ → Type 0
-AreLinesOf compiled text = AreLines compiled.document compiled.schema_faults.items compiled.document_faults.items text
+AreLinesOf compiled text =
+    AreLines compiled.document compiled.schema_faults.items compiled.document_faults.items text
 
 -- whether the schema or the document has a fault
 abbrev pub has_fault : Compiled → Bool
@@ -22,10 +23,14 @@ has_fault compiled = any_fault compiled.schema_faults.items compiled.document_fa
 
 -- this is ready for what was asked and an input: the answer, or what `walk` says its answer of
 abbrev pub IsReadyOf : Task → List ℕ → Prepared → Type 0
-IsReadyOf task input (prepared.Answer answer) = IsAnswerOf task input (string_bytes answer.text) answer.has_faults
+IsReadyOf task input (prepared.Answer answer) =
+    IsAnswerOf task input (string_bytes answer.text) answer.has_faults
 IsReadyOf task input (prepared.Walks compiled) = (task ≡ tasks.Walk) × IsCompiledDivided input compiled
 
 -- this is ready for these words and an input, where `held` says which bytes that may hold
 abbrev pub IsReadyTo : List (List ℕ) → (List ℕ → Type 0) → Prepared → Type 0
-IsReadyTo words held (prepared.Answer answer) = HoldsSome held (λ input. IsAnswerTo words input (string_bytes answer.text) answer.has_faults) × (answer.has_faults ≡ false → IsPrintTo words (string_bytes answer.text))
-IsReadyTo words held (prepared.Walks compiled) = AreWalkWords words × HoldsSome held (λ input. All IsLine (lines_of input) × IsCompiledDivided input compiled)
+IsReadyTo words held (prepared.Answer answer) =
+    HoldsSome held (λ input. IsAnswerTo words input (string_bytes answer.text) answer.has_faults)
+    × (answer.has_faults ≡ false → IsPrintTo words (string_bytes answer.text))
+IsReadyTo words held (prepared.Walks compiled) = AreWalkWords words
+    × HoldsSome held (λ input. All IsLine (lines_of input) × IsCompiledDivided input compiled)

@@ -34,7 +34,8 @@ pub record AreNoDocumentWords (words : List (List ℕ)) : Type 0 where
 -- these words ask for this
 abbrev pub Ask : List (List ℕ) → Task → Type 0
 Ask words (tasks.Schema options) = AreSchemaWords words options
-Ask words (tasks.Coord coordinate) = (text : List ℕ) × (AreCoordWords words text × SaysCoordinate text coordinate)
+Ask words (tasks.Coord coordinate) = (text : List ℕ)
+    × (AreCoordWords words text × SaysCoordinate text coordinate)
 Ask words tasks.Doc = AreDocWords words
 Ask words tasks.Walk = AreWalkWords words
 Ask words tasks.Leaf = AreLeafWords words
@@ -52,10 +53,12 @@ AskNoCoordinate words = (text : List ℕ) × (AreCoordWords words text × ¬ IsC
 -- why a text is not read: it is of no coordinate, and is reported without the `@` that it may begin with; or
 -- memory ran out
 abbrev pub IsTextRefusal : List ℕ → Failure → Type 0
-IsTextRefusal text (failures.NoCoordinate error) = ¬ IsCoordinateText text × (error ≡ record { name = without_at text; location = None })
+IsTextRefusal text (failures.NoCoordinate error) = ¬ IsCoordinateText text
+    × (error ≡ record { name = without_at text; location = None })
 IsTextRefusal text failures.Memory = Unit {0}
 IsTextRefusal text _ = ⊥
 
 -- why words are refused: they are no command, or the text of `coord` is refused
 abbrev pub IsRefusalOf : List (List ℕ) → Failure → Type 0
-IsRefusalOf words failure = (AreNoCommand words × (failure ≡ failures.Usage)) ⊎ ((text : List ℕ) × (AreCoordWords words text × IsTextRefusal text failure))
+IsRefusalOf words failure = (AreNoCommand words × (failure ≡ failures.Usage))
+    ⊎ ((text : List ℕ) × (AreCoordWords words text × IsTextRefusal text failure))

@@ -1,6 +1,7 @@
 -- What the command `walk` answers: docs/NOTATION.md, and GraphQL specification of October 2021, sections 2.2
 -- to 2.8.
-use Rattle.std.specs.Prelude.{◌≡◌, ◌&&◌, ◌==◌, ◌++◌, ◌-◌, ◌^◌, ℕ, Bool, true, false, not, List, [], ◌∷◌, length, map, min, codes, decimal}
+use Rattle.std.specs.Prelude.{◌≡◌, ◌&&◌, ◌==◌, ◌++◌, ◌-◌, ◌^◌, ℕ, Bool, true, false, not, List, [], ◌∷◌}
+use Rattle.std.specs.Prelude.{length, map, min, codes, decimal}
 use Rattle.std.specs.List.{flat_map}
 use Rattle.graphql_nodes.specs.NameView.{NameView}
 use Rattle.graphql_nodes.specs.NodeView.{NodeView}
@@ -22,7 +23,9 @@ use Rattle.gqltool_run.specs.FaultLines.{AreFaultLines}
 
 -- the line of an operation
 abbrev pub operation_line : Operation → List ℕ
-operation_line operation = codes "walk operation " ++ (operation_text operation.operation_type ++ (codes " " ++ (name_word operation.name ++ codes "\n")))
+operation_line operation =
+    codes "walk operation "
+    ++ (operation_text operation.operation_type ++ (codes " " ++ (name_word operation.name ++ codes "\n")))
 
 -- the line of what stands under this name among the fragments
 abbrev pub fragment_line : NameView → List ℕ
@@ -37,7 +40,8 @@ abbrev pub turns_line : List ℕ → ℕ → List ℕ
 turns_line word turns = word ++ (decimal turns ++ codes "\n")
 
 -- the fields of a whole walk over a set, and then its turns, or the greatest number where they are more
-pub record IsWalkText (deep : Bool) (word turns_word : List ℕ) (document : ExecutableDocument) (set : SelectionSet) (text : List ℕ) : Type 0 where
+pub record IsWalkText (deep : Bool) (word turns_word : List ℕ) (document : ExecutableDocument)
+    (set : SelectionSet) (text : List ℕ) : Type 0 where
   pub fields : List (NodeView Field)
   pub walked : AreWalked deep document set fields
   -- how many turns the walk takes
@@ -58,7 +62,9 @@ pub record IsSetText (document : ExecutableDocument) (set : SelectionSet) (text 
 -- these sets, in order, each below its line
 abbrev pub AreSetsText : ExecutableDocument → List (List ℕ × SelectionSet) → List ℕ → Type 0
 AreSetsText document [] text = text ≡ []
-AreSetsText document (set ∷ sets) text = (said : List ℕ) × (IsSetText document set.1 said × ((rest : List ℕ) × (AreSetsText document sets rest × (text ≡ set.0 ++ (said ++ rest)))))
+AreSetsText document (set ∷ sets) text = (said : List ℕ)
+    × (IsSetText document set.1 said
+    × ((rest : List ℕ) × (AreSetsText document sets rest × (text ≡ set.0 ++ (said ++ rest)))))
 
 -- an operation's selections, and its line
 abbrev pub operation_with_line : NodeView Operation → List ℕ × SelectionSet
@@ -71,11 +77,15 @@ fragment_with_line entry = (fragment_line entry.0, entry.1.value.selection_set)
 -- the operations, the anonymous one first, and then the fragments
 abbrev pub AreWalksText : ExecutableDocument → List ℕ → Type 0
 AreWalksText document text =
-    (operations : List ℕ) × (AreSetsText document (map operation_with_line (all_operations document.operations)) operations
-    × ((fragments : List ℕ) × (AreSetsText document (map fragment_with_line document.fragments) fragments × (text ≡ operations ++ fragments))))
+    (operations : List ℕ)
+    × (AreSetsText document (map operation_with_line (all_operations document.operations)) operations
+    × ((fragments : List ℕ)
+    × (AreSetsText document (map fragment_with_line document.fragments) fragments
+    × (text ≡ operations ++ fragments))))
 
 -- the text is that of the walks over a document, and then of the faults of its schema and its own
-pub record AreLines (document : ExecutableDocument) (schema_faults : List Fault) (faults : List DocumentFault) (text : List ℕ) : Type 0 where
+pub record AreLines (document : ExecutableDocument) (schema_faults : List Fault) (faults : List DocumentFault)
+    (text : List ℕ) : Type 0 where
   -- the text of the walks
   pub walks : List ℕ
   pub walk : AreWalksText document walks
@@ -91,7 +101,8 @@ pub record AreLines (document : ExecutableDocument) (schema_faults : List Fault)
 abbrev pub any_fault : List Fault → List DocumentFault → Bool
 any_fault schema_faults faults = not ((length schema_faults == 0) && (length faults == 0))
 
--- the text is that of the walks over the typed document that the input means, and then of its schema's faults and its own
+-- the text is that of the walks over the typed document that the input means, and then of its schema's faults
+-- and its own
 pub record IsWalkAnswer (input text : List ℕ) (has_faults : Bool) : Type 0 where
   pub schema : Schema
   pub document : ExecutableDocument

@@ -25,23 +25,31 @@ use std::alloc::Global;
 
 /// The answer to these words and all that there is to read.
 ///
-/// `Usage` and `NoCoordinate` come for words that [`read_task`] refuses, and nothing is read then. `CannotRead` comes where
-/// the input can't be read as a text: of [`BytesAtHand`](program_io::input::BytesAtHand) only where it isn't UTF-8. `RefusedLine`
-/// tells the first line of it that says nothing where it stands, and `NoDivision` that none divides it, for `doc`, `walk` and
-/// `leaf`. `ExtensionIds` comes only where the numbers don't suffice for the extensions of the input; `Memory` is out of
-/// memory, and says nothing of the words or the input. There is no other error. What was built is left to the end of the process.
+/// `Usage` and `NoCoordinate` come for words that [`read_task`] refuses, and nothing is read then.
+/// `CannotRead` comes where the input can't be read as a text: of
+/// [`BytesAtHand`](program_io::input::BytesAtHand) only where it isn't UTF-8. `RefusedLine` tells the first
+/// line of it that says nothing where it stands, and `NoDivision` that none divides it, for `doc`, `walk` and
+/// `leaf`. `ExtensionIds` comes only where the numbers don't suffice for the extensions of the input;
+/// `Memory` is out of memory, and says nothing of the words or the input. There is no other error. What was
+/// built is left to the end of the process.
 pub fn answer_to<R: Input>(
     alloc: Global,
     keys: HashKeys,
     words: &[&str],
     reader: &mut R,
 ) -> Result<Answer, Failure>
-    ensures means { IfOk result (λ answer. HoldsSome (R.holds reader.old) (λ input. IsAnswerTo (texts_of words.now) input (string_bytes answer.text) answer.has_faults)) }
-    ensures prints { IfOk result (λ answer. answer.has_faults ≡ false → IsPrintTo (texts_of words.now) (string_bytes answer.text)) }
-    ensures causes { IfErr result (IsCauseTo (texts_of words.now) (R.holds reader.old) (R.may_fail reader.old)) }
+    ensures means { IfOk result (λ answer.
+        HoldsSome (R.holds reader.old) (λ input.
+        IsAnswerTo (texts_of words.now) input (string_bytes answer.text) answer.has_faults)) }
+    ensures prints { IfOk result (λ answer. answer.has_faults ≡ false
+        → IsPrintTo (texts_of words.now) (string_bytes answer.text)) }
+    ensures causes { IfErr result
+        (IsCauseTo (texts_of words.now) (R.holds reader.old) (R.may_fail reader.old)) }
 
-    // Words that are no command are refused before anything is read, and so is a text of no coordinate, unless memory ran out.
-    ensures usage { AreNoCommand (texts_of words.now) → (result ≡ Err Failure.Usage) × (reader.new ≡ reader.old) }
+    // Words that are no command are refused before anything is read, and so is a text of no coordinate,
+    // unless memory ran out.
+    ensures usage { AreNoCommand (texts_of words.now) → (result ≡ Err Failure.Usage)
+        × (reader.new ≡ reader.old) }
     ensures no_coordinate { AskNoCoordinate (texts_of words.now) → IsErr result × (reader.new ≡ reader.old) }
 {
     match prepare(alloc, keys, words, reader) {
@@ -51,7 +59,8 @@ pub fn answer_to<R: Input>(
     }
 }
 
-/// What is ready to be said to these words and all that there is to read: after it nothing is refused any more.
+/// What is ready to be said to these words and all that there is to read: after it nothing is refused any
+/// more.
 ///
 /// The errors are those of [`answer_to`].
 pub(crate) fn prepare<R: Input>(
@@ -61,8 +70,10 @@ pub(crate) fn prepare<R: Input>(
     reader: &mut R,
 ) -> Result<Prepared, Failure>
     ensures ready { IfOk result (IsReadyTo (texts_of words.now) (R.holds reader.old)) }
-    ensures causes { IfErr result (IsCauseTo (texts_of words.now) (R.holds reader.old) (R.may_fail reader.old)) }
-    ensures usage { AreNoCommand (texts_of words.now) → (result ≡ Err Failure.Usage) × (reader.new ≡ reader.old) }
+    ensures causes { IfErr result
+        (IsCauseTo (texts_of words.now) (R.holds reader.old) (R.may_fail reader.old)) }
+    ensures usage { AreNoCommand (texts_of words.now) → (result ≡ Err Failure.Usage)
+        × (reader.new ≡ reader.old) }
     ensures no_coordinate { AskNoCoordinate (texts_of words.now) → IsErr result × (reader.new ≡ reader.old) }
 {
     coordinates();
@@ -73,8 +84,8 @@ pub(crate) fn prepare<R: Input>(
 
 /// What is ready to be said to what was asked and an input.
 ///
-/// The errors are those of [`build_input`](crate::building::build_input), and of `doc`, `walk` and `leaf` those of
-/// [`compile_documents`].
+/// The errors are those of [`build_input`](crate::building::build_input), and of `doc`, `walk` and `leaf`
+/// those of [`compile_documents`].
 fn prepare_task(
     alloc: Global,
     keys: HashKeys,

@@ -1,4 +1,5 @@
-//! What the commands build: the schema of the documents of an input, and its faults; and what they are compiled to.
+//! What the commands build: the schema of the documents of an input, and its faults; and what they are
+//! compiled to.
 ghost use Rattle.std.specs.Prelude.{All, IfOk, IfErr, OnOk};
 ghost use Rattle.bench_notation.specs.Line.{IsLine, lines_of};
 ghost use Rattle.gqltool_run.specs.Building.{IsBuilt, IsCause, IsCompiledInput};
@@ -15,12 +16,12 @@ use bench_notation::reading::read;
 use graphql_nodes::collections::hash_keys::HashKeys;
 use std::alloc::Global;
 
-/// The schema of what an input says with these options, and its faults, of which there may be none. All tables hash by these
-/// keys.
+/// The schema of what an input says with these options, and its faults, of which there may be none. All
+/// tables hash by these keys.
 ///
-/// `RefusedLine` tells the first line that says nothing where it stands; `ExtensionIds` comes only where the numbers don't
-/// suffice for the extensions of the input; `Memory` is out of memory. There is no other error. Without an error the documents
-/// that were read are left to the end of the process.
+/// `RefusedLine` tells the first line that says nothing where it stands; `ExtensionIds` comes only where the
+/// numbers don't suffice for the extensions of the input; `Memory` is out of memory. There is no other error.
+/// Without an error the documents that were read are left to the end of the process.
 pub fn build_input(
     alloc: Global,
     keys: HashKeys,
@@ -37,8 +38,8 @@ pub fn build_input(
     Ok(built)
 }
 
-/// What the documents of an input are compiled to with these options, without executable documents. All tables hash by these
-/// keys.
+/// What the documents of an input are compiled to with these options, without executable documents. All
+/// tables hash by these keys.
 ///
 /// The errors are those of [`build_input`], and the documents are left as there.
 pub fn compile_input(

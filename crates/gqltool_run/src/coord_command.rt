@@ -3,7 +3,8 @@ ghost use Rattle.std.specs.Prelude.{◌≡◌, ℕ, ◌++◌, All, List, IfOk, I
 ghost use Rattle.bench_notation.specs.Line.{IsLine, lines_of};
 ghost use Rattle.apollo_compiler.specs.Lists.{no_options};
 ghost use Rattle.gqltool_run.specs.Building.{IsCause};
-ghost use Rattle.gqltool_run.specs.CoordCommand.{IsCoordAnswer, IsFindingLine, coordinate_line, form_word, found_word};
+ghost use Rattle.gqltool_run.specs.CoordCommand.{IsCoordAnswer, IsFindingLine, coordinate_line, form_word};
+ghost use Rattle.gqltool_run.specs.CoordCommand.{found_word};
 
 use crate::answer::Answer;
 use crate::building::build_input;
@@ -22,7 +23,8 @@ use std::alloc::{AllocError, Global};
 /// schema of the input's documents. Then comes a line for each fault. The coordinate is looked up where there
 /// are faults too.
 ///
-/// The errors are those of [`build_input`]. What was built is left to the end of the process, but after an error.
+/// The errors are those of [`build_input`]. What was built is left to the end of the process, but after an
+/// error.
 pub fn coord_answer(
     alloc: Global,
     keys: HashKeys,
@@ -30,7 +32,8 @@ pub fn coord_answer(
     input: &str,
 ) -> Result<Answer, Failure>
     ensures read { OnOk result (All IsLine (lines_of input.now)) }
-    ensures means { IfOk result (λ answer. IsCoordAnswer coordinate.now input.now (string_bytes answer.text) answer.has_faults) }
+    ensures means { IfOk result (λ answer.
+        IsCoordAnswer coordinate.now input.now (string_bytes answer.text) answer.has_faults) }
     ensures causes { IfErr result (IsCause no_options input.now) }
 {
     let (schema, faults) = build_input(alloc, keys, CompileOptions::none(), input)?;
@@ -93,7 +96,9 @@ fn push_finding(
     coordinate: &SchemaCoordinate,
     schema: &Schema,
 ) -> Result<bool, AllocError>
-    ensures { IfOk result (λ is_found. (line : List ℕ) × ((string_bytes text.new ≡ string_bytes text.old ++ line) × IsFindingLine schema.now coordinate.now is_found line)) }
+    ensures { IfOk result (λ is_found. (line : List ℕ)
+        × ((string_bytes text.new ≡ string_bytes text.old ++ line)
+        × IsFindingLine schema.now coordinate.now is_found line)) }
 {
     match coordinate.lookup(schema) {
         Ok(found) => {

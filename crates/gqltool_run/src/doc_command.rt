@@ -13,13 +13,15 @@ use bench_notation::printing::print;
 use graphql_nodes::collections::hash_keys::HashKeys;
 use std::alloc::Global;
 
-/// The answer of `doc` to an input: the print of the typed document's write-out, then a line for each fault of the schema, and
-/// then one for each fault of the document.
+/// The answer of `doc` to an input: the print of the typed document's write-out, then a line for each fault
+/// of the schema, and then one for each fault of the document.
 ///
-/// The errors are those of [`compile_documents`]. What was built is left to the end of the process, but after an error.
+/// The errors are those of [`compile_documents`]. What was built is left to the end of the process, but after
+/// an error.
 pub fn doc_answer(alloc: Global, keys: HashKeys, input: &str) -> Result<Answer, Failure>
     ensures read { OnOk result (All IsLine (lines_of input.now)) }
-    ensures means { IfOk result (λ answer. IsDocAnswer input.now (string_bytes answer.text) answer.has_faults) }
+    ensures means { IfOk result (λ answer.
+        IsDocAnswer input.now (string_bytes answer.text) answer.has_faults) }
     ensures causes { IfErr result (IsDocumentCause input.now) }
 {
     let compiled = compile_documents(alloc, keys, input)?;

@@ -14,7 +14,8 @@ pub fn push_faults<E: Display>(
     text: &mut String,
     faults: &[(Option<SourceSpan>, E)],
 ) -> Result<(), AllocError>
-    ensures { OnOk result ((lines : List ℕ) × ((string_bytes text.new ≡ string_bytes text.old ++ lines) × AreFaultLines faults.now lines)) }
+    ensures { OnOk result ((lines : List ℕ)
+        × ((string_bytes text.new ≡ string_bytes text.old ++ lines) × AreFaultLines faults.now lines)) }
 {
     match say_faults(alloc, text, &mut Kept, faults) {
         Ok(()) => Ok(()),
@@ -23,15 +24,20 @@ pub fn push_faults<E: Display>(
     }
 }
 
-/// Adds the same lines, and lets the text out where it has grown long. The error is out of memory, or the outlet's.
+/// Adds the same lines, and lets the text out where it has grown long. The error is out of memory, or the
+/// outlet's.
 pub(crate) fn say_faults<O: Outlet, E: Display>(
     alloc: Global,
     text: &mut String,
     outlet: &mut O,
     faults: &[(Option<SourceSpan>, E)],
 ) -> Result<(), CutShort>
-    ensures said { OnOk result (IsSaid (AreFaultLines faults.now) (O.sent outlet.old) (O.sent outlet.new) (string_bytes text.old) (string_bytes text.new)) }
-    ensures begun { OnErr result (IsCutShort (AreFaultLines faults.now) (O.sent outlet.old) (O.sent outlet.new) (string_bytes text.old)) }
+    ensures said { OnOk result
+        (IsSaid (AreFaultLines faults.now) (O.sent outlet.old) (O.sent outlet.new) (string_bytes text.old)
+        (string_bytes text.new)) }
+    ensures begun { OnErr result
+        (IsCutShort (AreFaultLines faults.now) (O.sent outlet.old) (O.sent outlet.new)
+        (string_bytes text.old)) }
 {
     for fault in faults {
         push_fault(alloc, text, fault.0, &fault.1)?;
@@ -46,7 +52,8 @@ fn push_fault<E: Display>(
     location: Option<SourceSpan>,
     error: &E,
 ) -> Result<(), AllocError>
-    ensures { OnOk result ((said : List ℕ) × (string_bytes text.new ≡ string_bytes text.old ++ fault_line location said)) }
+    ensures { OnOk result ((said : List ℕ)
+        × (string_bytes text.new ≡ string_bytes text.old ++ fault_line location said)) }
 {
     text.push_str("fault ")?;
     push_location(alloc, text, location)?;
@@ -56,8 +63,8 @@ fn push_fault<E: Display>(
     text.push_str("\n")
 }
 
-/// Adds the number with which a location starts, or `-` where there is none: of what was read the line. The error is out of
-/// memory.
+/// Adds the number with which a location starts, or `-` where there is none: of what was read the line. The
+/// error is out of memory.
 pub(crate) fn push_location(
     alloc: Global,
     text: &mut String,

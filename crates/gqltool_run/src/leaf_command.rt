@@ -19,10 +19,12 @@ use std::alloc::{AllocError, Global};
 /// The answer of `leaf` to an input: a line for each leaf fault of the typed document over its schema. Then
 /// comes one for each fault of the schema, and then one for each fault of the document.
 ///
-/// The errors are those of [`compile_documents`]. What was built is left to the end of the process, but after an error.
+/// The errors are those of [`compile_documents`]. What was built is left to the end of the process, but after
+/// an error.
 pub fn leaf_answer(alloc: Global, keys: HashKeys, input: &str) -> Result<Answer, Failure>
     ensures read { OnOk result (All IsLine (lines_of input.now)) }
-    ensures means { IfOk result (λ answer. IsLeafAnswer input.now (string_bytes answer.text) answer.has_faults) }
+    ensures means { IfOk result (λ answer.
+        IsLeafAnswer input.now (string_bytes answer.text) answer.has_faults) }
     ensures causes { IfErr result (IsDocumentCause input.now) }
 {
     let compiled = compile_documents(alloc, keys, input)?;
@@ -41,7 +43,10 @@ pub fn leaf_answer(alloc: Global, keys: HashKeys, input: &str) -> Result<Answer,
 
 /// Whether there is a leaf fault, or anything is at fault in the schema or in the document.
 fn is_at_fault(compiled: &Compiled, leaf_faults: &[LeafFault]) -> bool
-    ensures { result ≡ not ((length leaf_faults.now == 0) && ((length compiled.now.schema_faults.items == 0) && (length compiled.now.document_faults.items == 0))) }
+    ensures { result
+        ≡ not ((length leaf_faults.now == 0)
+        && ((length compiled.now.schema_faults.items == 0)
+        && (length compiled.now.document_faults.items == 0))) }
 {
     !leaf_faults.is_empty() || has_faults(compiled)
 }

@@ -41,10 +41,11 @@ pub(crate) trait Outlet {
     // It may fail.
     ghost may_fail: { Self → Type 0 };
 
-    /// Lets out the whole text where it has grown long, after which it is empty. The error is the outlet's, after which a
-    /// beginning of the text is out.
+    /// Lets out the whole text where it has grown long, after which it is empty. The error is the outlet's,
+    /// after which a beginning of the text is out.
     fn let_out(&mut self, text: &mut String) -> Result<(), CutShort>
-        ensures held { OnOk result (GoesOut (string_bytes text.old) (sent self.old) (sent self.new) (string_bytes text.new)) }
+        ensures held { OnOk result
+            (GoesOut (string_bytes text.old) (sent self.old) (sent self.new) (string_bytes text.new)) }
         ensures begun { OnErr result (IsBegun (string_bytes text.old) (sent self.old) (sent self.new)) }
         ensures left { OnOk result (may_be_left self.old (length (string_bytes text.new))) }
         ensures causes { OnErr result (may_fail self.old) };

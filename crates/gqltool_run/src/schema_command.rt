@@ -16,9 +16,11 @@ use bench_notation::printing::print;
 use graphql_nodes::collections::hash_keys::HashKeys;
 use std::alloc::Global;
 
-/// The answer of `schema` with these options to an input: the print of the write-out, and then a line for each fault.
+/// The answer of `schema` with these options to an input: the print of the write-out, and then a line for
+/// each fault.
 ///
-/// The errors are those of [`compile_input`]. What was built is left to the end of the process, but after an error.
+/// The errors are those of [`compile_input`]. What was built is left to the end of the process, but after an
+/// error.
 pub fn schema_answer(
     alloc: Global,
     keys: HashKeys,
@@ -26,8 +28,10 @@ pub fn schema_answer(
     input: &str,
 ) -> Result<Answer, Failure>
     ensures read { OnOk result (All IsLine (lines_of input.now)) }
-    ensures means { IfOk result (λ answer. IsAnswer options input.now (string_bytes answer.text) answer.has_faults) }
-    ensures printed { IfOk result (λ answer. answer.has_faults ≡ false → (definitions : List Definition) × (string_bytes answer.text ≡ printed_definitions definitions)) }
+    ensures means { IfOk result (λ answer.
+        IsAnswer options input.now (string_bytes answer.text) answer.has_faults) }
+    ensures printed { IfOk result (λ answer. answer.has_faults ≡ false → (definitions : List Definition)
+        × (string_bytes answer.text ≡ printed_definitions definitions)) }
     ensures causes { IfErr result (IsCause options input.now) }
 {
     let compiled = compile_input(alloc, keys, options, input)?;

@@ -6,10 +6,11 @@ ghost use Rattle.gqltool_run.specs.SchemaOptions.{AreOptions};
 
 use apollo_compiler::compile_options::CompileOptions;
 
-/// The options that these words are, in any order, each at most once: `--adopt` is the first of them, and `--ignore-builtin` the
-/// second. No other words are options: there is none then. It takes no memory.
+/// The options that these words are, in any order, each at most once: `--adopt` is the first of them, and
+/// `--ignore-builtin` the second. No other words are options: there is none then. It takes no memory.
 pub fn read_options(words: &[&str]) -> Option<CompileOptions>
-    ensures { MatchOption result ((options : CompileOptions) → ¬ AreOptions (texts_of words.now) options) (AreOptions (texts_of words.now)) }
+    ensures { MatchOption result ((options : CompileOptions)
+        → ¬ AreOptions (texts_of words.now) options) (AreOptions (texts_of words.now)) }
 {
     let (adopt_orphan_extensions, ignore_builtin_redefinitions) = match words {
         [] => (false, false),

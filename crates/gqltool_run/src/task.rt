@@ -4,7 +4,8 @@ ghost use Rattle.bench_notation.specs.Line.{texts_of};
 ghost use Rattle.apollo_compiler.specs.declared.compile_options.CompileOptions.{CompileOptions};
 ghost use Rattle.apollo_coordinate.specs.CoordinateText.{IsCoordinateText, SaysCoordinate};
 ghost use Rattle.gqltool_run.specs.SchemaOptions.{AreSchemaWords};
-ghost use Rattle.gqltool_run.specs.Tasks.{AreCoordWords, AreNoCommand, AreNoDocumentWords, Ask, IsRefusalOf, IsTextRefusal};
+ghost use Rattle.gqltool_run.specs.Tasks.{AreCoordWords, AreNoCommand, AreNoDocumentWords, Ask, IsRefusalOf};
+ghost use Rattle.gqltool_run.specs.Tasks.{IsTextRefusal};
 
 use crate::failure::Failure;
 use crate::schema_options::read_options;
@@ -18,9 +19,11 @@ use std::alloc::Global;
 pub enum Task {
     /// `schema` and its options: the schema of the input's documents, and its faults.
     Schema(CompileOptions),
-    /// `coord` and a text: what its coordinate points to in the schema of the input's documents, and the schema's faults.
+    /// `coord` and a text: what its coordinate points to in the schema of the input's documents, and the
+    /// schema's faults.
     Coord(SchemaCoordinate),
-    /// `doc`: the typed document of the input's executable documents, and the faults of its schema and its own.
+    /// `doc`: the typed document of the input's executable documents, and the faults of its schema and its
+    /// own.
     Doc,
     /// `walk`: what walks over the operations and fragments of that document give, and the same faults.
     Walk,
@@ -67,7 +70,8 @@ fn document_task(words: &[&str]) -> Option<Task>
 
 /// The options of `schema`, where the words are this command.
 fn schema_options(words: &[&str]) -> Option<CompileOptions>
-    ensures { MatchOption result ((options : CompileOptions) → ¬ AreSchemaWords (texts_of words.now) options) (AreSchemaWords (texts_of words.now)) }
+    ensures { MatchOption result ((options : CompileOptions)
+        → ¬ AreSchemaWords (texts_of words.now) options) (AreSchemaWords (texts_of words.now)) }
 {
     match words {
         ["schema", options @ ..] => read_options(options),
@@ -77,7 +81,8 @@ fn schema_options(words: &[&str]) -> Option<CompileOptions>
 
 /// The text of `coord`, where the words are this command.
 fn coordinate_text<'a>(words: &[&'a str]) -> Option<&'a str>
-    ensures { MatchOption result ((text : List ℕ) → ¬ AreCoordWords (texts_of words.now) text) (λ text. AreCoordWords (texts_of words.now) text.now) }
+    ensures { MatchOption result ((text : List ℕ)
+        → ¬ AreCoordWords (texts_of words.now) text) (λ text. AreCoordWords (texts_of words.now) text.now) }
 {
     match words {
         ["coord", text] => Some(*text),

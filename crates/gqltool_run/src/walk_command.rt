@@ -1,5 +1,6 @@
 //! The command `walk`.
-ghost use Rattle.std.specs.Prelude.{◌≡◌, ◌++◌, ℕ, Bool, List, [], map, IfErr, IfOk, OnErr, OnOk, codes, string_bytes};
+ghost use Rattle.std.specs.Prelude.{◌≡◌, ◌++◌, ℕ, Bool, List, [], map, IfErr, IfOk, OnErr, OnOk, codes};
+ghost use Rattle.std.specs.Prelude.{string_bytes};
 ghost use Rattle.bench_notation.specs.HeaderWords.{name_word};
 ghost use Rattle.apollo_executable.specs.Operations.{all_operations};
 ghost use Rattle.apollo_executable.specs.Walks.WalkView.{IsNewWalk, TakesAllTurns};
@@ -8,7 +9,9 @@ ghost use Rattle.apollo_executable.specs.declared.selection.SelectionSet.{Select
 ghost use Rattle.program_io.specs.Writing.{GoesOut, IsBegun};
 ghost use Rattle.gqltool_run.specs.Pieces.{IsCutShort, IsSaid};
 ghost use Rattle.gqltool_run.specs.Prepared.{AreLinesOf, has_fault};
-ghost use Rattle.gqltool_run.specs.WalkCommand.{AreSetsText, AreWalksText, IsSetText, IsWalkText, fragment_with_line, operation_line, operation_with_line, turns_line};
+ghost use Rattle.gqltool_run.specs.WalkCommand.{AreSetsText, AreWalksText, IsSetText, IsWalkText};
+ghost use Rattle.gqltool_run.specs.WalkCommand.{fragment_with_line, operation_line, operation_with_line};
+ghost use Rattle.gqltool_run.specs.WalkCommand.{turns_line};
 
 use crate::answer::Answer;
 use crate::document_building::has_faults;
@@ -30,16 +33,19 @@ use std::alloc::{AllocError, Global};
 /// typed document the lines of its walks. Then comes a line for each fault of the schema, and then one for
 /// each fault of the document.
 ///
-/// Its text goes out while it is made, and what is still held of it is answered. The error is out of memory, or the outlet's:
-/// then a beginning of the text went out.
+/// Its text goes out while it is made, and what is still held of it is answered. The error is out of memory,
+/// or the outlet's: then a beginning of the text went out.
 pub(crate) fn walk_answer<O: Outlet>(
     alloc: Global,
     compiled: &Compiled,
     outlet: &mut O,
 ) -> Result<Answer, CutShort>
-    ensures said { IfOk result (λ answer. IsSaid (AreLinesOf compiled.now) (O.sent outlet.old) (O.sent outlet.new) [] (string_bytes answer.text)) }
+    ensures said { IfOk result (λ answer.
+        IsSaid (AreLinesOf compiled.now) (O.sent outlet.old) (O.sent outlet.new) []
+        (string_bytes answer.text)) }
     ensures faults { IfOk result (λ answer. answer.has_faults ≡ has_fault compiled.now) }
-    ensures begun { OnErr result (IsCutShort (AreLinesOf compiled.now) (O.sent outlet.old) (O.sent outlet.new) []) }
+    ensures begun { OnErr result
+        (IsCutShort (AreLinesOf compiled.now) (O.sent outlet.old) (O.sent outlet.new) []) }
 {
     let mut text = String::new(alloc);
     push_walks(alloc, &mut text, outlet, &compiled.document)?;
@@ -56,8 +62,8 @@ pub(crate) fn walk_answer<O: Outlet>(
     })
 }
 
-/// The same answer with its whole text. The error is out of memory. What the input was compiled to is left to the end of the
-/// process, but after the error.
+/// The same answer with its whole text. The error is out of memory. What the input was compiled to is left to
+/// the end of the process, but after the error.
 pub(crate) fn whole_walk_answer(alloc: Global, compiled: Compiled) -> Result<Answer, Failure>
     ensures text { IfOk result (λ answer. AreLinesOf compiled (string_bytes answer.text)) }
     ensures faults { IfOk result (λ answer. answer.has_faults ≡ has_fault compiled) }
@@ -75,8 +81,10 @@ pub(crate) fn whole_walk_answer(alloc: Global, compiled: Compiled) -> Result<Ans
 
 /// Each walk over a set takes some number of turns, and the walks over each set have lines.
 fn walks_have_texts()
-    ensures turns { (deep : Bool) (document : ExecutableDocument) (set : SelectionSet) → (turns : ℕ) × TakesAllTurns deep document set turns }
-    ensures texts { (document : ExecutableDocument) (set : SelectionSet) → (text : List ℕ) × IsSetText document set text }
+    ensures turns { (deep : Bool) (document : ExecutableDocument) (set : SelectionSet)
+        → (turns : ℕ) × TakesAllTurns deep document set turns }
+    ensures texts { (document : ExecutableDocument) (set : SelectionSet)
+        → (text : List ℕ) × IsSetText document set text }
 {
     walks_reach_each_field_once::<Node<Field>>();
     walks_take_few_turns::<Node<Field>>();
@@ -89,8 +97,12 @@ fn say_line<O: Outlet>(
     first: &str,
     second: &str,
 ) -> Result<(), CutShort>
-    ensures held { OnOk result (GoesOut (string_bytes text.old ++ (first.now ++ (second.now ++ codes "\n"))) (O.sent outlet.old) (O.sent outlet.new) (string_bytes text.new)) }
-    ensures begun { OnErr result (IsBegun (string_bytes text.old ++ (first.now ++ (second.now ++ codes "\n"))) (O.sent outlet.old) (O.sent outlet.new)) }
+    ensures held { OnOk result
+        (GoesOut (string_bytes text.old ++ (first.now ++ (second.now ++ codes "\n"))) (O.sent outlet.old)
+        (O.sent outlet.new) (string_bytes text.new)) }
+    ensures begun { OnErr result
+        (IsBegun (string_bytes text.old ++ (first.now ++ (second.now ++ codes "\n"))) (O.sent outlet.old)
+        (O.sent outlet.new)) }
 {
     push_line(text, first, second)?;
     outlet.let_out(text)
@@ -103,8 +115,12 @@ fn push_walks<O: Outlet>(
     outlet: &mut O,
     document: &ExecutableDocument,
 ) -> Result<(), CutShort>
-    ensures said { OnOk result (IsSaid (AreWalksText document.now) (O.sent outlet.old) (O.sent outlet.new) (string_bytes text.old) (string_bytes text.new)) }
-    ensures begun { OnErr result (IsCutShort (AreWalksText document.now) (O.sent outlet.old) (O.sent outlet.new) (string_bytes text.old)) }
+    ensures said { OnOk result
+        (IsSaid (AreWalksText document.now) (O.sent outlet.old) (O.sent outlet.new) (string_bytes text.old)
+        (string_bytes text.new)) }
+    ensures begun { OnErr result
+        (IsCutShort (AreWalksText document.now) (O.sent outlet.old) (O.sent outlet.new)
+        (string_bytes text.old)) }
 {
     walks_have_texts();
     push_operations(alloc, text, outlet, document)?;
@@ -118,8 +134,14 @@ fn push_operations<O: Outlet>(
     outlet: &mut O,
     document: &ExecutableDocument,
 ) -> Result<(), CutShort>
-    ensures said { OnOk result (IsSaid (AreSetsText document.now (map operation_with_line (all_operations document.now.operations))) (O.sent outlet.old) (O.sent outlet.new) (string_bytes text.old) (string_bytes text.new)) }
-    ensures begun { OnErr result (IsCutShort (AreSetsText document.now (map operation_with_line (all_operations document.now.operations))) (O.sent outlet.old) (O.sent outlet.new) (string_bytes text.old)) }
+    ensures said { OnOk result
+        (IsSaid (AreSetsText document.now
+        (map operation_with_line (all_operations document.now.operations))) (O.sent outlet.old)
+        (O.sent outlet.new) (string_bytes text.old) (string_bytes text.new)) }
+    ensures begun { OnErr result
+        (IsCutShort (AreSetsText document.now
+        (map operation_with_line (all_operations document.now.operations))) (O.sent outlet.old)
+        (O.sent outlet.new) (string_bytes text.old)) }
 {
     walks_have_texts();
     for operation in document.operations.iter() {
@@ -136,8 +158,12 @@ fn push_fragments<O: Outlet>(
     outlet: &mut O,
     document: &ExecutableDocument,
 ) -> Result<(), CutShort>
-    ensures said { OnOk result (IsSaid (AreSetsText document.now (map fragment_with_line document.now.fragments)) (O.sent outlet.old) (O.sent outlet.new) (string_bytes text.old) (string_bytes text.new)) }
-    ensures begun { OnErr result (IsCutShort (AreSetsText document.now (map fragment_with_line document.now.fragments)) (O.sent outlet.old) (O.sent outlet.new) (string_bytes text.old)) }
+    ensures said { OnOk result
+        (IsSaid (AreSetsText document.now (map fragment_with_line document.now.fragments))
+        (O.sent outlet.old) (O.sent outlet.new) (string_bytes text.old) (string_bytes text.new)) }
+    ensures begun { OnErr result
+        (IsCutShort (AreSetsText document.now (map fragment_with_line document.now.fragments))
+        (O.sent outlet.old) (O.sent outlet.new) (string_bytes text.old)) }
 {
     walks_have_texts();
     for (name, fragment) in document.fragments.iter() {
@@ -174,8 +200,12 @@ fn push_set<O: Outlet>(
     document: &ExecutableDocument,
     set: &SelectionSet,
 ) -> Result<(), CutShort>
-    ensures said { OnOk result (IsSaid (IsSetText document.now set.now) (O.sent outlet.old) (O.sent outlet.new) (string_bytes text.old) (string_bytes text.new)) }
-    ensures begun { OnErr result (IsCutShort (IsSetText document.now set.now) (O.sent outlet.old) (O.sent outlet.new) (string_bytes text.old)) }
+    ensures said { OnOk result
+        (IsSaid (IsSetText document.now set.now) (O.sent outlet.old) (O.sent outlet.new)
+        (string_bytes text.old) (string_bytes text.new)) }
+    ensures begun { OnErr result
+        (IsCutShort (IsSetText document.now set.now) (O.sent outlet.old) (O.sent outlet.new)
+        (string_bytes text.old)) }
 {
     walks_have_texts();
     push_walk(
@@ -216,7 +246,8 @@ fn walk_over<'doc>(
     }
 }
 
-/// Adds the lines of a walk over a set: `word` stands before the key of each field, and `turns_word` before the turns.
+/// Adds the lines of a walk over a set: `word` stands before the key of each field, and `turns_word` before
+/// the turns.
 fn push_walk<O: Outlet>(
     alloc: Global,
     text: &mut String,
@@ -227,8 +258,12 @@ fn push_walk<O: Outlet>(
     word: &str,
     turns_word: &str,
 ) -> Result<(), CutShort>
-    ensures said { OnOk result (IsSaid (IsWalkText deep word.now turns_word.now document.now set.now) (O.sent outlet.old) (O.sent outlet.new) (string_bytes text.old) (string_bytes text.new)) }
-    ensures begun { OnErr result (IsCutShort (IsWalkText deep word.now turns_word.now document.now set.now) (O.sent outlet.old) (O.sent outlet.new) (string_bytes text.old)) }
+    ensures said { OnOk result
+        (IsSaid (IsWalkText deep word.now turns_word.now document.now set.now) (O.sent outlet.old)
+        (O.sent outlet.new) (string_bytes text.old) (string_bytes text.new)) }
+    ensures begun { OnErr result
+        (IsCutShort (IsWalkText deep word.now turns_word.now document.now set.now) (O.sent outlet.old)
+        (O.sent outlet.new) (string_bytes text.old)) }
 {
     walks_have_texts();
     let mut walk = walk_over(alloc, document, set, deep);
@@ -246,8 +281,12 @@ fn say_turns<O: Outlet>(
     word: &str,
     turns: u64,
 ) -> Result<(), CutShort>
-    ensures held { OnOk result (GoesOut (string_bytes text.old ++ turns_line word.now turns) (O.sent outlet.old) (O.sent outlet.new) (string_bytes text.new)) }
-    ensures begun { OnErr result (IsBegun (string_bytes text.old ++ turns_line word.now turns) (O.sent outlet.old) (O.sent outlet.new)) }
+    ensures held { OnOk result
+        (GoesOut (string_bytes text.old ++ turns_line word.now turns) (O.sent outlet.old)
+        (O.sent outlet.new) (string_bytes text.new)) }
+    ensures begun { OnErr result
+        (IsBegun (string_bytes text.old ++ turns_line word.now turns) (O.sent outlet.old)
+        (O.sent outlet.new)) }
 {
     let number = turns.to_string(alloc)?;
     say_line(text, outlet, word, number.as_str())

@@ -47,7 +47,8 @@ fn is_written(table: &mut Table<i32, char>) -> bool {
     table.get_index_mut(2).is_none() && table.values().eq(['c', 'z'].iter())
 }
 
-/// Whether the table has an equal copy, which the first entry can be taken out of, and is made again of its map.
+/// Whether the table has an equal copy, which the first entry can be taken out of, and is made again of its
+/// map.
 fn is_table_kept(table: Table<i32, char>) -> Result<bool, AllocError> {
     let mut copy = table.clone()?;
     let is_copied = copy == table;

@@ -7,8 +7,8 @@ use graphql_nodes::source::{FileId, SourceFile, SourceMap, SourceSpan};
 use likeness::is_made_right;
 use std::alloc::Global;
 
-/// Texts, and the line and column of each offset up to the end: of none, of each line terminator, of two that touch, and of
-/// characters of two, three and four bytes.
+/// Texts, and the line and column of each offset up to the end: of none, of each line terminator, of two that
+/// touch, and of characters of two, three and four bytes.
 const EXAMPLES: &[(&str, &[(usize, usize)])] = &[
     ("", &[(1, 1)]),
     ("a\nb", &[(1, 1), (1, 2), (2, 1), (2, 2)]),

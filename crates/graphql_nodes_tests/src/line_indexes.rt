@@ -24,8 +24,8 @@ static TEXT: &str = "\
 # ééééééééééééééééééééé
 ";
 
-/// Offsets of it, with their lines and columns: the first and the last, around the offset of 256 bytes, and where lines begin
-/// and end.
+/// Offsets of it, with their lines and columns: the first and the last, around the offset of 256 bytes, and
+/// where lines begin and end.
 const PLACES: &[(usize, usize, usize)] = &[
     (0, 1, 1),
     (44, 1, 24),
@@ -38,7 +38,8 @@ const PLACES: &[(usize, usize, usize)] = &[
     (720, 17, 1),
 ];
 
-/// Whether the offsets are found where they are, and none is beyond the end. Where memory runs out they aren't.
+/// Whether the offsets are found where they are, and none is beyond the end. Where memory runs out they
+/// aren't.
 fn are_found(alloc: Global) -> bool {
     let Ok(index) = LineIndex::new(alloc, TEXT) else {
         return false;

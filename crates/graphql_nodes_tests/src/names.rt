@@ -39,7 +39,8 @@ fn grammar(rt: HostRuntime) {
     }
 }
 
-/// Whether the name reads as `field_1`, is printed and shown so, and differs from its copy at a location in that alone.
+/// Whether the name reads as `field_1`, is printed and shown so, and differs from its copy at a location in
+/// that alone.
 fn is_field(alloc: Global, name: &Name, placed: &Name) -> bool {
     (name.as_str(), name.location(), placed.location()) == ("field_1", None, Some(PLACE))
         && is_printed(alloc, name, "field_1")

@@ -69,7 +69,8 @@ fn are_named(first: &Node<Name>, second: &Node<Name>, names: (&str, &str)) -> bo
     (first.as_str(), second.as_str()) == names && locations == (Some(PLACE), Some(PLACE))
 }
 
-/// Whether a write to the second of two nodes that share a name leaves the first, and another makes them equal again.
+/// Whether a write to the second of two nodes that share a name leaves the first, and another makes them
+/// equal again.
 fn is_write_apart(alloc: Global) -> Result<bool, AllocError> {
     let first = node(alloc, name(alloc, "before", None), Some(PLACE))?;
     let mut second = first.clone()?;

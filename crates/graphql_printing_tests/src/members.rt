@@ -1,5 +1,5 @@
-//! Fields, input values and enum values that are read in their types and printed by themselves, as graphql-js prints
-//! their nodes.
+//! Fields, input values and enum values that are read in their types and printed by themselves, as graphql-js
+//! prints their nodes.
 
 use graphql_ast::definition::Definition;
 use graphql_ast::type_system::{EnumValueDefinition, FieldDefinition, InputValueDefinition};

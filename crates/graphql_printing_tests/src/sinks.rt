@@ -34,8 +34,8 @@ impl fmt::Write for Narrow {
     }
 }
 
-/// Whether a sink of this room takes the front of the text that fits, and its error comes through exactly where
-/// the text is longer.
+/// Whether a sink of this room takes the front of the text that fits, and its error comes through exactly
+/// where the text is longer.
 fn is_cut(alloc: Global, tree: &[Definition], room: usize) -> bool {
     let mut sink = Narrow {
         taken: Vec::new(alloc),

@@ -89,7 +89,8 @@ fn is_answer_of(
     is_answer(alloc, text, Some(&definition), want)
 }
 
-/// Names of arguments, whether each is defined as required and with which default value, if it is, and the answer.
+/// Names of arguments, whether each is defined as required and with which default value, if it is, and the
+/// answer.
 const ANSWERS: &[(&str, Option<(bool, Option<&str>)>, &str)] = &[
     ("first", None, "1"),
     ("limit", None, "no such argument"),
@@ -143,7 +144,8 @@ fn is_required(argument: Option<&Node<InputValueDefinition>>) -> Option<bool> {
     }
 }
 
-/// Whether the first definition of `limit` is found, of a field and of a directive, and none of a name that is not defined.
+/// Whether the first definition of `limit` is found, of a field and of a directive, and none of a name that
+/// is not defined.
 fn are_found(alloc: Global) -> Result<bool, AllocError> {
     let (field, directive) = both(field(alloc), directive(alloc))?;
     let limit = name(alloc, "limit", None)?;

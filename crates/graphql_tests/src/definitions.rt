@@ -17,8 +17,8 @@ fn is_described(definition: &Definition, text: &str) -> bool {
     definition.describe() == text && definition.location() == Some(PLACE)
 }
 
-/// Whether the value has an equal copy, and so has the definition of it at the location, which is described so. A copy of
-/// the definition shares the value.
+/// Whether the value has an equal copy, and so has the definition of it at the location, which is described
+/// so. A copy of the definition shares the value.
 fn is_defined<T: Clone + PartialEq + Drop>(alloc: Global, value: T, text: &str) -> bool
 where
     Definition: From<Node<T>>,

@@ -1,4 +1,5 @@
-//! What is read from lines: extensions as they stand, before a schema is built of them, and the locations of nodes.
+//! What is read from lines: extensions as they stand, before a schema is built of them, and the locations of
+//! nodes.
 
 use bench_notation::printing::print;
 use bench_notation::reading::{read, read_divided};

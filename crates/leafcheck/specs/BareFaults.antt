@@ -1,4 +1,5 @@
--- What `==` compares of faults: names without their locations. GraphQL specification of October 2021, section 5.3.3.
+-- What `==` compares of faults: names without their locations. GraphQL specification of October 2021, section
+-- 5.3.3.
 use Rattle.graphql_nodes.specs.Comparing.{bare_name}
 use Rattle.apollo_document.specs.BareErrors.{bare_path}
 use Rattle.leafcheck.specs.declared.leaf_fault.LeafFault.{LeafFault}

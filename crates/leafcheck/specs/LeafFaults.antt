@@ -1,10 +1,12 @@
--- Fields at fault as leaves: those of scalar or enum types that have subselections, and those of object, interface or union
--- types that have none. GraphQL specification of October 2021, section 5.3.3.
+-- Fields at fault as leaves: those of scalar or enum types that have subselections, and those of object,
+-- interface or union types that have none. GraphQL specification of October 2021, section 5.3.3.
 --
--- A field is at fault over a schema value in one of two ways (`kind_over`). Its type stands under the inner name
--- of the type of its definition. Either that is a leaf type, and the field has subselections; or it is a composite
--- type, and the field has none. In neither, if it is an input object, or the schema has no type of the name.
-use Rattle.std.specs.Prelude.{◌==◌, ◌++◌, Bool, true, false, List, length, Option, None, Some, option_map, option_and_then, if◌then◌else◌}
+-- A field is at fault over a schema value in one of two ways (`kind_over`). Its type stands under the inner
+-- name of the type of its definition. Either that is a leaf type, and the field has subselections; or it is a
+-- composite type, and the field has none. In neither, if it is an input object, or the schema has no type of
+-- the name.
+use Rattle.std.specs.Prelude.{◌==◌, ◌++◌, Bool, true, false, List, length, Option, None, Some, option_map}
+use Rattle.std.specs.Prelude.{option_and_then, if◌then◌else◌}
 use Rattle.std.specs.List.{cons_option, filter_map, flat_map}
 use Rattle.graphql_nodes.specs.NameView.{NameView}
 use Rattle.graphql_nodes.specs.NodeView.{NodeView}
@@ -28,7 +30,8 @@ use Rattle.leafcheck.specs.declared.leaf_fault.LeafFault.{LeafFault}
 use Rattle.leafcheck.specs.declared.leaf_fault.LeafKind.{LeafKind}
 use Rattle.leafcheck.specs.declared.leaf_fault.LeafKind.TheVariants.{MissingSubselection, SubselectionOnLeaf}
 
--- in which way a field of this type is at fault that is bare, or has subselections: in none, if the type is an input object
+-- in which way a field of this type is at fault that is bare, or has subselections: in none, if the type is
+-- an input object
 abbrev pub kind_in : Bool → ExtendedType → Option LeafKind
 kind_in true t = if is_composite t then Some MissingSubselection else None
 kind_in false t = if is_leaf t then Some SubselectionOnLeaf else None
@@ -73,7 +76,8 @@ abbrev pub fragment_faults : Schema → NodeView Fragment → List LeafFault
 fragment_faults s n =
     leaf_faults_in s n.value.selection_set.ty (fragment_path n.value) n.value.selection_set.selections
 
--- the faults of a document: those of the anonymous operation first, then of the others, and then of the fragments
+-- the faults of a document: those of the anonymous operation first, then of the others, and then of the
+-- fragments
 abbrev pub leaf_faults : Schema → ExecutableDocument → List LeafFault
 leaf_faults s document =
     flat_map (operation_faults s) (all_operations document.operations) ++ flat_map (fragment_faults s)

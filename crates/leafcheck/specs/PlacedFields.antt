@@ -1,6 +1,6 @@
--- The fields that stand in selections, each with its place. They are in the order in which a walk would come to them: each
--- before those below it, through inline fragments, but not through spreads. GraphQL specification of October 2021, sections 2.4
--- to 2.8.
+-- The fields that stand in selections, each with its place. They are in the order in which a walk would come
+-- to them: each before those below it, through inline fragments, but not through spreads. GraphQL
+-- specification of October 2021, sections 2.4 to 2.8.
 --
 -- A path begins with the operation or fragment, by its own name. It goes on with the response keys of the
 -- fields around the field, its own key last.

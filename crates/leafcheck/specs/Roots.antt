@@ -1,5 +1,5 @@
--- The paths of the selection sets of operations and fragments: the definition by its own name, and no field. GraphQL
--- specification of October 2021, sections 2.3 and 2.8.
+-- The paths of the selection sets of operations and fragments: the definition by its own name, and no field.
+-- GraphQL specification of October 2021, sections 2.3 and 2.8.
 use Rattle.std.specs.Prelude.{[], Option, None, Some}
 use Rattle.graphql_nodes.specs.NameView.{NameView}
 use Rattle.graphql_nodes.specs.declared.operation_type.OperationType.{OperationType}

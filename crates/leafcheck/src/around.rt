@@ -11,8 +11,8 @@ use graphql_nodes::collections::items::Items;
 use graphql_nodes::name::Name;
 use std::alloc::{AllocError, Global};
 
-/// The definition that a selection set is of, or the response key of the field that it is of, and what is around
-/// that field. An inline fragment's set has around it what is around the inline fragment.
+/// The definition that a selection set is of, or the response key of the field that it is of, and what is
+/// around that field. An inline fragment's set has around it what is around the inline fragment.
 #[derive(Drop)]
 pub(crate) enum Around<'a> {
     Operation(&'a Operation),

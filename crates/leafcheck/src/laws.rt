@@ -1,6 +1,8 @@
-//! Which fields stand in selections with their places; what `==` answers at faults, and that clones are the originals.
+//! Which fields stand in selections with their places; what `==` answers at faults, and that clones are the
+//! originals.
 //!
-//! Each law is a function that does nothing but cite others. A proof cites it by a call, and finds its clauses there.
+//! Each law is a function that does nothing but cite others. A proof cites it by a call, and finds its
+//! clauses there.
 ghost use Rattle.std.specs.Prelude.{◌≡◌, true, List, [], ◌∷◌, ◌++◌, map};
 ghost use Rattle.graphql_nodes.specs.Clones.{IsExact};
 ghost use Rattle.graphql_nodes.specs.Comparing.{ComparesBy};
@@ -44,7 +46,8 @@ pub fn fields_with_places()
         → map (λ f. f.node) (placed_fields ty path selections) ≡ fields_in true selections }
 {}
 
-/// Kinds are equal exactly where they are one, and faults exactly where they are one without the locations of names.
+/// Kinds are equal exactly where they are one, and faults exactly where they are one without the locations of
+/// names.
 pub fn equality_of_faults()
     ensures kind { ComparesBy ⟦<LeafKind as PartialEq>⟧.eq (λ kind. kind) }
     ensures fault { ComparesBy ⟦<LeafFault as PartialEq>⟧.eq bare_fault }

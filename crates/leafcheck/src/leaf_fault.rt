@@ -18,8 +18,8 @@ pub enum LeafKind {
 
 /// A field that is at fault. `Display` is a message with the key.
 ///
-/// Faults are equal where their locations are, the texts of their names, and their kinds. A clone is the original,
-/// with the locations of its names; its error is out of memory.
+/// Faults are equal where their locations are, the texts of their names, and their kinds. A clone is the
+/// original, with the locations of its names; its error is out of memory.
 #[derive(Debug, Clone, PartialEq, Eq, Error)]
 #[error("`{response_key}`: {kind}")]
 pub struct LeafFault {

@@ -1,8 +1,8 @@
-//! Leaf field selections: whether each field of a typed document has subselections exactly where its type asks for them.
-//! GraphQL specification of October 2021, section 5.3.3.
+//! Leaf field selections: whether each field of a typed document has subselections exactly where its type
+//! asks for them. GraphQL specification of October 2021, section 5.3.3.
 //!
-//! It stands on public contracts of schemas, typed documents and the faults of their build alone, as a validator of another
-//! house would.
+//! It stands on public contracts of schemas, typed documents and the faults of their build alone, as a
+//! validator of another house would.
 //!
 //! Proved: exactly the fields that lack subselections or must not have them are reported, over any schema and
 //! document.

@@ -7,10 +7,10 @@ use apollo_document::build_error::{BuildError, Fault};
 use apollo_document::selection_path::SelectionPath;
 
 impl LeafFault {
-    /// Whether one of these faults, those of the build of its document, is of a selection below this field: of a
-    /// field or an inline fragment, also one further below. So a
-    /// [`MissingSubselection`](crate::leaf_fault::LeafKind::MissingSubselection) can be recognized that is there only
-    /// since what was written below the field was dropped.
+    /// Whether one of these faults, those of the build of its document, is of a selection below this field:
+    /// of a field or an inline fragment, also one further below. So a
+    /// [`MissingSubselection`](crate::leaf_fault::LeafKind::MissingSubselection) can be recognized that is
+    /// there only since what was written below the field was dropped.
     ///
     /// It goes by paths, so fields of one key beside each other aren't told apart. It takes no memory.
     pub fn lost_subselections(&self, faults: &[Fault]) -> bool

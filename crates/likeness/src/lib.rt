@@ -1,5 +1,6 @@
-//! What tests ask of values: whether they are made, equal, copied and printed, and where they stand. The functions own what is
-//! made, so that a test need not. None has a clause, since no proof goes by what a test sees.
+//! What tests ask of values: whether they are made, equal, copied and printed, and where they stand. The
+//! functions own what is made, so that a test need not. None has a clause, since no proof goes by what a test
+//! sees.
 #![tactic(auto)]
 
 use graphql_nodes::collections::items::Items;
@@ -108,7 +109,8 @@ pub fn is_printed<T: Display>(alloc: Global, value: &T, text: &str) -> bool {
     }
 }
 
-/// Adds a location: the number of its file, and from where to where it goes, or where it is if both are the same. `-` is none.
+/// Adds a location: the number of its file, and from where to where it goes, or where it is if both are the
+/// same. `-` is none.
 pub fn push_location(text: &mut String, location: Option<SourceSpan>) -> Result<(), AllocError> {
     match location {
         Some(span) => {

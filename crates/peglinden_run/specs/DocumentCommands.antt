@@ -1,4 +1,5 @@
--- What the commands on documents over a schema answer: GraphQL specification of October 2021, sections 2.2 to 2.8.
+-- What the commands on documents over a schema answer: GraphQL specification of October 2021, sections 2.2 to
+-- 2.8.
 use Rattle.std.specs.Prelude.{ℕ, Bool, List, []}
 use Rattle.apollo_executable.specs.Erasure.{erased_document}
 use Rattle.apollo_executable.specs.declared.document.ExecutableDocument.{ExecutableDocument}
@@ -19,7 +20,9 @@ output_of shown.Fields document = fields_text document
 
 -- the answer is what the command writes of the typed document of files over the schema of files; or with the
 -- flag what JSON says of all faults; `held` says which bytes the file of a path may hold
-pub record IsDocumentAnswer (held : List ℕ → List ℕ → Type 0) (what : Shown) (json : Bool) (schema_paths document_paths : List (List ℕ)) (answer : Answer) : Type 0 where
+pub record IsDocumentAnswer (held : List ℕ → List ℕ
+    → Type 0) (what : Shown) (json : Bool) (schema_paths document_paths : List (List ℕ)) (answer : Answer) :
+    Type 0 where
   pub typed : TypedDocument
   pub is_typed : IsTyped held schema_paths document_paths typed
   pub is : IsAnswerOf json (found_in typed.findings) (output_of what typed.document) answer

@@ -28,7 +28,8 @@ most_tokens = 2 ^ 64 - 1
 
 -- the text spells these definitions, at locations in the file of this number
 abbrev pub Spells : ℕ → List ℕ → List Definition → Type 0
-Spells number text definitions = spells_document (file number) most_open definitions (words_of most_tokens text)
+Spells number text definitions =
+    spells_document (file number) most_open definitions (words_of most_tokens text)
 
 -- the file of this number, path and text alone
 abbrev pub alone : ℕ → List ℕ → List ℕ → Files
@@ -41,12 +42,16 @@ pub record IsDocumentOf (number : ℕ) (path text : List ℕ) (document : Docume
 
 -- the document is that of a text which the file of this path may hold, under this number
 abbrev pub IsDocumentAt : (List ℕ → List ℕ → Type 0) → ℕ → List ℕ → Document → Type 0
-IsDocumentAt held number path document = (text : List ℕ) × (held path text × IsDocumentOf number path text document)
+IsDocumentAt held number path document = (text : List ℕ)
+    × (held path text × IsDocumentOf number path text document)
 
 -- the documents are those of the files of these paths, in order, under numbers from this one on
 abbrev pub AreDocumentsAt : (List ℕ → List ℕ → Type 0) → ℕ → List (List ℕ) → List Document → Type 0
 AreDocumentsAt held number [] documents = documents ≡ []
-AreDocumentsAt held number (path ∷ paths) documents = (first : Document) × ((rest : List Document) × ((documents ≡ first ∷ rest) × (IsDocumentAt held number path first × AreDocumentsAt held (suc number) paths rest)))
+AreDocumentsAt held number (path ∷ paths) documents = (first : Document)
+    × ((rest : List Document)
+    × ((documents ≡ first ∷ rest)
+    × (IsDocumentAt held number path first × AreDocumentsAt held (suc number) paths rest)))
 
 -- the text spells no definitions, under this number
 abbrev pub IsNoDocument : ℕ → List ℕ → Type 0

@@ -23,12 +23,14 @@ operation_line operation = operation_text operation.operation_type ++ name_behin
 
 -- the line of a field: its coordinate, and how often it stands there
 abbrev pub usage_line : FieldUsage → List ℕ
-usage_line field = codes "  " ++ attribute_coordinate_text field.coordinate ++ codes " " ++ decimal field.count ++ codes "\n"
+usage_line field = codes "  " ++ attribute_coordinate_text field.coordinate ++ codes " "
+    ++ decimal field.count ++ codes "\n"
 
 -- the lines of an operation: that which names it, and those of the fields that it reaches, in order of
 -- first reach
 abbrev pub operation_fields : ExecutableDocument → Operation → List ℕ
-operation_fields document operation = operation_line operation ++ flat_map usage_line (usage (reached document operation.selection_set))
+operation_fields document operation =
+    operation_line operation ++ flat_map usage_line (usage (reached document operation.selection_set))
 
 -- the lines of an operation at its node
 abbrev pub node_fields : ExecutableDocument → NodeView Operation → List ℕ

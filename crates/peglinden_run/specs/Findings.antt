@@ -1,5 +1,6 @@
 -- What a command shows of what is at fault.
-use Rattle.std.specs.Prelude.{◌≡◌, ◌++◌, ◌+◌, ◌-◌, ◌^◌, ◌==◌, ◌&&◌, ℕ, min, Bool, true, false, not, List, [], Some, length, string_bytes}
+use Rattle.std.specs.Prelude.{◌≡◌, ◌++◌, ◌+◌, ◌-◌, ◌^◌, ◌==◌, ◌&&◌, ℕ, min, Bool, true, false, not, List, []}
+use Rattle.std.specs.Prelude.{Some, length, string_bytes}
 use Rattle.graphql_nodes.specs.Sources.{Files}
 use Rattle.apollo_document.specs.Typable.{Fault as DocumentFault}
 use Rattle.apollo_meaning.specs.Faults.Collisions.{Fault}
@@ -20,7 +21,13 @@ pub record Found : Type 0 where
 
 -- what is at fault of these findings
 abbrev pub found_in : Findings → Found
-found_in findings = record { sources = findings.sources; schema = findings.schema_faults.items; document = findings.document_faults.items; leaves = findings.leaf_faults.items }
+found_in findings =
+    record {
+      sources = findings.sources;
+      schema = findings.schema_faults.items;
+      document = findings.document_faults.items;
+      leaves = findings.leaf_faults.items;
+    }
 
 -- what is at fault in a schema alone
 abbrev pub of_schema : Files → List Fault → Found
@@ -28,7 +35,8 @@ of_schema sources faults = record { sources = sources; schema = faults; document
 
 -- whether anything is at fault
 abbrev pub any_fault : Found → Bool
-any_fault found = not (((length found.schema == 0) && (length found.document == 0)) && (length found.leaves == 0))
+any_fault found =
+    not (((length found.schema == 0) && (length found.document == 0)) && (length found.leaves == 0))
 
 -- how many faults there are, or the greatest number where they are more
 abbrev pub fault_count : Found → ℕ
@@ -48,15 +56,18 @@ IsLeafReport sources fault text = IsReport sources fault.location (leaf_fault_ab
 
 -- a fault of a schema as a line of JSON
 abbrev pub IsSchemaLine : Files → Fault → List ℕ → Type 0
-IsSchemaLine sources fault text = IsJsonLine sources fault.0 (schema_fault_about fault.1) (Some (schema_fault_details fault.1)) text
+IsSchemaLine sources fault text =
+    IsJsonLine sources fault.0 (schema_fault_about fault.1) (Some (schema_fault_details fault.1)) text
 
 -- a fault of a document as a line of JSON
 abbrev pub IsDocumentLine : Files → DocumentFault → List ℕ → Type 0
-IsDocumentLine sources fault text = IsJsonLine sources fault.0 (document_fault_about fault.1) (Some (document_fault_details fault.1)) text
+IsDocumentLine sources fault text =
+    IsJsonLine sources fault.0 (document_fault_about fault.1) (Some (document_fault_details fault.1)) text
 
 -- a leaf fault as a line of JSON
 abbrev pub IsLeafLine : Files → LeafFault → List ℕ → Type 0
-IsLeafLine sources fault text = IsJsonLine sources fault.location (leaf_fault_about fault) (Some (leaf_fault_details fault)) text
+IsLeafLine sources fault text =
+    IsJsonLine sources fault.location (leaf_fault_about fault) (Some (leaf_fault_details fault)) text
 
 -- the reports of all that is at fault, in order, and how much that is
 pub record AreReports (found : Found) (text : List ℕ) : Type 0 where
@@ -84,10 +95,13 @@ pub record AreJsonLines (found : Found) (text : List ℕ) : Type 0 where
   pub leaves : SaysEach (IsLeafLine found.sources) found.leaves of_leaves
   pub are : text ≡ of_schema ++ (of_document ++ of_leaves)
 
--- what is written: the output of a command, and on standard error the reports; or with the flag the lines of JSON alone
+-- what is written: the output of a command, and on standard error the reports; or with the flag the lines of
+-- JSON alone
 abbrev pub IsShown : Bool → Found → List ℕ → Answer → Type 0
-IsShown false found output answer = (string_bytes answer.output ≡ output) × AreReports found (string_bytes answer.errors)
-IsShown true found output answer = AreJsonLines found (string_bytes answer.output) × (string_bytes answer.errors ≡ [])
+IsShown false found output answer = (string_bytes answer.output ≡ output)
+    × AreReports found (string_bytes answer.errors)
+IsShown true found output answer = AreJsonLines found (string_bytes answer.output)
+    × (string_bytes answer.errors ≡ [])
 
 -- the answer shows that, and whether anything is at fault
 pub record IsAnswerOf (json : Bool) (found : Found) (output : List ℕ) (answer : Answer) : Type 0 where

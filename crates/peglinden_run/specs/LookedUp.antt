@@ -1,4 +1,5 @@
--- What is written of what coordinates point to: Schema Coordinates RFC, and GraphQL specification of October 2021, section 3.
+-- What is written of what coordinates point to: Schema Coordinates RFC, and GraphQL specification of October
+-- 2021, section 3.
 use Rattle.std.specs.Prelude.{◌++◌, ◌==◌, if◌then◌else◌, ℕ, List, [], ◌∷◌, Option, None, Some, codes}
 use Rattle.graphql_nodes.specs.PlaceTexts.{place_text}
 use Rattle.graphql_nodes.specs.Sources.{Files}
@@ -21,10 +22,12 @@ found_location (answers.Argument found) = found.now.location
 
 -- a comment that says where something stands; what stands in no file is built-in
 abbrev pub place_comment : Files → Option SourceSpan → List ℕ
-place_comment files (Some span) = if span.file.0 == 0 then codes "# built-in\n" else codes "# " ++ place_text span files ++ codes "\n"
+place_comment files (Some span) = if span.file.0 == 0 then codes "# built-in\n"
+    else codes "# " ++ place_text span files ++ codes "\n"
 place_comment files None = codes "# built-in\n"
 
--- the definition that a coordinate points to, with a line end: of a type with its extensions, and of a part of one alone
+-- the definition that a coordinate points to, with a line end: of a type with its extensions, and of a part
+-- of one alone
 abbrev pub found_definition : SchemaCoordinateLookup → List ℕ
 found_definition (answers.Ty found) = ended (write_type found.now)
 found_definition (answers.Directive found) = ended (d.DirectiveDefinition found.now ∷ [])

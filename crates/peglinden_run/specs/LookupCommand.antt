@@ -1,4 +1,5 @@
--- What the command `lookup` answers: Schema Coordinates RFC, and GraphQL specification of October 2021, section 3.
+-- What the command `lookup` answers: Schema Coordinates RFC, and GraphQL specification of October 2021,
+-- section 3.
 use Rattle.std.specs.Prelude.{◌≡◌, ℕ, Bool, true, false, List, [], string_bytes}
 use Rattle.apollo_coordinate.specs.CoordinateLookups.{PointsTo, PointsToNothing}
 use Rattle.apollo_coordinate.specs.CoordinateText.{IsCoordinateText, SaysCoordinate}
@@ -16,11 +17,14 @@ use Rattle.peglinden_run.specs.SchemaCommand.{IsSchemaCause, IsSchemaOf}
 
 -- the coordinate points to something, of which the text is written, and nothing is reported
 abbrev pub Finds : Schema → SchemaCoordinate → Answer → Type 0
-Finds schema coordinate answer = (found : SchemaCoordinateLookup) × (PointsTo schema coordinate found × (string_bytes answer.output ≡ found_text schema.sources found) × (string_bytes answer.errors ≡ []))
+Finds schema coordinate answer = (found : SchemaCoordinateLookup)
+    × (PointsTo schema coordinate found × (string_bytes answer.output ≡ found_text schema.sources found)
+    × (string_bytes answer.errors ≡ []))
 
 -- it points to nothing, and nothing is written
 abbrev pub FindsNothing : Schema → SchemaCoordinate → Answer → Type 0
-FindsNothing schema coordinate answer = (error : SchemaLookupError) × (PointsToNothing schema coordinate error × (string_bytes answer.output ≡ []))
+FindsNothing schema coordinate answer = (error : SchemaLookupError)
+    × (PointsToNothing schema coordinate error × (string_bytes answer.output ≡ []))
 
 -- at fault is what points to nothing, and that alone
 abbrev pub IsFinding : Schema → SchemaCoordinate → Bool → Answer → Type 0
@@ -29,7 +33,8 @@ IsFinding schema coordinate true answer = FindsNothing schema coordinate answer
 
 -- the answer is that to the coordinate that a text says and to files; `held` says which bytes the file of a
 -- path may hold; what is at fault in the schema is passed over
-pub record IsLookupAnswer (held : List ℕ → List ℕ → Type 0) (coordinate_text : List ℕ) (paths : List (List ℕ)) (answer : Answer) : Type 0 where
+pub record IsLookupAnswer (held : List ℕ → List ℕ
+    → Type 0) (coordinate_text : List ℕ) (paths : List (List ℕ)) (answer : Answer) : Type 0 where
   pub coordinate : SchemaCoordinate
   pub says : SaysCoordinate coordinate_text coordinate
   pub schema : Schema
@@ -44,6 +49,7 @@ IsCoordinateCause text failures.Memory = Unit {0}
 IsCoordinateCause text _ = ⊥
 
 -- why there is no answer: the text says no coordinate, or the files make no schema
-abbrev pub IsLookupCause : (List ℕ → List ℕ → Type 0) → (List ℕ → Type 0) → List ℕ → List (List ℕ) → Failure → Type 0
+abbrev pub IsLookupCause : (List ℕ → List ℕ → Type 0) → (List ℕ → Type 0) → List ℕ → List (List ℕ) → Failure
+    → Type 0
 IsLookupCause held may_fail text paths (failures.NoCoordinate sentence) = ¬ IsCoordinateText text
 IsLookupCause held may_fail text paths failure = IsSchemaCause held may_fail no_options paths failure

@@ -1,5 +1,6 @@
 -- What is reported of files that are no documents: GraphQL specification of October 2021, section 2.2.
-use Rattle.std.specs.Prelude.{◌≡◌, ◌≢◌, ◌⊎◌, ◌++◌, ℕ, suc, List, [], ◌∷◌, Option, None, Some, codes, is_some, length, string_bytes}
+use Rattle.std.specs.Prelude.{◌≡◌, ◌≢◌, ◌⊎◌, ◌++◌, ℕ, suc, List, [], ◌∷◌, Option, None, Some, codes, is_some}
+use Rattle.std.specs.Prelude.{length, string_bytes}
 use Rattle.std.specs.List.{count_by, flat_map}
 use Rattle.program_io.specs.Files.{CannotBeRead, HoldsSome}
 use Rattle.graphql_nodes.specs.VisibleTexts.{visible}
@@ -14,15 +15,20 @@ use Rattle.peglinden_run.specs.declared.failure.Failure.TheVariants as failures
 use Rattle.peglinden_run.specs.Documents.{IsDocumentAt, IsNoDocument, alone, file, most_open, most_tokens}
 use Rattle.peglinden_run.specs.Reports.{IsReport, count_line}
 
--- In all of this `held` says which bytes the file of a path may hold, and `may_fail` whether reading it may fail.
+-- In all of this `held` says which bytes the file of a path may hold, and `may_fail` whether reading it may
+-- fail.
 
 -- the error says where the text, under this number, is no document, and why
 abbrev pub IsErrorOf : ℕ → List ℕ → ParseError → Type 0
-IsErrorOf number text error = RefusedAt (document (file number) most_open) (spells_document (file number) most_open) (document (file number) (suc most_open)).spells (file number) (length text) (words_of most_tokens text) error
+IsErrorOf number text error =
+    RefusedAt (document (file number) most_open) (spells_document (file number) most_open)
+    (document (file number) (suc most_open)).spells (file number) (length text) (words_of most_tokens text)
+    error
 
 -- the report that the file of this path can't be read, with these words for why, as both are shown
 abbrev pub unread_text : List ℕ → List ℕ → List ℕ
-unread_text path why = codes "error: cannot read `" ++ (visible path ++ (codes "`: " ++ (visible why ++ codes "\n\n")))
+unread_text path why =
+    codes "error: cannot read `" ++ (visible path ++ (codes "`: " ++ (visible why ++ codes "\n\n")))
 
 -- the text is that report, with some words for why
 abbrev pub IsUnreadReport : List ℕ → List ℕ → Type 0
@@ -31,15 +37,22 @@ IsUnreadReport path report = (why : List ℕ) × (report ≡ unread_text path wh
 -- the text reports why this text is no document, under this path and number
 abbrev pub IsRefusedText : ℕ → List ℕ → List ℕ → List ℕ → Type 0
 IsRefusedText number path text report =
-    IsNoDocument number text × ((error : ParseError) × (IsErrorOf number text error × IsReport (alone number path text) (Some error.location) (parse_error_about error) report))
+    IsNoDocument number text
+    × ((error : ParseError)
+    × (IsErrorOf number text error
+    × IsReport (alone number path text) (Some error.location) (parse_error_about error) report))
 
--- the text reports that the file of this path can't be read, for what may be: reading it fails, or its bytes are no text
+-- the text reports that the file of this path can't be read, for what may be: reading it fails, or its bytes
+-- are no text
 abbrev pub IsRefusedRead : (List ℕ → List ℕ → Type 0) → (List ℕ → Type 0) → List ℕ → List ℕ → Type 0
-IsRefusedRead held may_fail path report = CannotBeRead (held path) (may_fail path) × IsUnreadReport path report
+IsRefusedRead held may_fail path report = CannotBeRead (held path) (may_fail path)
+    × IsUnreadReport path report
 
--- the text reports why the file of this path is refused: it can't be read, or the text that it may hold is no document
+-- the text reports why the file of this path is refused: it can't be read, or the text that it may hold is no
+-- document
 abbrev pub IsRefusedFile : (List ℕ → List ℕ → Type 0) → (List ℕ → Type 0) → ℕ → List ℕ → List ℕ → Type 0
-IsRefusedFile held may_fail number path report = IsRefusedRead held may_fail path report ⊎ HoldsSome (held path) (λ text. IsRefusedText number path text report)
+IsRefusedFile held may_fail number path report = IsRefusedRead held may_fail path report
+    ⊎ HoldsSome (held path) (λ text. IsRefusedText number path text report)
 
 -- of a file that is a document nothing is reported, and of any other why it is refused
 abbrev pub IsReported : (List ℕ → List ℕ → Type 0) → (List ℕ → Type 0) → ℕ → List ℕ → Option (List ℕ) → Type 0
@@ -47,9 +60,13 @@ IsReported held may_fail number path None = (document : Document) × IsDocumentA
 IsReported held may_fail number path (Some report) = IsRefusedFile held may_fail number path report
 
 -- the same of each of the files of these paths, in order, under numbers from this one on
-abbrev pub AreReported : (List ℕ → List ℕ → Type 0) → (List ℕ → Type 0) → ℕ → List (List ℕ) → List (Option (List ℕ)) → Type 0
+abbrev pub AreReported : (List ℕ → List ℕ → Type 0) → (List ℕ → Type 0) → ℕ → List (List ℕ)
+    → List (Option (List ℕ)) → Type 0
 AreReported held may_fail number [] reports = reports ≡ []
-AreReported held may_fail number (path ∷ paths) reports = (first : Option (List ℕ)) × ((rest : List (Option (List ℕ))) × ((reports ≡ first ∷ rest) × (IsReported held may_fail number path first × AreReported held may_fail (suc number) paths rest)))
+AreReported held may_fail number (path ∷ paths) reports = (first : Option (List ℕ))
+    × ((rest : List (Option (List ℕ)))
+    × ((reports ≡ first ∷ rest)
+    × (IsReported held may_fail number path first × AreReported held may_fail (suc number) paths rest)))
 
 -- a report, or nothing where there is none
 abbrev pub if_reported : Option (List ℕ) → List ℕ
@@ -57,7 +74,8 @@ if_reported None = []
 if_reported (Some report) = report
 
 -- the text reports of each of the files of these paths that is refused, and how many they are, one at least
-pub record IsFilesReport (held : List ℕ → List ℕ → Type 0) (may_fail : List ℕ → Type 0) (paths : List (List ℕ)) (text : List ℕ) : Type 0 where
+pub record IsFilesReport (held : List ℕ → List ℕ → Type 0) (may_fail : List ℕ
+    → Type 0) (paths : List (List ℕ)) (text : List ℕ) : Type 0 where
   -- what is reported of each file
   pub reports : List (Option (List ℕ))
   pub are : AreReported held may_fail 1 paths reports
@@ -66,6 +84,7 @@ pub record IsFilesReport (held : List ℕ → List ℕ → Type 0) (may_fail : L
 
 -- why the files of these paths are no documents; that memory ran out says nothing of them
 abbrev pub IsFilesCause : (List ℕ → List ℕ → Type 0) → (List ℕ → Type 0) → List (List ℕ) → Failure → Type 0
-IsFilesCause held may_fail paths (failures.Files reports) = IsFilesReport held may_fail paths (string_bytes reports)
+IsFilesCause held may_fail paths (failures.Files reports) =
+    IsFilesReport held may_fail paths (string_bytes reports)
 IsFilesCause held may_fail paths failures.Memory = Unit {0}
 IsFilesCause held may_fail paths _ = ⊥

@@ -14,12 +14,15 @@ use Rattle.apollo_reporting.specs.declared.detail.Detail.{Detail}
 -- the text is the report of a fault at this location, with an empty line behind it: by some sentence, as it
 -- is shown, and what else reports say of it
 abbrev pub IsReport : Files → Option SourceSpan → AboutView → List ℕ → Type 0
-IsReport files location about text = (sentence : List ℕ) × (text ≡ report_text files location about (visible sentence) ++ codes "\n")
+IsReport files location about text = (sentence : List ℕ)
+    × (text ≡ report_text files location about (visible sentence) ++ codes "\n")
 
 -- the text is the JSON of a fault at this location, as a line: by some sentence, what else reports say of it
 -- and its details
 abbrev pub IsJsonLine : Files → Option SourceSpan → AboutView → Option (List Detail) → List ℕ → Type 0
-IsJsonLine files location about of_details text = (sentence : List ℕ) × OfSaid of_details (λ details. text ≡ compact_text (fault_data files location about sentence details) ++ codes "\n")
+IsJsonLine files location about of_details text = (sentence : List ℕ)
+    × OfSaid of_details (λ details. text ≡ compact_text (fault_data files location about sentence details)
+    ++ codes "\n")
 
 -- behind what was there a text stands of which P holds
 abbrev pub Adds : (List ℕ → Type 0) → List ℕ → List ℕ → Type 0
@@ -28,7 +31,8 @@ Adds P old new = (added : List ℕ) × ((new ≡ old ++ added) × P added)
 -- the text is one after the other, in order, of which `Says` holds of each of these
 abbrev pub SaysEach : {A : Type 0} → (A → List ℕ → Type 0) → List A → List ℕ → Type 0
 SaysEach Says [] text = text ≡ []
-SaysEach Says (x ∷ xs) text = (first : List ℕ) × ((rest : List ℕ) × ((text ≡ first ++ rest) × (Says x first × SaysEach Says xs rest)))
+SaysEach Says (x ∷ xs) text = (first : List ℕ)
+    × ((rest : List ℕ) × ((text ≡ first ++ rest) × (Says x first × SaysEach Says xs rest)))
 
 -- how many faults there are, on a line, or nothing where there is none
 abbrev pub count_line : ℕ → List ℕ

@@ -13,22 +13,40 @@ use Rattle.peglinden_run.specs.RefusedFiles.{IsFilesCause}
 use Rattle.peglinden_run.specs.SchemaCommand.{IsSchemaAnswer, IsSchemaCause}
 use Rattle.peglinden_run.specs.TypedDocuments.{IsTypedCause}
 
--- In all of this `held` says which bytes the file of a path may hold, and `may_fail` whether reading it may fail.
+-- In all of this `held` says which bytes the file of a path may hold, and `may_fail` whether reading it may
+-- fail.
 
 -- the answer is one to the request
 abbrev pub IsAnswerTo : Request → (List ℕ → List ℕ → Type 0) → Answer → Type 0
-IsAnswerTo (requests.Schema adopt ignore_builtin json files) held answer = IsSchemaAnswer held (record { adopt_orphan_extensions = adopt; ignore_builtin_redefinitions = ignore_builtin }) json (texts_of files.items) answer
-IsAnswerTo (requests.Check json schema documents) held answer = IsDocumentAnswer held shown.Nothing json (texts_of schema.items) (texts_of documents.items) answer
-IsAnswerTo (requests.Typed json schema documents) held answer = IsDocumentAnswer held shown.WriteOut json (texts_of schema.items) (texts_of documents.items) answer
-IsAnswerTo (requests.Fields json schema documents) held answer = IsDocumentAnswer held shown.Fields json (texts_of schema.items) (texts_of documents.items) answer
-IsAnswerTo (requests.Lookup coordinate files) held answer = IsLookupAnswer held coordinate.now (texts_of files.items) answer
+IsAnswerTo (requests.Schema adopt ignore_builtin json files) held answer =
+    IsSchemaAnswer held (record {
+      adopt_orphan_extensions = adopt;
+      ignore_builtin_redefinitions = ignore_builtin;
+    }) json (texts_of files.items) answer
+IsAnswerTo (requests.Check json schema documents) held answer =
+    IsDocumentAnswer held shown.Nothing json (texts_of schema.items) (texts_of documents.items) answer
+IsAnswerTo (requests.Typed json schema documents) held answer =
+    IsDocumentAnswer held shown.WriteOut json (texts_of schema.items) (texts_of documents.items) answer
+IsAnswerTo (requests.Fields json schema documents) held answer =
+    IsDocumentAnswer held shown.Fields json (texts_of schema.items) (texts_of documents.items) answer
+IsAnswerTo (requests.Lookup coordinate files) held answer =
+    IsLookupAnswer held coordinate.now (texts_of files.items) answer
 IsAnswerTo (requests.Format check files) held answer = IsFormatAnswer held check (texts_of files.items) answer
 
 -- why there is no answer to the request
 abbrev pub IsCauseTo : Request → (List ℕ → List ℕ → Type 0) → (List ℕ → Type 0) → Failure → Type 0
-IsCauseTo (requests.Schema adopt ignore_builtin json files) held may_fail failure = IsSchemaCause held may_fail (record { adopt_orphan_extensions = adopt; ignore_builtin_redefinitions = ignore_builtin }) (texts_of files.items) failure
-IsCauseTo (requests.Check json schema documents) held may_fail failure = IsTypedCause held may_fail (texts_of schema.items) (texts_of documents.items) failure
-IsCauseTo (requests.Typed json schema documents) held may_fail failure = IsTypedCause held may_fail (texts_of schema.items) (texts_of documents.items) failure
-IsCauseTo (requests.Fields json schema documents) held may_fail failure = IsTypedCause held may_fail (texts_of schema.items) (texts_of documents.items) failure
-IsCauseTo (requests.Lookup coordinate files) held may_fail failure = IsLookupCause held may_fail coordinate.now (texts_of files.items) failure
-IsCauseTo (requests.Format check files) held may_fail failure = IsFilesCause held may_fail (texts_of files.items) failure
+IsCauseTo (requests.Schema adopt ignore_builtin json files) held may_fail failure =
+    IsSchemaCause held may_fail (record {
+      adopt_orphan_extensions = adopt;
+      ignore_builtin_redefinitions = ignore_builtin;
+    }) (texts_of files.items) failure
+IsCauseTo (requests.Check json schema documents) held may_fail failure =
+    IsTypedCause held may_fail (texts_of schema.items) (texts_of documents.items) failure
+IsCauseTo (requests.Typed json schema documents) held may_fail failure =
+    IsTypedCause held may_fail (texts_of schema.items) (texts_of documents.items) failure
+IsCauseTo (requests.Fields json schema documents) held may_fail failure =
+    IsTypedCause held may_fail (texts_of schema.items) (texts_of documents.items) failure
+IsCauseTo (requests.Lookup coordinate files) held may_fail failure =
+    IsLookupCause held may_fail coordinate.now (texts_of files.items) failure
+IsCauseTo (requests.Format check files) held may_fail failure =
+    IsFilesCause held may_fail (texts_of files.items) failure

@@ -25,59 +25,96 @@ IsUnanswered s.Refused = Unit {0}
 IsUnanswered s.Exhausted = Unit {0}
 IsUnanswered _ = ⊥
 
--- a run that has its whole text ends so: it is appended; or the writer failed, or its flush did, and a beginning of it is appended
+-- a run that has its whole text ends so: it is appended; or the writer failed, or its flush did, and a
+-- beginning of it is appended
 abbrev pub IsTextWritten : List ℕ → Option (List ℕ) → Option (List ℕ) → Status → Type 0
 IsTextWritten text old new s.Done = Appends old new text
 IsTextWritten text old new s.NotWritten = IsBegun text old new
 IsTextWritten text old new _ = ⊥
 
--- a run that has its whole answer ends so: the output is appended, and whether something is at fault decides; then a beginning of the
--- reports is appended on standard error, and all of them unless that writer fails; or a beginning of the output is appended
-abbrev pub IsWritten : Answer → Option (List ℕ) → Option (List ℕ) → Option (List ℕ) → Option (List ℕ) → Status → Type 0
-IsWritten answer old new old_errors new_errors s.Done = (answer.has_faults ≡ false) × Appends old new (string_bytes answer.output)
-IsWritten answer old new old_errors new_errors s.Faults = (answer.has_faults ≡ true) × Appends old new (string_bytes answer.output) × IsBegun (string_bytes answer.errors) old_errors new_errors
+-- a run that has its whole answer ends so: the output is appended, and whether something is at fault decides;
+-- then a beginning of the reports is appended on standard error, and all of them unless that writer fails; or
+-- a beginning of the output is appended
+abbrev pub IsWritten : Answer → Option (List ℕ) → Option (List ℕ) → Option (List ℕ) → Option (List ℕ) → Status
+    → Type 0
+IsWritten answer old new old_errors new_errors s.Done = (answer.has_faults ≡ false)
+    × Appends old new (string_bytes answer.output)
+IsWritten answer old new old_errors new_errors s.Faults = (answer.has_faults ≡ true)
+    × Appends old new (string_bytes answer.output)
+    × IsBegun (string_bytes answer.errors) old_errors new_errors
 IsWritten answer old new old_errors new_errors s.NotWritten = IsBegun (string_bytes answer.output) old new
 IsWritten answer old new old_errors new_errors _ = ⊥
 
 -- the request has an answer, and a run that has it ends so
-abbrev pub WritesAnswer : Request → (List ℕ → List ℕ → Type 0) → Option (List ℕ) → Option (List ℕ) → Option (List ℕ) → Option (List ℕ) → Status → Type 0
-WritesAnswer request held old new old_errors new_errors status = (answer : Answer) × (IsAnswerTo request held answer × IsWritten answer old new old_errors new_errors status)
+abbrev pub WritesAnswer : Request → (List ℕ → List ℕ → Type 0) → Option (List ℕ) → Option (List ℕ)
+    → Option (List ℕ) → Option (List ℕ) → Status → Type 0
+WritesAnswer request held old new old_errors new_errors status = (answer : Answer)
+    × (IsAnswerTo request held answer × IsWritten answer old new old_errors new_errors status)
 
--- there is a cause for which the request has no answer, and it ends a run so; a beginning of what is reported of it is appended on standard
--- error, and all of it unless that writer fails
-abbrev pub HasCause : Request → (List ℕ → List ℕ → Type 0) → (List ℕ → Type 0) → Option (List ℕ) → Option (List ℕ) → Status → Type 0
-HasCause request held may_fail old_errors new_errors status = (failure : Failure) × ((status_of failure ≡ status) × IsCauseTo request held may_fail failure × IsBegun (message_of failure) old_errors new_errors)
+-- there is a cause for which the request has no answer, and it ends a run so; a beginning of what is reported
+-- of it is appended on standard error, and all of it unless that writer fails
+abbrev pub HasCause : Request → (List ℕ → List ℕ → Type 0) → (List ℕ → Type 0) → Option (List ℕ)
+    → Option (List ℕ) → Status → Type 0
+HasCause request held may_fail old_errors new_errors status = (failure : Failure)
+    × ((status_of failure ≡ status) × IsCauseTo request held may_fail failure
+    × IsBegun (message_of failure) old_errors new_errors)
 
--- a run on the request over these files may end so: there is a cause for which it has no answer, or its answer is written, to its end or
--- in part
-abbrev pub MayEnd : Request → (List ℕ → List ℕ → Type 0) → (List ℕ → Type 0) → Option (List ℕ) → Option (List ℕ) → Option (List ℕ) → Option (List ℕ) → Status → Type 0
-MayEnd request held may_fail old new old_errors new_errors s.Refused = HasCause request held may_fail old_errors new_errors s.Refused
-MayEnd request held may_fail old new old_errors new_errors s.Exhausted = HasCause request held may_fail old_errors new_errors s.Exhausted
-MayEnd request held may_fail old new old_errors new_errors status = WritesAnswer request held old new old_errors new_errors status
+-- a run on the request over these files may end so: there is a cause for which it has no answer, or its
+-- answer is written, to its end or in part
+abbrev pub MayEnd : Request → (List ℕ → List ℕ → Type 0) → (List ℕ → Type 0) → Option (List ℕ)
+    → Option (List ℕ) → Option (List ℕ) → Option (List ℕ) → Status → Type 0
+MayEnd request held may_fail old new old_errors new_errors s.Refused =
+    HasCause request held may_fail old_errors new_errors s.Refused
+MayEnd request held may_fail old new old_errors new_errors s.Exhausted =
+    HasCause request held may_fail old_errors new_errors s.Exhausted
+MayEnd request held may_fail old new old_errors new_errors status =
+    WritesAnswer request held old new old_errors new_errors status
 
--- a run over the files and standard input may end so: standard input gave these bytes, which it may hold; or it failed, which it may, and
--- holds nothing; or memory ran out while it was read, and it neither holds anything nor fails
-abbrev pub MayEndWithInput : Request → (List ℕ → Type 0) → Type 0 → (List ℕ → List ℕ → Type 0) → (List ℕ → Type 0) → Option (List ℕ) → Option (List ℕ) → Option (List ℕ) → Option (List ℕ) → Status → Type 0
+-- a run over the files and standard input may end so: standard input gave these bytes, which it may hold; or
+-- it failed, which it may, and holds nothing; or memory ran out while it was read, and it neither holds
+-- anything nor fails
+abbrev pub MayEndWithInput : Request → (List ℕ → Type 0) → Type 0 → (List ℕ → List ℕ → Type 0)
+    → (List ℕ → Type 0) → Option (List ℕ) → Option (List ℕ) → Option (List ℕ) → Option (List ℕ) → Status
+    → Type 0
 MayEndWithInput request input_held input_may_fail held may_fail old new old_errors new_errors status =
-    ((input : List ℕ) × (input_held input × MayEnd request (with_input (λ bytes. bytes ≡ input) held) (may_fail_with_input ⊥ may_fail) old new old_errors new_errors status))
-    ⊎ ((input_may_fail × MayEnd request (with_input (λ bytes. ⊥) held) (may_fail_with_input (Unit {0}) may_fail) old new old_errors new_errors status)
-    ⊎ MayEnd request (with_input (λ bytes. ⊥) held) (may_fail_with_input ⊥ may_fail) old new old_errors new_errors status)
+    ((input : List ℕ)
+    × (input_held input
+    × MayEnd request (with_input (λ bytes. bytes ≡ input) held) (may_fail_with_input ⊥ may_fail) old new
+    old_errors new_errors status))
+    ⊎ ((input_may_fail
+    × MayEnd request (with_input (λ bytes. ⊥) held) (may_fail_with_input (Unit {0}) may_fail) old new
+    old_errors new_errors status)
+    ⊎ MayEnd request (with_input (λ bytes. ⊥) held) (may_fail_with_input ⊥ may_fail) old new old_errors
+    new_errors status)
 
 -- a run may end so: with the flag the request names standard input, and else that is left as it was
-abbrev pub EndsAs : {R : Type 0} → Bool → Request → (List ℕ → Type 0) → Type 0 → (List ℕ → List ℕ → Type 0) → (List ℕ → Type 0) → R → R → Option (List ℕ) → Option (List ℕ) → Option (List ℕ) → Option (List ℕ) → Status → Type 0
-EndsAs false request input_held input_may_fail held may_fail reader reader_after old new old_errors new_errors status = MayEnd request held may_fail old new old_errors new_errors status × (reader_after ≡ reader)
-EndsAs true request input_held input_may_fail held may_fail reader reader_after old new old_errors new_errors status = MayEndWithInput request input_held input_may_fail held may_fail old new old_errors new_errors status
+abbrev pub EndsAs : {R : Type 0} → Bool → Request → (List ℕ → Type 0) → Type 0 → (List ℕ → List ℕ → Type 0)
+    → (List ℕ → Type 0) → R → R → Option (List ℕ) → Option (List ℕ) → Option (List ℕ) → Option (List ℕ)
+    → Status → Type 0
+EndsAs false request input_held input_may_fail held may_fail reader reader_after old new old_errors new_errors
+    status = MayEnd request held may_fail old new old_errors new_errors status × (reader_after ≡ reader)
+EndsAs true request input_held input_may_fail held may_fail reader reader_after old new old_errors new_errors
+    status = MayEndWithInput request input_held input_may_fail held may_fail old new old_errors new_errors
+    status
 
--- a run on words that ask for nothing may end so: they call for help or for the version, and a text is appended, or a beginning of it; or
--- they are a mistake; that memory ran out says nothing of them
+-- a run on words that ask for nothing may end so: they call for help or for the version, and a text is
+-- appended, or a beginning of it; or they are a mistake; that memory ran out says nothing of them
 abbrev pub IsUnasked : List Text → Option (List ℕ) → Option (List ℕ) → Status → Type 0
 IsUnasked words old new s.Faults = ⊥
 IsUnasked words old new s.Refused = (asked words ≡ None) × (are_mistaken words ≡ true)
 IsUnasked words old new s.Exhausted = Unit {0}
-IsUnasked words old new status = (asked words ≡ None) × (call_for_help words ≡ true) × ((text : List ℕ) × IsTextWritten text old new status)
+IsUnasked words old new status = (asked words ≡ None) × (call_for_help words ≡ true)
+    × ((text : List ℕ) × IsTextWritten text old new status)
 
--- a run on words that ended so: it is the run on the request that they make, or they ask for nothing, and standard input is left as it was
-abbrev pub IsRunOn : {R : Type 0} → List Text → (List ℕ → Type 0) → Type 0 → (List ℕ → List ℕ → Type 0) → (List ℕ → Type 0) → R → R → Option (List ℕ) → Option (List ℕ) → Option (List ℕ) → Option (List ℕ) → Status → Type 0
-IsRunOn words input_held input_may_fail held may_fail reader reader_after old new old_errors new_errors status =
-    ((request : Request) × ((asked words ≡ Some (asked_of request)) × EndsAs (names_input request) request input_held input_may_fail held may_fail reader reader_after old new old_errors new_errors status))
+-- a run on words that ended so: it is the run on the request that they make, or they ask for nothing, and
+-- standard input is left as it was
+abbrev pub IsRunOn : {R : Type 0} → List Text → (List ℕ → Type 0) → Type 0 → (List ℕ → List ℕ → Type 0)
+    → (List ℕ → Type 0) → R → R → Option (List ℕ) → Option (List ℕ) → Option (List ℕ) → Option (List ℕ)
+    → Status → Type 0
+IsRunOn words input_held input_may_fail held may_fail reader reader_after old new old_errors new_errors
+    status =
+    ((request : Request)
+    × ((asked words ≡ Some (asked_of request))
+    × EndsAs (names_input request) request input_held input_may_fail held may_fail reader reader_after old
+    new old_errors new_errors status))
     ⊎ (IsUnasked words old new status × (reader_after ≡ reader))

@@ -17,10 +17,14 @@ use Rattle.peglinden_run.specs.Ended.{ended}
 use Rattle.peglinden_run.specs.Findings.{IsAnswerOf, of_schema}
 use Rattle.peglinden_run.specs.RefusedFiles.{IsFilesReport}
 
--- In all of this `held` says which bytes the file of a path may hold, and `may_fail` whether reading it may fail.
+-- In all of this `held` says which bytes the file of a path may hold, and `may_fail` whether reading it may
+-- fail.
 
--- the schema and its faults are what the files of these paths mean with these options, its extensions numbered from 0
-pub record IsSchemaOf (held : List ℕ → List ℕ → Type 0) (options : CompileOptions) (paths : List (List ℕ)) (schema : Schema) (faults : List Fault) : Type 0 where
+-- the schema and its faults are what the files of these paths mean with these options, its extensions
+-- numbered from 0
+pub record IsSchemaOf (held : List ℕ → List ℕ
+    → Type 0) (options : CompileOptions) (paths : List (List ℕ)) (schema : Schema) (faults : List Fault) :
+    Type 0 where
   -- the documents of the files
   pub documents : List Document
   pub read : AreDocumentsAt held 1 paths documents
@@ -29,15 +33,22 @@ pub record IsSchemaOf (held : List ℕ → List ℕ → Type 0) (options : Compi
   pub are : faults ≡ faults_of options.adopt_orphan_extensions (schema_list options documents)
 
 -- the answer is the write-out of that schema, or with the flag what JSON says of its faults
-pub record IsSchemaAnswer (held : List ℕ → List ℕ → Type 0) (options : CompileOptions) (json : Bool) (paths : List (List ℕ)) (answer : Answer) : Type 0 where
+pub record IsSchemaAnswer (held : List ℕ → List ℕ
+    → Type 0) (options : CompileOptions) (json : Bool) (paths : List (List ℕ)) (answer : Answer) :
+    Type 0 where
   pub schema : Schema
   pub faults : List Fault
   pub means : IsSchemaOf held options paths schema faults
   pub is : IsAnswerOf json (of_schema schema.sources faults) (ended (write_schema schema)) answer
 
--- why there is no such answer: a file is refused, or the extensions spend the numbers; that memory ran out says nothing of the files
-abbrev pub IsSchemaCause : (List ℕ → List ℕ → Type 0) → (List ℕ → Type 0) → CompileOptions → List (List ℕ) → Failure → Type 0
-IsSchemaCause held may_fail options paths (failures.Files reports) = IsFilesReport held may_fail paths (string_bytes reports)
+-- why there is no such answer: a file is refused, or the extensions spend the numbers; that memory ran out
+-- says nothing of the files
+abbrev pub IsSchemaCause : (List ℕ → List ℕ → Type 0) → (List ℕ → Type 0) → CompileOptions → List (List ℕ)
+    → Failure → Type 0
+IsSchemaCause held may_fail options paths (failures.Files reports) =
+    IsFilesReport held may_fail paths (string_bytes reports)
 IsSchemaCause held may_fail options paths failures.Memory = Unit {0}
-IsSchemaCause held may_fail options paths failures.ExtensionIds = (documents : List Document) × (AreDocumentsAt held 1 paths documents × SpendsIds 0 options.adopt_orphan_extensions (schema_list options documents))
+IsSchemaCause held may_fail options paths failures.ExtensionIds = (documents : List Document)
+    × (AreDocumentsAt held 1 paths documents
+    × SpendsIds 0 options.adopt_orphan_extensions (schema_list options documents))
 IsSchemaCause held may_fail options paths _ = ⊥

@@ -1,4 +1,5 @@
--- Documents of files, typed over the schema of files: GraphQL specification of October 2021, sections 2.2 to 2.8 and 3.
+-- Documents of files, typed over the schema of files: GraphQL specification of October 2021, sections 2.2 to
+-- 2.8 and 3.
 use Rattle.std.specs.Prelude.{◌≡◌, ◌++◌, ℕ, true, false, List, Some, length, take, drop, string_bytes}
 use Rattle.graphql_nodes.specs.Sources.{merged}
 use Rattle.graphql_ast.specs.declared.document.Document.{Document}
@@ -16,11 +17,13 @@ use Rattle.peglinden_run.specs.declared.typed_documents.TypedDocument.{TypedDocu
 use Rattle.peglinden_run.specs.Documents.{AreDocumentsAt}
 use Rattle.peglinden_run.specs.RefusedFiles.{IsFilesReport}
 
--- In all of this `held` says which bytes the file of a path may hold, and `may_fail` whether reading it may fail.
+-- In all of this `held` says which bytes the file of a path may hold, and `may_fail` whether reading it may
+-- fail.
 
 -- the documents are those of files of a schema and of files behind them
 abbrev pub AreBothAt : (List ℕ → List ℕ → Type 0) → List (List ℕ) → List (List ℕ) → List Document → Type 0
-AreBothAt held schema_paths document_paths documents = AreDocumentsAt held 1 (schema_paths ++ document_paths) documents
+AreBothAt held schema_paths document_paths documents =
+    AreDocumentsAt held 1 (schema_paths ++ document_paths) documents
 
 -- of such documents those of the schema
 abbrev pub schema_part : List (List ℕ) → List Document → List Document
@@ -33,22 +36,32 @@ document_part schema_paths documents = drop (length schema_paths) documents
 -- the typed document of files over the schema of files, which has no options; the faults of that schema;
 -- those of the document, in which definitions of the type system are at fault; those of its leaves; and the
 -- source files of both
-pub record IsTyped (held : List ℕ → List ℕ → Type 0) (schema_paths document_paths : List (List ℕ)) (typed : TypedDocument) : Type 0 where
+pub record IsTyped (held : List ℕ → List ℕ
+    → Type 0) (schema_paths document_paths : List (List ℕ)) (typed : TypedDocument) : Type 0 where
   pub schema : Schema
   -- the documents of all files
   pub documents : List Document
   pub read : AreBothAt held schema_paths document_paths documents
   pub means : MeansSchema 0 false (schema_list no_options (schema_part schema_paths documents)) schema
-  pub is : IsDocumentOf (Some schema) (executable_list true (document_part schema_paths documents)) typed.document
-  pub schema_are : typed.findings.schema_faults.items ≡ faults_of false (schema_list no_options (schema_part schema_paths documents))
-  pub are : typed.findings.document_faults.items ≡ document_faults (Some schema) (executable_list true (document_part schema_paths documents))
+  pub is : IsDocumentOf (Some schema) (executable_list true (document_part schema_paths documents))
+      typed.document
+  pub schema_are : typed.findings.schema_faults.items
+      ≡ faults_of false (schema_list no_options (schema_part schema_paths documents))
+  pub are : typed.findings.document_faults.items
+      ≡ document_faults (Some schema) (executable_list true (document_part schema_paths documents))
   pub leaves_are : typed.findings.leaf_faults.items ≡ leaf_faults schema typed.document
-  pub sources : typed.findings.sources ≡ merged (all_sources (schema_part schema_paths documents)) (all_sources (document_part schema_paths documents))
+  pub sources : typed.findings.sources
+      ≡ merged (all_sources (schema_part schema_paths documents))
+      (all_sources (document_part schema_paths documents))
 
--- why there is no such document: a file is refused, or the extensions of the schema spend the numbers; that memory ran out says nothing
--- of the files
-abbrev pub IsTypedCause : (List ℕ → List ℕ → Type 0) → (List ℕ → Type 0) → List (List ℕ) → List (List ℕ) → Failure → Type 0
-IsTypedCause held may_fail schema_paths document_paths (failures.Files reports) = IsFilesReport held may_fail (schema_paths ++ document_paths) (string_bytes reports)
+-- why there is no such document: a file is refused, or the extensions of the schema spend the numbers; that
+-- memory ran out says nothing of the files
+abbrev pub IsTypedCause : (List ℕ → List ℕ → Type 0) → (List ℕ → Type 0) → List (List ℕ) → List (List ℕ)
+    → Failure → Type 0
+IsTypedCause held may_fail schema_paths document_paths (failures.Files reports) =
+    IsFilesReport held may_fail (schema_paths ++ document_paths) (string_bytes reports)
 IsTypedCause held may_fail schema_paths document_paths failures.Memory = Unit {0}
-IsTypedCause held may_fail schema_paths document_paths failures.ExtensionIds = (documents : List Document) × (AreBothAt held schema_paths document_paths documents × SpendsIds 0 false (schema_list no_options (schema_part schema_paths documents)))
+IsTypedCause held may_fail schema_paths document_paths failures.ExtensionIds = (documents : List Document)
+    × (AreBothAt held schema_paths document_paths documents
+    × SpendsIds 0 false (schema_list no_options (schema_part schema_paths documents)))
 IsTypedCause held may_fail schema_paths document_paths _ = ⊥

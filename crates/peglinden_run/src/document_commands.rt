@@ -38,8 +38,12 @@ pub(crate) fn document_answer<F: Files>(
     schema_paths: &[&str],
     document_paths: &[&str],
 ) -> Result<Answer, Failure>
-    ensures means { IfOk result (IsDocumentAnswer (F.holds files.now) shown json (texts_of schema_paths.now) (texts_of document_paths.now)) }
-    ensures causes { IfErr result (IsTypedCause (F.holds files.now) (F.may_fail files.now) (texts_of schema_paths.now) (texts_of document_paths.now)) }
+    ensures means { IfOk result
+        (IsDocumentAnswer (F.holds files.now) shown json (texts_of schema_paths.now)
+        (texts_of document_paths.now)) }
+    ensures causes { IfErr result
+        (IsTypedCause (F.holds files.now) (F.may_fail files.now) (texts_of schema_paths.now)
+        (texts_of document_paths.now)) }
 {
     let typed = type_documents(alloc, keys, files, schema_paths, document_paths)?;
     let output = shown_text(alloc, shown, &typed.document)?;

@@ -1,5 +1,6 @@
 //! The documents that files hold.
-ghost use Rattle.std.specs.Prelude.{◌≡◌, ◌≢◌, ◌∷◌, ◌++◌, ◌↔◌, [], true, IfErr, IfOk, MatchResult, OnOk, string_bytes};
+ghost use Rattle.std.specs.Prelude.{◌≡◌, ◌≢◌, ◌∷◌, ◌++◌, ◌↔◌, [], true, IfErr, IfOk, MatchResult, OnOk};
+ghost use Rattle.std.specs.Prelude.{string_bytes};
 ghost use Rattle.peglinden_run.specs.Documents.{AreDocumentsAt, IsDocumentAt, IsDocumentOf};
 ghost use Rattle.peglinden_run.specs.Documents.{texts_of};
 ghost use Rattle.peglinden_run.specs.RefusedFiles.{IsFilesCause, IsRefusedFile, IsRefusedText};
@@ -17,15 +18,17 @@ use std::alloc::{AllocError, Global};
 
 /// The documents of the files of these paths, each under its place among them as its number, from 1 on.
 ///
-/// `Files` reports each file that can't be read or is no document, and how many they are; all files are looked at. `Memory` comes where
-/// memory ran out. There is no other error.
+/// `Files` reports each file that can't be read or is no document, and how many they are; all files are
+/// looked at. `Memory` comes where memory ran out. There is no other error.
 pub fn read_documents<F: Files>(
     alloc: Global,
     files: &F,
     paths: &[&str],
 ) -> Result<Vec<Document>, Failure>
-    ensures documents { IfOk result (λ documents. AreDocumentsAt (F.holds files.now) 1 (texts_of paths.now) documents.items) }
-    ensures causes { IfErr result (IsFilesCause (F.holds files.now) (F.may_fail files.now) (texts_of paths.now)) }
+    ensures documents { IfOk result (λ documents.
+        AreDocumentsAt (F.holds files.now) 1 (texts_of paths.now) documents.items) }
+    ensures causes { IfErr result
+        (IsFilesCause (F.holds files.now) (F.may_fail files.now) (texts_of paths.now)) }
 {
     let mut documents = Vec::new(alloc);
     let mut reports = String::new(alloc);
@@ -47,15 +50,18 @@ pub fn read_documents<F: Files>(
     Err(Failure::Files(reports))
 }
 
-/// The document of the file of this path, under this number; or the report of why the file can't be read or is no document. The error
-/// is out of memory.
+/// The document of the file of this path, under this number; or the report of why the file can't be read or
+/// is no document. The error is out of memory.
 fn read_file<F: Files>(
     alloc: Global,
     files: &F,
     number: FileId,
     path: &str,
 ) -> Result<Result<Document, String>, AllocError>
-    ensures { number.0 ≢ 0 → IfOk result (λ read. MatchResult read (IsDocumentAt (F.holds files.now) number.0 path.now) (λ report. IsRefusedFile (F.holds files.now) (F.may_fail files.now) number.0 path.now (string_bytes report))) }
+    ensures { number.0 ≢ 0
+        → IfOk result (λ read.
+        MatchResult read (IsDocumentAt (F.holds files.now) number.0 path.now) (λ report.
+        IsRefusedFile (F.holds files.now) (F.may_fail files.now) number.0 path.now (string_bytes report))) }
 {
     match files.read(alloc, path) {
         Ok(text) => parse_text(alloc, number, path, text),
@@ -64,14 +70,18 @@ fn read_file<F: Files>(
     }
 }
 
-/// The document of a text, under this path and number; or the report of why it is none. The error is out of memory.
+/// The document of a text, under this path and number; or the report of why it is none. The error is out of
+/// memory.
 fn parse_text(
     alloc: Global,
     number: FileId,
     path: &str,
     text: String,
 ) -> Result<Result<Document, String>, AllocError>
-    ensures { number.0 ≢ 0 → IfOk result (λ read. MatchResult read (IsDocumentOf number.0 path.now (string_bytes text)) (λ report. IsRefusedText number.0 path.now (string_bytes text) (string_bytes report))) }
+    ensures { number.0 ≢ 0
+        → IfOk result (λ read.
+        MatchResult read (IsDocumentOf number.0 path.now (string_bytes text)) (λ report.
+        IsRefusedText number.0 path.now (string_bytes text) (string_bytes report))) }
 {
     let file = SourceFile {
         path: Text::from_str(alloc, path)?,

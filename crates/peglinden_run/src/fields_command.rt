@@ -1,7 +1,8 @@
 //! The output of the command `fields`.
 ghost use Rattle.std.specs.Prelude.{◌≡◌, ◌++◌, IfOk, OnOk, string_bytes};
 ghost use Rattle.std.specs.List.{flat_map};
-ghost use Rattle.peglinden_run.specs.FieldsCommand.{fields_text, operation_fields, operation_line, usage_line};
+ghost use Rattle.peglinden_run.specs.FieldsCommand.{fields_text, operation_fields, operation_line};
+ghost use Rattle.peglinden_run.specs.FieldsCommand.{usage_line};
 
 use apollo_executable::document::ExecutableDocument;
 use apollo_executable::operation::Operation;
@@ -31,7 +32,8 @@ fn push_fields(
     document: &ExecutableDocument,
     operation: &Operation,
 ) -> Result<(), AllocError>
-    ensures { OnOk result (string_bytes text.new ≡ string_bytes text.old ++ operation_fields document.now operation.now) }
+    ensures { OnOk result (string_bytes text.new
+        ≡ string_bytes text.old ++ operation_fields document.now operation.now) }
 {
     push_operation(text, operation)?;
     let usages = field_usage(alloc, document, operation)?;

@@ -1,6 +1,7 @@
 //! What is at fault in a schema and in documents over it.
 ghost use Rattle.std.specs.Prelude.{◌≡◌, IfOk, OnOk, string_bytes};
-ghost use Rattle.peglinden_run.specs.Findings.{AreJsonLines, AreReports, IsAnswerOf, IsLeafLine, IsLeafReport, any_fault, fault_count};
+ghost use Rattle.peglinden_run.specs.Findings.{AreJsonLines, AreReports, IsAnswerOf, IsLeafLine};
+ghost use Rattle.peglinden_run.specs.Findings.{IsLeafReport, any_fault, fault_count};
 ghost use Rattle.peglinden_run.specs.Findings.{found_in, of_schema};
 ghost use Rattle.peglinden_run.specs.Reports.{Adds, SaysEach};
 
@@ -55,7 +56,8 @@ impl Findings {
             .saturating_add(self.leaf_faults.len())
     }
 
-    /// The reports of all faults, and how many there are; nothing where there is none. The error is out of memory.
+    /// The reports of all faults, and how many there are; nothing where there is none. The error is out of
+    /// memory.
     #[tactic(auto, using(crate::proofs::NoFaults::nothing_reported))]
     fn reports(&self, alloc: Global) -> Result<String, AllocError>
         ensures { IfOk result (λ reports. AreReports (found_in self.now) (string_bytes reports)) }
@@ -109,8 +111,8 @@ impl Findings {
         Ok(lines)
     }
 
-    /// The answer of this output and the reports of these faults, or with `json` of the JSON of the faults alone. The error is out of
-    /// memory.
+    /// The answer of this output and the reports of these faults, or with `json` of the JSON of the faults
+    /// alone. The error is out of memory.
     pub fn answer(&self, alloc: Global, json: bool, output: String) -> Result<Answer, AllocError>
         ensures { IfOk result (IsAnswerOf json (found_in self.now) (string_bytes output)) }
     {
@@ -137,7 +139,9 @@ fn push_leaf_reports<S: Sources>(
     sources: &S,
     faults: &[LeafFault],
 ) -> Result<(), AllocError>
-    ensures { OnOk result (Adds (SaysEach (IsLeafReport (S.files sources.now)) faults.now) (string_bytes reports.old) (string_bytes reports.new)) }
+    ensures { OnOk result
+        (Adds (SaysEach (IsLeafReport (S.files sources.now)) faults.now) (string_bytes reports.old)
+        (string_bytes reports.new)) }
 {
     for fault in faults {
         push_report(alloc, reports, sources, fault.location, fault)?;
@@ -152,7 +156,9 @@ fn push_leaf_lines<S: Sources>(
     sources: &S,
     faults: &[LeafFault],
 ) -> Result<(), AllocError>
-    ensures { OnOk result (Adds (SaysEach (IsLeafLine (S.files sources.now)) faults.now) (string_bytes lines.old) (string_bytes lines.new)) }
+    ensures { OnOk result
+        (Adds (SaysEach (IsLeafLine (S.files sources.now)) faults.now) (string_bytes lines.old)
+        (string_bytes lines.new)) }
 {
     for fault in faults {
         push_json(alloc, lines, sources, fault.location, fault)?;

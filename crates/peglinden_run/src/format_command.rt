@@ -27,7 +27,8 @@ pub(crate) fn format_answer<F: Files>(
     paths: &[&str],
 ) -> Result<Answer, Failure>
     ensures means { IfOk result (IsFormatAnswer (F.holds files.now) check (texts_of paths.now)) }
-    ensures causes { IfErr result (IsFilesCause (F.holds files.now) (F.may_fail files.now) (texts_of paths.now)) }
+    ensures causes { IfErr result
+        (IsFilesCause (F.holds files.now) (F.may_fail files.now) (texts_of paths.now)) }
 {
     let documents = read_documents(alloc, files, paths)?;
     let output = if check {

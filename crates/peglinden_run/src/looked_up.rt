@@ -12,7 +12,8 @@ use graphql_nodes::node::Node;
 use graphql_nodes::source::{SourceMap, SourceSpan};
 use std::alloc::{AllocError, Global};
 
-/// What is written of what a coordinate points to: where that stands, as a comment, and its definition. The error is out of memory.
+/// What is written of what a coordinate points to: where that stands, as a comment, and its definition. The
+/// error is out of memory.
 pub(crate) fn found_text(
     alloc: Global,
     sources: &SourceMap,
@@ -40,14 +41,16 @@ fn found_location(found: SchemaCoordinateLookup<'_>) -> Option<SourceSpan>
     }
 }
 
-/// Adds a comment that says where something stands; what stands in no file is built-in. The error is out of memory.
+/// Adds a comment that says where something stands; what stands in no file is built-in. The error is out of
+/// memory.
 fn push_place(
     alloc: Global,
     text: &mut String,
     sources: &SourceMap,
     location: Option<SourceSpan>,
 ) -> Result<(), AllocError>
-    ensures { OnOk result (string_bytes text.new ≡ string_bytes text.old ++ place_comment sources.now location) }
+    ensures { OnOk result (string_bytes text.new
+        ≡ string_bytes text.old ++ place_comment sources.now location) }
 {
     match location {
         Some(span) if span.file.0 != 0 => {
@@ -59,8 +62,8 @@ fn push_place(
     }
 }
 
-/// The definition that a coordinate points to, with a line end: of a type with its extensions, and of a field, an input field, an
-/// argument or an enum value alone. The error is out of memory.
+/// The definition that a coordinate points to, with a line end: of a type with its extensions, and of a
+/// field, an input field, an argument or an enum value alone. The error is out of memory.
 fn found_definition(alloc: Global, found: SchemaCoordinateLookup<'_>) -> Result<String, AllocError>
     ensures { IfOk result (λ text. string_bytes text ≡ found_definition found.entry) }
 {

@@ -16,9 +16,9 @@ use graphql_nodes::collections::hash_keys::HashKeys;
 use program_io::files::Files;
 use std::alloc::{AllocError, Global};
 
-/// The answer of `lookup` to files: where what the coordinate points to in the schema of their documents stands, as a comment, and below
-/// it its definition. Nothing is written where it points to nothing, which is at fault, and is reported. What is at fault in the schema
-/// is passed over.
+/// The answer of `lookup` to files: where what the coordinate points to in the schema of their documents
+/// stands, as a comment, and below it its definition. Nothing is written where it points to nothing, which is
+/// at fault, and is reported. What is at fault in the schema is passed over.
 ///
 /// `NoCoordinate` comes for a text that is no coordinate, before a file is read. `Files` comes where a file
 /// can't be read or is no document. `ExtensionIds` comes only where the numbers don't suffice for the
@@ -31,7 +31,8 @@ pub(crate) fn lookup_answer<F: Files>(
     paths: &[&str],
 ) -> Result<Answer, Failure>
     ensures means { IfOk result (IsLookupAnswer (F.holds files.now) coordinate.now (texts_of paths.now)) }
-    ensures causes { IfErr result (IsLookupCause (F.holds files.now) (F.may_fail files.now) coordinate.now (texts_of paths.now)) }
+    ensures causes { IfErr result
+        (IsLookupCause (F.holds files.now) (F.may_fail files.now) coordinate.now (texts_of paths.now)) }
 {
     let coordinate = read_coordinate(alloc, coordinate)?;
     let documents = read_documents(alloc, files, paths)?;

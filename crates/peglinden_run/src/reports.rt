@@ -17,7 +17,8 @@ use graphql_text::parse_error::ParseError;
 use program_io::file_error::FileError;
 use std::alloc::{AllocError, Global};
 
-/// The report that the file of this path isn't read, with the words of the system, and an empty line. The error is out of memory.
+/// The report that the file of this path isn't read, with the words of the system, and an empty line. The
+/// error is out of memory.
 pub(crate) fn unread_report(
     alloc: Global,
     path: &str,
@@ -29,7 +30,8 @@ pub(crate) fn unread_report(
     unread_text(alloc, path, why.as_str())
 }
 
-/// The report that the file of this path isn't read, with these words, and an empty line. The error is out of memory.
+/// The report that the file of this path isn't read, with these words, and an empty line. The error is out of
+/// memory.
 fn unread_text(alloc: Global, path: &str, why: &str) -> Result<String, AllocError>
     ensures { IfOk result (λ report. string_bytes report ≡ unread_text path.now why.now) }
 {
@@ -47,7 +49,9 @@ pub(crate) fn parse_report(
     source: &Shared<SourceFile>,
     error: &ParseError,
 ) -> Result<String, AllocError>
-    ensures { IfOk result (λ report. IsReport ((number, source.now) ∷ []) (Some error.now.location) (parse_error_about error.now) (string_bytes report)) }
+    ensures { IfOk result (λ report.
+        IsReport ((number, source.now) ∷ []) (Some error.now.location) (parse_error_about error.now)
+        (string_bytes report)) }
 {
     let mut sources = Table::new(alloc);
     sources.insert(number, source.clone()?)?;
@@ -65,7 +69,9 @@ pub(crate) fn push_report<S: Sources, E: Reported>(
     location: Option<SourceSpan>,
     fault: &E,
 ) -> Result<(), AllocError>
-    ensures { OnOk result (Adds (IsReport (S.files sources.now) location (E.said_about fault.now)) (string_bytes reports.old) (string_bytes reports.new)) }
+    ensures { OnOk result
+        (Adds (IsReport (S.files sources.now) location (E.said_about fault.now)) (string_bytes reports.old)
+        (string_bytes reports.new)) }
 {
     let report = report_text(alloc, sources, location, fault)?;
     reports.push_str(report.as_str())?;
@@ -79,7 +85,9 @@ pub(crate) fn push_reports<S: Sources, E: Reported>(
     sources: &S,
     faults: &[(Option<SourceSpan>, E)],
 ) -> Result<(), AllocError>
-    ensures { OnOk result (Adds (SaysEach (λ fault. IsReport (S.files sources.now) fault.0 (E.said_about fault.1)) faults.now) (string_bytes reports.old) (string_bytes reports.new)) }
+    ensures { OnOk result
+        (Adds (SaysEach (λ fault. IsReport (S.files sources.now) fault.0 (E.said_about fault.1)) faults.now)
+        (string_bytes reports.old) (string_bytes reports.new)) }
 {
     for fault in faults {
         push_report(alloc, reports, sources, fault.0, &fault.1)?;
@@ -111,7 +119,9 @@ pub(crate) fn push_json<S: Sources, E: Reported>(
     location: Option<SourceSpan>,
     fault: &E,
 ) -> Result<(), AllocError>
-    ensures { OnOk result (Adds (IsJsonLine (S.files sources.now) location (E.said_about fault.now) (E.said_details fault.now)) (string_bytes lines.old) (string_bytes lines.new)) }
+    ensures { OnOk result
+        (Adds (IsJsonLine (S.files sources.now) location (E.said_about fault.now)
+        (E.said_details fault.now)) (string_bytes lines.old) (string_bytes lines.new)) }
 {
     lines.push_str(to_json(alloc, sources, location, fault)?.as_str())?;
     lines.push_str("\n")
@@ -124,7 +134,10 @@ pub(crate) fn push_json_lines<S: Sources, E: Reported>(
     sources: &S,
     faults: &[(Option<SourceSpan>, E)],
 ) -> Result<(), AllocError>
-    ensures { OnOk result (Adds (SaysEach (λ fault. IsJsonLine (S.files sources.now) fault.0 (E.said_about fault.1) (E.said_details fault.1)) faults.now) (string_bytes lines.old) (string_bytes lines.new)) }
+    ensures { OnOk result
+        (Adds (SaysEach (λ fault.
+        IsJsonLine (S.files sources.now) fault.0 (E.said_about fault.1) (E.said_details fault.1)) faults.now)
+        (string_bytes lines.old) (string_bytes lines.new)) }
 {
     for fault in faults {
         push_json(alloc, lines, sources, fault.0, &fault.1)?;

@@ -25,19 +25,20 @@ use std::io::{self, ErrorKind, Write};
 
 /// Runs the program on the words that follow its name, and answers how that ended.
 ///
-/// `Done` and `Faults`: exactly the answer to the request that the words make stands on `output`, behind what was there; or with `Done`
-/// the text of `--help` or of `--version`. With `Done` nothing was written on `errors`; with `Faults` there are the reports of what is at
-/// fault, but with `--json` and for `format`, which say it on `output`. The output is written only once all of it is there.
+/// `Done` and `Faults`: exactly the answer to the request that the words make stands on `output`, behind what
+/// was there; or with `Done` the text of `--help` or of `--version`. With `Done` nothing was written on
+/// `errors`; with `Faults` there are the reports of what is at fault, but with `--json` and for `format`,
+/// which say it on `output`. The output is written only once all of it is there.
 ///
-/// `Refused` and `Exhausted`: nothing was written on `output`, and `errors` says why: the words make no request; a file, or standard
-/// input, can't be read or is no document, where each such file is reported; a text is no coordinate; or memory or the numbers of
-/// extensions ran out.
+/// `Refused` and `Exhausted`: nothing was written on `output`, and `errors` says why: the words make no
+/// request; a file, or standard input, can't be read or is no document, where each such file is reported; a
+/// text is no coordinate; or memory or the numbers of extensions ran out.
 ///
-/// `NotWritten`: there was an answer, and the writer failed, or its flush did: what went out is a beginning of the output, perhaps all
-/// of it. `errors` says so, unless the writer is a closed pipe.
+/// `NotWritten`: there was an answer, and the writer failed, or its flush did: what went out is a beginning
+/// of the output, perhaps all of it. `errors` says so, unless the writer is a closed pipe.
 ///
-/// Where `errors` fails, a beginning of what it should say stands there, and that changes nothing else. All tables hash by these keys, and
-/// what is written is the same under any.
+/// Where `errors` fails, a beginning of what it should say stands there, and that changes nothing else. All
+/// tables hash by these keys, and what is written is the same under any.
 pub fn run<F: Files, R: Input, O: Write, E: Write>(
     alloc: Global,
     keys: HashKeys,
@@ -47,7 +48,9 @@ pub fn run<F: Files, R: Input, O: Write, E: Write>(
     output: &mut O,
     errors: &mut E,
 ) -> Status
-    ensures run { IsRunOn (texts words.now) (R.holds reader.old) (R.may_fail reader.old) (F.holds files.now) (F.may_fail files.now) reader.old reader.new (O.contents output.old) (O.contents output.new) (E.contents errors.old) (E.contents errors.new) result }
+    ensures run { IsRunOn (texts words.now) (R.holds reader.old) (R.may_fail reader.old) (F.holds files.now)
+        (F.may_fail files.now) reader.old reader.new (O.contents output.old) (O.contents output.new)
+        (E.contents errors.old) (E.contents errors.new) result }
     ensures unanswered { IsUnanswered result → output.new ≡ output.old }
     ensures quiet { result ≡ Status.Done → errors.new ≡ errors.old }
 {
@@ -59,8 +62,8 @@ pub fn run<F: Files, R: Input, O: Write, E: Write>(
     }
 }
 
-/// Runs a request, and answers how that ended. Standard input is read where the request names it, before the files; where that fails, it
-/// is reported as a file that can't be read is.
+/// Runs a request, and answers how that ended. Standard input is read where the request names it, before the
+/// files; where that fails, it is reported as a file that can't be read is.
 pub fn run_request<F: Files, R: Input, O: Write, E: Write>(
     alloc: Global,
     keys: HashKeys,
@@ -70,7 +73,9 @@ pub fn run_request<F: Files, R: Input, O: Write, E: Write>(
     output: &mut O,
     errors: &mut E,
 ) -> Status
-    ensures ends { EndsAs (names_input request.now) request.now (R.holds reader.old) (R.may_fail reader.old) (F.holds files.now) (F.may_fail files.now) reader.old reader.new (O.contents output.old) (O.contents output.new) (E.contents errors.old) (E.contents errors.new) result }
+    ensures ends { EndsAs (names_input request.now) request.now (R.holds reader.old) (R.may_fail reader.old)
+        (F.holds files.now) (F.may_fail files.now) reader.old reader.new (O.contents output.old)
+        (O.contents output.new) (E.contents errors.old) (E.contents errors.new) result }
     ensures unanswered { IsUnanswered result → output.new ≡ output.old }
     ensures quiet { result ≡ Status.Done → errors.new ≡ errors.old }
 {
@@ -97,7 +102,8 @@ fn run_over<F: Files, O: Write, E: Write>(
     output: &mut O,
     errors: &mut E,
 ) -> Status
-    ensures ends { MayEnd request.now (F.holds files.now) (F.may_fail files.now) (O.contents output.old) (O.contents output.new) (E.contents errors.old) (E.contents errors.new) result }
+    ensures ends { MayEnd request.now (F.holds files.now) (F.may_fail files.now) (O.contents output.old)
+        (O.contents output.new) (E.contents errors.old) (E.contents errors.new) result }
     ensures unanswered { IsUnanswered result → output.new ≡ output.old }
     ensures quiet { result ≡ Status.Done → errors.new ≡ errors.old }
 {
@@ -109,7 +115,8 @@ fn run_over<F: Files, O: Write, E: Write>(
 
 /// Writes an answer, and ends as that went.
 fn end_with_answer<O: Write, E: Write>(answer: &Answer, output: &mut O, errors: &mut E) -> Status
-    ensures written { IsWritten answer.now (O.contents output.old) (O.contents output.new) (E.contents errors.old) (E.contents errors.new) result }
+    ensures written { IsWritten answer.now (O.contents output.old) (O.contents output.new)
+        (E.contents errors.old) (E.contents errors.new) result }
     ensures quiet { result ≡ Status.Done → errors.new ≡ errors.old }
 {
     match write_out(output, answer.output.as_str()) {

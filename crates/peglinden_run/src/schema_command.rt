@@ -31,7 +31,8 @@ pub(crate) fn schema_answer<F: Files>(
     paths: &[&str],
 ) -> Result<Answer, Failure>
     ensures means { IfOk result (IsSchemaAnswer (F.holds files.now) options json (texts_of paths.now)) }
-    ensures causes { IfErr result (IsSchemaCause (F.holds files.now) (F.may_fail files.now) options (texts_of paths.now)) }
+    ensures causes { IfErr result
+        (IsSchemaCause (F.holds files.now) (F.may_fail files.now) options (texts_of paths.now)) }
 {
     let (schema, faults) = read_schema(alloc, keys, options, files, paths)?;
     let (written, sources) = written_out(alloc, schema)?;

@@ -24,8 +24,10 @@ pub(crate) fn read_schema<F: Files>(
     files: &F,
     paths: &[&str],
 ) -> Result<(Schema, Faults), Failure>
-    ensures means { IfOk result (λ built. IsSchemaOf (F.holds files.now) options (texts_of paths.now) built.0 built.1.items) }
-    ensures causes { IfErr result (IsSchemaCause (F.holds files.now) (F.may_fail files.now) options (texts_of paths.now)) }
+    ensures means { IfOk result (λ built.
+        IsSchemaOf (F.holds files.now) options (texts_of paths.now) built.0 built.1.items) }
+    ensures causes { IfErr result
+        (IsSchemaCause (F.holds files.now) (F.may_fail files.now) options (texts_of paths.now)) }
 {
     let documents = read_documents(alloc, files, paths)?;
     let (schema, faults) = build_schema(alloc, keys, options, documents.as_slice())?;

@@ -38,8 +38,11 @@ pub(crate) fn type_documents<F: Files>(
     schema_paths: &[&str],
     document_paths: &[&str],
 ) -> Result<TypedDocument, Failure>
-    ensures typed { IfOk result (IsTyped (F.holds files.now) (texts_of schema_paths.now) (texts_of document_paths.now)) }
-    ensures causes { IfErr result (IsTypedCause (F.holds files.now) (F.may_fail files.now) (texts_of schema_paths.now) (texts_of document_paths.now)) }
+    ensures typed { IfOk result
+        (IsTyped (F.holds files.now) (texts_of schema_paths.now) (texts_of document_paths.now)) }
+    ensures causes { IfErr result
+        (IsTypedCause (F.holds files.now) (F.may_fail files.now) (texts_of schema_paths.now)
+        (texts_of document_paths.now)) }
 {
     let mut paths = Vec::new(alloc);
     paths.extend_from_slice(schema_paths)?;

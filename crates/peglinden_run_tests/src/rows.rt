@@ -1,4 +1,5 @@
-//! Rows of runs. What a run promises stands in its contract. Here nothing is promised, so that no test carries it along.
+//! Rows of runs. What a run promises stands in its contract. Here nothing is promised, so that no test
+//! carries it along.
 
 use graphql_nodes::collections::hash_keys::HashKeys;
 use peglinden_run::running::run;
@@ -18,8 +19,8 @@ pub struct Row {
     pub status: Status,
 }
 
-/// The files of the rows: a schema and documents over it, one with a fault, and a schema with one; and texts of
-/// every sort, one of them in a file whose name has a control character.
+/// The files of the rows: a schema and documents over it, one with a fault, and a schema with one; and texts
+/// of every sort, one of them in a file whose name has a control character.
 pub static FILES: [(&str, &[u8]); 11] = [
     ("store.graphql", STORE),
     ("page.graphql", PAGE),

@@ -1,5 +1,6 @@
 -- Files by their paths, and what keeps one from being read.
-use Rattle.std.specs.Prelude.{◌⊎◌, ℕ, Bool, true, false, List, [], ◌∷◌, Option, None, Some, IsUtf8, codes, nat_eq, if◌then◌else◌}
+use Rattle.std.specs.Prelude.{◌⊎◌, ℕ, Bool, true, false, List, [], ◌∷◌, Option, None, Some, IsUtf8, codes}
+use Rattle.std.specs.Prelude.{nat_eq, if◌then◌else◌}
 use Rattle.std.specs.Borrow.{Bor}
 use Rattle.std.specs.Cmp.Lexicographic.{pointwise}
 use Rattle.program_io.specs.declared.file_error.FileError.{FileError}
@@ -23,7 +24,8 @@ IsReadCause may_fail (errors.CannotRead error) = may_fail
 IsReadCause may_fail errors.NotText = ⊥
 IsReadCause may_fail errors.Memory = Unit {0}
 
--- why a file is not read that may hold these bytes, and may fail for this; that memory ran out says nothing of it
+-- why a file is not read that may hold these bytes, and may fail for this; that memory ran out says nothing
+-- of it
 abbrev pub IsFileCause : (List ℕ → Type 0) → Type 0 → FileError → Type 0
 IsFileCause held may_fail (errors.CannotRead error) = may_fail
 IsFileCause held may_fail errors.NotText = HoldsSome held IsNoText
@@ -41,14 +43,16 @@ is_input path = pointwise nat_eq path (codes "-")
 -- the bytes of the first of these files that has the path, if one has
 abbrev pub bytes_at : List (Bor (List ℕ) × Bor (List ℕ)) → List ℕ → Option (List ℕ)
 bytes_at [] path = None
-bytes_at (file ∷ files) path = if pointwise nat_eq file.0.now path then Some file.1.now else bytes_at files path
+bytes_at (file ∷ files) path = if pointwise nat_eq file.0.now path then Some file.1.now
+    else bytes_at files path
 
 -- where the flag is set, the one holds, and else the other
 abbrev pub OneOf : Bool → Type 0 → Type 0 → Type 0
 OneOf true one other = one
 OneOf false one other = other
 
--- the file of a path may hold these bytes, where standard input may hold those of `input`, and a file those of `files`
+-- the file of a path may hold these bytes, where standard input may hold those of `input`, and a file those
+-- of `files`
 abbrev pub with_input : (List ℕ → Type 0) → (List ℕ → List ℕ → Type 0) → List ℕ → List ℕ → Type 0
 with_input input files path bytes = OneOf (is_input path) (input bytes) (files path bytes)
 

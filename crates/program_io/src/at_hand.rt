@@ -9,8 +9,8 @@ use crate::reading::text_of_copy;
 use std::alloc::Global;
 use std::io::{self, ErrorKind};
 
-/// Files in memory: their paths and their bytes. Of two files of one path the first counts. A path of none is not found; reading
-/// a file that is there fails only where it isn't UTF-8, or memory runs out.
+/// Files in memory: their paths and their bytes. Of two files of one path the first counts. A path of none is
+/// not found; reading a file that is there fails only where it isn't UTF-8, or memory runs out.
 #[derive(Clone, Copy)]
 pub struct FilesAtHand<'a>(pub &'a [(&'a str, &'a [u8])]);
 

@@ -3,7 +3,8 @@
 use std::io;
 use thiserror::Error;
 
-/// Why a file, or standard input, is not read. `Display` says it in the words of the system, where the system refused it.
+/// Why a file, or standard input, is not read. `Display` says it in the words of the system, where the system
+/// refused it.
 #[derive(Debug, Clone, Copy, Error)]
 pub enum FileError {
     /// The system refused to open or to read it.

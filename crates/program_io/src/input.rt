@@ -7,8 +7,8 @@ use std::io::Read;
 
 /// What is read as a whole: any reader, or [`BytesAtHand`].
 ///
-/// The contract of `Read` has no word for a reader that fails. Here there is one, so that whoever reads an input can say that
-/// nothing else keeps it from being read.
+/// The contract of `Read` has no word for a reader that fails. Here there is one, so that whoever reads an
+/// input can say that nothing else keeps it from being read.
 pub trait Input {
     ghost use Rattle.std.specs.Prelude.{ℕ, List, IfErr, IfOk};
     ghost use Rattle.program_io.specs.Files.{IsReadCause};
@@ -19,8 +19,8 @@ pub trait Input {
     // Reading may fail.
     ghost may_fail: { Self → Type 0 };
 
-    /// All bytes that there are to read. The error is `Memory` where memory ran out, and `CannotRead` where reading fails. There
-    /// is no other error. What was read is then dropped.
+    /// All bytes that there are to read. The error is `Memory` where memory ran out, and `CannotRead` where
+    /// reading fails. There is no other error. What was read is then dropped.
     fn read_all(&mut self, alloc: Global) -> Result<Vec<u8>, FileError>
         ensures bytes { IfOk result (λ bytes. holds self.old bytes.items) }
         ensures causes { IfErr result (IsReadCause (may_fail self.old)) };

@@ -7,8 +7,8 @@ use crate::input::Input;
 use std::alloc::Global;
 use std::io::{self, ErrorKind};
 
-/// All that there is to read, as a text of exactly its bytes. The error is `Memory` where memory ran out, `NotText` where the bytes
-/// are not UTF-8, and `CannotRead` where reading fails. There is no other error.
+/// All that there is to read, as a text of exactly its bytes. The error is `Memory` where memory ran out,
+/// `NotText` where the bytes are not UTF-8, and `CannotRead` where reading fails. There is no other error.
 pub fn read_text<R: Input>(alloc: Global, input: &mut R) -> Result<String, FileError>
     ensures text { IfOk result (λ text. R.holds input.old (string_bytes text)) }
     ensures causes { IfErr result (IsFileCause (R.holds input.old) (R.may_fail input.old)) }

@@ -15,8 +15,9 @@ pub fn is_input(path: &str) -> bool
     path == "-"
 }
 
-/// Files, and what reading standard input gave, which has the path `-`: all its bytes, or an error. Reading that path gives a text
-/// of these bytes, or that error; so the error is never `NotText`, which is no error of reading bytes.
+/// Files, and what reading standard input gave, which has the path `-`: all its bytes, or an error. Reading
+/// that path gives a text of these bytes, or that error; so the error is never `NotText`, which is no error
+/// of reading bytes.
 pub struct WithInput<'a, F> {
     pub files: &'a F,
     pub input: Result<Vec<u8>, FileError>,
@@ -33,9 +34,12 @@ impl<F: Files> Files for WithInput<'_, F> {
     ghost use Rattle.std.specs.Prelude.{◌≡◌, MatchResult};
     ghost use Rattle.program_io.specs.Files.{IsRefusal, may_fail_with_input, with_input};
 
-    ghost holds = { λ it. with_input (λ bytes. MatchResult it.input (λ read. bytes ≡ read.items) (λ _. ⊥)) (F.holds it.files.now) };
+    ghost holds = { λ it.
+        with_input (λ bytes. MatchResult it.input (λ read. bytes ≡ read.items) (λ _. ⊥))
+        (F.holds it.files.now) };
 
-    ghost may_fail = { λ it. may_fail_with_input (MatchResult it.input (λ _. ⊥) IsRefusal) (F.may_fail it.files.now) };
+    ghost may_fail = { λ it.
+        may_fail_with_input (MatchResult it.input (λ _. ⊥) IsRefusal) (F.may_fail it.files.now) };
 
     fn read(&self, alloc: Global, path: &str) -> Result<String, FileError> {
         if !is_input(path) {

@@ -6,7 +6,8 @@ ghost use Rattle.program_io.specs.Writing.{IsBegun};
 
 use std::io::{self, ErrorKind, Write};
 
-/// Writes all of a text, and has it written through. The error is the writer's, after which a beginning of the text is written.
+/// Writes all of a text, and has it written through. The error is the writer's, after which a beginning of
+/// the text is written.
 pub fn write_out<O: Write>(output: &mut O, text: &str) -> io::Result<()>
     ensures written { OnOk result (Appends (O.contents output.old) (O.contents output.new) text.now) }
     ensures begun { OnErr result (IsBegun text.now (O.contents output.old) (O.contents output.new)) }

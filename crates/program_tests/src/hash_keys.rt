@@ -1,4 +1,5 @@
-//! Runs under keys that were drawn, beside the same under fixed ones, and the keys of what is built for a run.
+//! Runs under keys that were drawn, beside the same under fixed ones, and the keys of what is built for a
+//! run.
 
 use crate::running::ended;
 use apollo_compiler::{CompileOptions, Compiled};
@@ -50,8 +51,8 @@ fn schemas_are_written_the_same_under_any_keys(rt: HostRuntime) {
     expect_same(&rt, &["coord", "User.node(to:)"], SCHEMA, Status::Faults);
 }
 
-/// Operations and fragments behind a schema, which lead to one another, with names that are there already and a field that
-/// lacks subselections.
+/// Operations and fragments behind a schema, which lead to one another, with names that are there already and
+/// a field that lacks subselections.
 const DIVIDED: &str =
     "def object Query\nfield a Int\nfield b Query\n===\noperation query One\nsel 0 field b\nsel 1 spread F\nsel 1 field a first\nsel 1 field gone\noperation query Two\nsel 0 spread G\nsel 0 spread F\n---\noperation query One\nfragment F Query\nsel 0 field a\nsel 0 field b\nsel 1 spread G\nfragment G Query\nsel 0 inline Query\nsel 1 field b\nsel 2 spread F\nfragment H Query\nsel 0 field a\nsel 0 field b\nfragment G Query\nsel 0 spread H\n";
 

@@ -1,4 +1,5 @@
-//! Tests of the program `gqltool`, of what rows can't say; and readers and writers that fail, which tests of the tools have, too.
+//! Tests of the program `gqltool`, of what rows can't say; and readers and writers that fail, which tests of
+//! the tools have, too.
 //!
 //! What stands here serves tests: calls have no clause.
 #![tactic(auto)]

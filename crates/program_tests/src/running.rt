@@ -1,4 +1,5 @@
-//! Runs of `gqltool`. What a run promises stands in its contract. Here nothing is promised, so that no test carries it along.
+//! Runs of `gqltool`. What a run promises stands in its contract. Here nothing is promised, so that no test
+//! carries it along.
 
 use gqltool_run::answer::Answer;
 use gqltool_run::answering::answer_to;

@@ -1,4 +1,5 @@
-//! Runs whose reader or writers fail, or whose input is no text or bytes at hand; and the causes for which there is no answer.
+//! Runs whose reader or writers fail, or whose input is no text or bytes at hand; and the causes for which
+//! there is no answer.
 
 use crate::failing::{FailingReader, FailingWriter};
 use crate::running::{answer_on, ended, expect_run};

@@ -1,4 +1,5 @@
-//! Words, names, nodes, and the containers of trees. Of an option and a list what is there is written, and nothing around it.
+//! Words, names, nodes, and the containers of trees. Of an option and a list what is there is written, and
+//! nothing around it.
 
 use crate::Tell;
 use graphql_nodes::collections::items::Items;
@@ -90,7 +91,8 @@ impl<T: Tell> Tell for &[T] {
     }
 }
 
-/// Tells each value of a list. A slice in a variable goes to this function, since a method would lend the variable.
+/// Tells each value of a list. A slice in a variable goes to this function, since a method would lend the
+/// variable.
 pub fn tell_all<T: Tell>(values: &[T], text: &mut String) -> Result<(), AllocError> {
     for value in values {
         value.tell(text)?;

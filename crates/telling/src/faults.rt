@@ -1,4 +1,5 @@
-//! Faults, a line for each: where it is, its text, and what it holds that the text doesn't say, locations and paths.
+//! Faults, a line for each: where it is, its text, and what it holds that the text doesn't say, locations and
+//! paths.
 
 use crate::Tell;
 use crate::containers::At;

@@ -1,6 +1,6 @@
-//! Values written as text, in full and in order: each name, text and number of a tree, each location and origin, and each
-//! fault. Two values that differ in any of these are written otherwise. Hash keys are not written, but asked for. None has a
-//! clause but that it is safe: tests compare the texts.
+//! Values written as text, in full and in order: each name, text and number of a tree, each location and
+//! origin, and each fault. Two values that differ in any of these are written otherwise. Hash keys are not
+//! written, but asked for. None has a clause but that it is safe: tests compare the texts.
 #![tactic(auto)]
 
 use std::alloc::AllocError;
@@ -24,6 +24,7 @@ pub mod walks;
 
 /// A value that is written in full.
 pub trait Tell {
-    /// Adds all of it. The error is out of memory, which is asked for nothing but the text: where that has room, none is.
+    /// Adds all of it. The error is out of memory, which is asked for nothing but the text: where that has
+    /// room, none is.
     fn tell(&self, text: &mut String) -> Result<(), AllocError>;
 }

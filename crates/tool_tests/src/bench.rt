@@ -119,7 +119,8 @@ sel 0 field zz
 /// GraphQL text of both sorts.
 const TEXT: &str = "type Query { a: Int }\n\n{ a }\n";
 
-/// The word of a work, the options of a build and a number, an input, and the report, as lines and as objects.
+/// The word of a work, the options of a build and a number, an input, and the report, as lines and as
+/// objects.
 const REPORTS: [(&str, &[&str], &str, &str, &str); 8] = [
     (
         "schema",

@@ -30,7 +30,8 @@ schema_numbers-parts start xs s h =
     sym (map-map (λ (e : SourcedSchema). e.1) schema_extension_source (schema_numbers start (folding_order xs)))
     ∙ folded-of_schema start xs s h
 
--- a schema definition that isn't written in a list has nothing of its own but implied roots, if the list implies these
+-- a schema definition that isn't written in a list has nothing of its own but implied roots, if the list
+-- implies these
 pub record IsMeantSchema (d : SchemaDefinition) (implied : List Root) : Type 0 where
   pub made : IsMadeBy made_schema d
   pub description : has_own_root d ≡ false → d.description ≡ None

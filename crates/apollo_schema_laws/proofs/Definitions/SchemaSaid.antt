@@ -1,4 +1,5 @@
--- What is written of a schema definition: of two that say the same, of one of roots alone, and of one that is left out.
+-- What is written of a schema definition: of two that say the same, of one of roots alone, and of one that is
+-- left out.
 use Rattle.apollo_schema_laws.proofs.Words.Lists.{◌≡◌, ℕ, Bool, true, false, cond, not, ◌||◌, ◌&&◌, List, [], ◌∷◌, ◌++◌, None, Option, Some, is_none, map, find, flat_map, length, option_map, refl, sym, ap, ◌∙◌, ◌==◌, length-map, map-map, cons_option, list_any, option_eq, nat_eq, true≢false, arith, and_parts, nat_tests, list_all, flat_map-map, IsDistinct, map-flat_map, nil_from_length}
 use Rattle.apollo_schema_laws.proofs.Words.Syntax.{NameView, OperationType, Query, Mutation, Subscription, SourceSpan, schema_definition, schema_extension, Parts, Directive, bare_name, default_type_text, same-true, bare_directive, same-refl}
 use Rattle.apollo_schema_laws.proofs.Words.Types.{extension_location, same_origin, identities, origins_in, Component, ComponentName, PartsByOrigin, ExtensionId, has_implied_root, has_own_root, implied_name, is_written, schema_components, write_schema_definition, root_of, ExtendedType, SchemaDefinition, bare_component, bare_component_name, bare_schema_definition, is_implied, operation_types}

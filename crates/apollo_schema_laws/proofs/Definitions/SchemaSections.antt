@@ -1,4 +1,5 @@
--- The components of a schema definition, whose roots stand in the order of the operation types, and the definition that written parts make again.
+-- The components of a schema definition, whose roots stand in the order of the operation types, and the
+-- definition that written parts make again.
 use Rattle.apollo_schema_laws.proofs.Words.Lists.{◌≡◌, Bool, true, cond, List, [], ◌∷◌, ◌++◌, None, Option, Some, map, filter, flat_map, option_map, refl, sym, ap, ◌∙◌, slice_get, append-nil, filter-append, cons_option, list_any, AllByRecursion, IsDistinct, map-map, unwrap_or, filter-map, arith}
 use Rattle.apollo_schema_laws.proofs.Words.Syntax.{OperationType, Query, Mutation, Subscription, Parts}
 use Rattle.apollo_schema_laws.proofs.Words.Types.{same_id, same_origin, of_origin, of_extensions, SourcedPart, by_origin, ComponentName, ComponentOrigin, Extension, Definition, ExtensionId, of_root, root_node, schema_components, root_of, SchemaDefinition, PartsByOrigin}

@@ -1,4 +1,5 @@
--- What a type is written out as is without fault: its components differ, and its extensions have its name and kind.
+-- What a type is written out as is without fault: its components differ, and its extensions have its name and
+-- kind.
 use Rattle.apollo_schema_laws.proofs.Words.Lists.{◌≡◌, Bool, true, false, cond, ◌||◌, List, [], ◌∷◌, ◌++◌, Some, map, map-id, filter, flat_map, refl, sym, ap, subst, ◌∙◌, append_assoc, append-nil, map-append, flat_map-append, IsEquivalence, AllByRecursion, IsDistinct, list_any, option_map_or, each-weaken, filter_map-made, map-map, find-none, filter-all}
 use Rattle.apollo_schema_laws.proofs.Words.Syntax.{NameView, same, same_text, same-is}
 use Rattle.apollo_schema_laws.proofs.Words.Types.{each_after, name_laws}
@@ -20,7 +21,8 @@ unfolding IsDistinct
 distinct-front same [] ys d = tt
 distinct-front same (x ∷ xs) ys d = ((each-split (λ k. same x k ≡ false) xs ys d.0).0, distinct-front same xs ys d.1)
 
--- elements each of which adds nothing after those before it add nothing, by themselves and where something is made of each
+-- elements each of which adds nothing after those before it add nothing, by themselves and where something is
+-- made of each
 pub none-added : {X Y : Type 0} (at : List X → X → List Y) (Q : List X → Type 0) → ((done : List X) (x : X) (rest : List X) → Q (done ++ x ∷ rest) → at done x ≡ []) → (done xs : List X) → Q (done ++ xs) → each_after at done xs ≡ []
 none-added at Q none done [] q = refl
 none-added at Q none done (x ∷ xs) q = (λ i. none done x xs q i ++ none-added at Q none (done ++ x ∷ []) xs (subst Q (sym (append_assoc done (x ∷ []) xs)) q) i)

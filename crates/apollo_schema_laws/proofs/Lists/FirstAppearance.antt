@@ -1,4 +1,5 @@
--- The first of each: among joined lists, in the order in which tests take their elements, and of groups by their keys.
+-- The first of each: among joined lists, in the order in which tests take their elements, and of groups by
+-- their keys.
 use Rattle.apollo_schema_laws.proofs.Words.Lists.{◌≡◌, Bool, true, false, cond, not, ◌&&◌, List, [], ◌∷◌, ◌++◌, map, map-id, filter, refl, sym, ap, subst, ◌∙◌, arith, not-true, filter-append, map-map, IsEquivalence, AllByRecursion, IsDistinct, flat_map, list_any, each-filter, each-weaken, filter-fails, filter-map, true≢false, and_parts, map-append, list_any-append, filter-each, find, Some, is_some, filter-all, filter_agree, all-kept, find-first, slice_get}
 use Rattle.apollo_schema_laws.proofs.Words.Types.{first_of_each, first_of_each-distinct, found-any, find-first_of_each}
 use Rattle.apollo_schema_laws.proofs.Lists.Kept.{filter-filter, passes, all-first, filter-flat_map, own-group}
@@ -12,7 +13,8 @@ abbrev pub is_nothing : {X : Type 0} → List X → Bool
 is_nothing [] = true
 is_nothing (x ∷ xs) = false
 
--- first those that the first test takes, then those that the second takes of the rest, and so on, until nothing is left
+-- first those that the first test takes, then those that the second takes of the rest, and so on, until
+-- nothing is left
 abbrev pub in_order : {X : Type 0} → List (X → Bool) → List X → Bool
 in_order [] xs = is_nothing xs
 in_order (t ∷ ts) xs = leads (map t xs) && in_order ts (filter (λ x. not (t x)) xs)

@@ -1,4 +1,5 @@
--- The definitions that stand after the first one of their key, by places of the whole list and one after another.
+-- The definitions that stand after the first one of their key, by places of the whole list and one after
+-- another.
 use Rattle.apollo_meaning.proofs.Prelude.{◌+◌, ◌++◌, ◌∙◌, ◌∷◌, ◌≡◌, ◌≤◌, Bool, Family, List, ListItem, None, Option, Placed, Some, [], ap, append-nil, append_assoc, arith, cond, each_after, false, filter, filter-append, filter_map, first_place, length, length-append, map, map-append, option_map, option_map_or, option_or, refl, same, sym, true, ℕ}
 use Rattle.std.specs.Prelude.{nat_lt, option_and_then}
 use Rattle.std.specs.List.{cons_option, enumerate_from}

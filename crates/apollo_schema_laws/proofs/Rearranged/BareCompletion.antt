@@ -1,5 +1,5 @@
--- What a list is completed with, types that are adopted and an implied schema definition, comes without locations of a list
--- without locations.
+-- What a list is completed with, types that are adopted and an implied schema definition, comes without
+-- locations of a list without locations.
 use Rattle.apollo_meaning.proofs.Prelude.{◌++◌, ◌∙◌, ◌∷◌, ◌≡◌, Added, Bool, Defined, List, ListItem, Mutation, OperationType, Query, Root, SchemaPart, Subscription, TypeBody, TypePart, [], added_items, adopted, adopted_by, adopted_part, ap, arith, completed, cond, extended_names, extended_part, false, filter_map, first_of_each, flat_map, implied_schema, key_of, kind_of, map, map-append, map-map, option_map_or, orphans_of, refl, roots_in, same, same_kind, schema_extensions, schema_for, sym, true, whole, with_adopted, ℕ}
 use Rattle.apollo_schema_laws.proofs.Rearranged.Words.{default_root, default_type_text, implicit_roots, flat_map-map}
 use Rattle.graphql_nodes.specs.Comparing.{bare_node}

@@ -4,7 +4,8 @@ use Rattle.apollo_schema_laws.proofs.Rearranged.Words.{cons_option, implicit_roo
 use Rattle.apollo_meaning.specs.Completion.ImpliedSchema.{schema_of_roots}
 use Rattle.apollo_meaning.specs.Items.Named.{named}
 
--- what is chosen of a list that is completed is chosen of the list, where no definition of a type or of the schema is
+-- what is chosen of a list that is completed is chosen of the list, where no definition of a type or of the
+-- schema is
 module _ {Y : Type 0} (which : ListItem → Option Y) (no_schema : (s : SchemaPart) → which (SchemaDefined s) ≡ None) where
   pub chosen-implied : (adopts : Bool) (xs : List ListItem)
       → filter_map which (xs ++ implied_schema adopts xs) ≡ filter_map which xs

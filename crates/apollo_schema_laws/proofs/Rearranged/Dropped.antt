@@ -1,4 +1,5 @@
--- The faults of a list that are of what is dropped as a whole, sort by sort: operations and fragments, and further definitions.
+-- The faults of a list that are of what is dropped as a whole, sort by sort: operations and fragments, and
+-- further definitions.
 use Rattle.apollo_meaning.proofs.Prelude.{◌&&◌, ◌++◌, ◌∙◌, ◌∷◌, ◌≡◌, Added, Bool, Defined, Definition, DirectiveDefinition, Fault, List, ListItem, NodeView, None, Option, Other, Placed, SchemaDefined, SchemaPart, Some, TypePart, [], added_items, ap, arith, completed, cond, defined_part, defined_schema, directive_definitions, each_after, false, filter, filter_map, find, first, first_place, first_schema, found_at, further_definition, further_schema, is_built_in, item_of, key_of, map, not, option_map, option_map_or, refl, same, schemas, sym, true, types, ℕ, filter-append, length}
 use Rattle.apollo_schema_laws.proofs.Rearranged.Words.{all-kept, cons_option, directive_part, faults_in, has_text, is_handed_in, lookup-keyed, redefinition}
 use Rattle.std.specs.Prelude.{option_and_then}

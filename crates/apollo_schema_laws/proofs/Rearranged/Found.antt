@@ -1,4 +1,5 @@
--- What rearranged lists are completed with, what is found in them, and all their faults are the same, in another order.
+-- What rearranged lists are completed with, what is found in them, and all their faults are the same, in
+-- another order.
 use Rattle.apollo_meaning.proofs.Prelude.{◌++◌, ◌∙◌, ◌∷◌, ◌≡◌, AllByRecursion, Bool, Defined, Fault, List, ListItem, Mutation, None, Option, Query, Some, Subscription, TypePart, [], adopted, adopted_by, adopted_part, ap, append-nil, append_assoc, arith, completed, cond, defined_schema, each-weaken, each_after, each_after-append, each_after-push, extended_names, extended_part, extensions_of, false, filter, filter-append, filter_map, first, first_of_each, first_of_each-push_new, first_of_each-push_old, flat_map, found, found_at, implied_schema, key_of, kind_of, list_any, map, option_map_or, orphan, orphans_of, refl, roots_in, same, same-is, same-true, same_kind, schema_extensions, schema_for, schema_orphan, schema_orphans, snoc_ind, subst, sym, true, true≢false, with_adopted, ℕ}
 use Rattle.apollo_schema_laws.proofs.Rearranged.Words.{AreRearranged, DefinitionsOf, DirectiveDefinitionsOf, ExtensionsOf, Group, IsOwn, IsPermutation, IsPermutation-append, IsPermutation-append_right, IsPermutation-map, IsPermutation-refl, IsPermutation-sym, IsPermutation-trans, IsTest, SchemaDefinitions, SchemaExtensions, by_subject, default_root, default_type_text, each-append, faults-completed, faults_in, filter_agree, filter_passes, implicit_roots, is_in, recursion_from_All, one-element-permutation}
 use Rattle.std.specs.Cmp.Lexicographic.{nat_list_eq_equiv}

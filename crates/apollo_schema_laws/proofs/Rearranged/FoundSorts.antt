@@ -1,5 +1,5 @@
--- What the sorts of faults are about; which faults are found at an item, of what it is about or for the item itself; and those of a
--- sort among all faults of a list.
+-- What the sorts of faults are about; which faults are found at an item, of what it is about or for the item
+-- itself; and those of a sort among all faults of a list.
 use Rattle.apollo_meaning.proofs.Prelude.{◌&&◌, ◌++◌, ◌∙◌, ◌∷◌, ◌≡◌, AllByRecursion, Bool, Defined, Extended, Fault, List, ListItem, None, Option, Other, SchemaDefined, SchemaExtended, SchemaPart, Some, TypePart, [], ap, append-nil, arith, completed, cond, directive_definitions, each_after, each_after-append, extended_names, extended_part, extension_faults, extensions_of, false, filter, filter-append, filter_map, find, first, first_schema, flat_map, found, found_at, further_definition, further_schema, implied_schema, key_of, kind_of, map, of_kind, option_map_or, orphan, orphans_of, other_faults, part_faults, refl, roots_in, same, same-is, same-true, same_kind, schema_begun_faults, schema_extensions, schema_faults, schema_orphan, schema_orphans, subst, sym, true, with_adopted, ℕ, each-weaken}
 use Rattle.apollo_schema_laws.proofs.Rearranged.Words.{each-append, faults-completed, faults_in, filter-fails, filter-wider, filter_passes, has_text, is_handed_in, joining_fault, kind_mismatch, recursion_from_All, type_begun_faults}
 use Rattle.apollo_schema_laws.specs.Reported.{Sort, Executable, FurtherSchema, FurtherDirective, FurtherType, OrphanOfType, OrphanOfSchema, OtherKind, RepeatedComponent, RepeatedRoot, same_sort, sort_of}
@@ -8,7 +8,8 @@ use Rattle.graphql_ast.specs.declared.definition.Definition.TheVariants as ast
 use Rattle.apollo_schema_laws.proofs.Subjects.{Subject, TypeNamed, TheSchema, NoSubject, same_subject, subject, subject_laws}
 use Rattle.apollo_schema_laws.proofs.Rearranged.Sorts.{AllOf, all-stay, begun-of, body-of, further-of, has_sort, made-of, none-stay, one-of, roots-of, sort_laws}
 
--- what a sort is about: the type or the schema that something is dropped from, or nothing where it is dropped as a whole
+-- what a sort is about: the type or the schema that something is dropped from, or nothing where it is dropped
+-- as a whole
 abbrev pub subject_of : Sort → Subject
 subject_of (OtherKind n) = TypeNamed n
 subject_of (RepeatedComponent n) = TypeNamed n
@@ -81,7 +82,8 @@ begun-from d xs =
     (from (RepeatedComponent (key_of d)) (part_faults [] d) (body-of d.body d.name []))
     (joinings-from d (key_of d) [] (extensions_of xs (key_of d)) (extensions-named xs (key_of d)))
 
--- the fault of an item that is itself dropped: of a further definition, and of what is of no type and not of the schema
+-- the fault of an item that is itself dropped: of a further definition, and of what is of no type and not of
+-- the schema
 abbrev pub dropped_at : List ListItem → ListItem → List Fault
 dropped_at before (Defined d) = option_map_or (λ f. further_definition f d) (first before (key_of d)) []
 dropped_at before (SchemaDefined s) = option_map_or (λ f. further_schema f s ∷ []) (first_schema before) []

@@ -1,4 +1,5 @@
--- Rearranged lists: an equivalence that goes on in longer lists, and documents that are added one by one, and as one.
+-- Rearranged lists: an equivalence that goes on in longer lists, and documents that are added one by one, and
+-- as one.
 use Rattle.apollo_meaning.proofs.Prelude.{◌++◌, ◌∙◌, ◌∷◌, ◌≡◌, Bool, List, ListItem, [], added, ap, arith, false, filter-append, flat_map, map-append, refl, sym, true}
 use Rattle.apollo_schema_laws.proofs.Rearranged.Words.{AreRearranged, Group, IsPermutation-append, IsPermutation-append_comm, IsPermutation-refl, IsPermutation-sym, IsPermutation-trans, is_in}
 use Rattle.apollo_schema_laws.specs.Documents.{Documents, added_each, added_joined}

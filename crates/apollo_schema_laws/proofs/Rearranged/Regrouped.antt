@@ -1,12 +1,12 @@
--- What is found of one subject, that of its first definition with its extensions and that of each further definition, in
--- another order.
+-- What is found of one subject, that of its first definition with its extensions and that of each further
+-- definition, in another order.
 use Rattle.apollo_meaning.proofs.Prelude.{◌++◌, ◌∙◌, ◌∷◌, ◌≡◌, Bool, Defined, Extended, Family, Fault, List, ListItem, None, Option, Other, SchemaDefined, SchemaExtended, SchemaPart, Some, TypePart, [], ap, append-nil, arith, append_assoc, defined_schema, each_after-push, extension_faults, extensions_of, false, filter, filter-append, filter_map, filter_map-append, first, flat_map, found, found_at, further_definition, further_schema, joining_faults, key_of, kind_of, of_kind, option_map_or, part_faults, refl, same, same-true, schema_begun_faults, schema_extensions, schema_faults, schema_joining_faults, schemas, slice_get, snoc_ind, subst, sym, true, types, ℕ}
 use Rattle.apollo_schema_laws.proofs.Rearranged.Words.{IsPermutation, IsPermutation-append_comm, IsPermutation-append_left, IsPermutation-append_right, IsPermutation-refl, IsPermutation-trans, all-kept, bool_cases, cons_option, filter-push_dropped, filter-push_kept, found-push, joining_fault, own-kept, type_begun_faults}
 use Rattle.std.proofs.lemmas.Grind.{flat_map-append}
 use Rattle.apollo_schema_laws.proofs.Subjects.{Subject, TheSchema, TypeNamed, same_subject, subject, subject_laws, definitions_of, first-is, found_at-own}
 
--- how faults are found: at a further definition, at the first one with extensions before it, and at an extension after
--- a first definition and extensions
+-- how faults are found: at a further definition, at the first one with extensions before it, and at an
+-- extension after a first definition and extensions
 pub record Finding (P : Type 0) : Type 0 where
   pub further : P → P → List Fault
   pub begun : P → List P → List Fault
@@ -53,7 +53,8 @@ module _ {P : Type 0} (f : Family P) (n : List ℕ) (by_kind : Finding P) (k : S
   abbrev about : ListItem → Bool
   about x = same_subject k (subject x)
 
-  -- an item defines something of the family, or extends something, or does neither; and what is found at it is so
+  -- an item defines something of the family, or extends something, or does neither; and what is found at it
+  -- is so
   pub data Plays (x : ListItem) : Type 0 where
     Defines : (p : P) → f.defined x ≡ Some p → f.extended x ≡ None → about x ≡ has p → ((xs : List ListItem) → has p ≡ true → found_at xs x ≡ at_definition by_kind (defined_of xs) (extended_of xs) p) → Plays x
     Extends : (p : P) → f.defined x ≡ None → f.extended x ≡ Some p → about x ≡ has p → ((xs : List ListItem) → has p ≡ true → found_at xs x ≡ at_extension by_kind (defined_of xs) (extended_of xs) p) → Plays x
@@ -68,7 +69,8 @@ module _ {P : Type 0} (f : Family P) (n : List ℕ) (by_kind : Finding P) (k : S
     taken-none : (which : ListItem → Option P) → filter has (cons_option (which x) []) ≡ [] → filter has (filter_map which (xs ++ x ∷ [])) ≡ filter has (filter_map which xs)
     taken-none which e = taken which [] e ∙ append-nil (filter has (filter_map which xs))
 
-  -- what holds of no item, and stays with one of another subject, with a definition and with an extension, holds of each list, its definitions and its extensions
+  -- what holds of no item, and stays with one of another subject, with a definition and with an extension,
+  -- holds of each list, its definitions and its extensions
   pub by_plays : (Q : List ListItem → List P → List P → Type 0) → Q [] [] [] → ((xs : List ListItem) (x : ListItem) (ds es : List P) → about x ≡ false → Q xs ds es → Q (xs ++ x ∷ []) ds es)
       → ((xs : List ListItem) (x : ListItem) (ds es : List P) (p : P) → about x ≡ true → found_at xs x ≡ at_definition by_kind ds es p → Q xs ds es → Q (xs ++ x ∷ []) (ds ++ p ∷ []) es)
       → ((xs : List ListItem) (x : ListItem) (ds es : List P) (e : P) → about x ≡ true → found_at xs x ≡ at_extension by_kind ds es e → Q xs ds es → Q (xs ++ x ∷ []) ds (es ++ e ∷ []))

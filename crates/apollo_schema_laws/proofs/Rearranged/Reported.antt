@@ -1,5 +1,6 @@
--- The faults of a list that are of what is dropped from a type or from the schema, its repeated components or roots and its
--- extensions of another kind, are those that its first definition and its extensions have, in order.
+-- The faults of a list that are of what is dropped from a type or from the schema, its repeated components or
+-- roots and its extensions of another kind, are those that its first definition and its extensions have, in
+-- order.
 use Rattle.apollo_meaning.proofs.Prelude.{◌&&◌, ◌++◌, ◌∙◌, ◌∷◌, ◌≡◌, AllByRecursion, Bool, Family, Fault, List, ListItem, None, Option, Placed, SchemaPart, Some, TypePart, [], ap, append-nil, completed, cond, defined_schema, each_after, extended_part, extension_places, extensions_of, false, filter, filter-append, filter_map, first, first_place, first_schema, flat_map, found, found_at, key_of, kind_of, map, not, of_kind, option_map_or, part_faults, refl, same, same-is, same-true, same_kind, schema_begun_faults, schema_extensions, schema_faults, schemas, slice_get, sym, true, types, ℕ, further_definition}
 use Rattle.apollo_schema_laws.proofs.Rearranged.Words.{all-kept, faults_in, filter-map, filter_agree, found-push, found_of_schema, found_of_type, joined_faults, joining_fault, kind_mismatch, type_begun_faults, filter_map-numbered}
 use Rattle.std.proofs.lemmas.Simd.{map-map}
@@ -34,7 +35,8 @@ module _ (k : Subject) (none : same_subject k NoSubject ≡ false) {P : Type 0} 
       ap (filter (is_from k)) (by_kind.more d es e)
       ∙ filter-append (is_from k) (by_kind.begun d es) (by_kind.joins d es e)
 
-  -- all that is found in a list and is dropped from the subject is dropped at its first definition, with its extensions
+  -- all that is found in a list and is dropped from the subject is dropped at its first definition, with its
+  -- extensions
   found-told : (xs : List ListItem)
       → filter (is_from k) (found xs) ≡ told (defined_of f n by_kind k xs) (extended_of f n by_kind k xs)
   found-told =

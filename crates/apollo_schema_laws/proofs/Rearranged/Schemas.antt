@@ -1,4 +1,5 @@
--- The schemas that equal and rearranged lists mean are equal, and what is built of them, by the laws of these lists.
+-- The schemas that equal and rearranged lists mean are equal, and what is built of them, by the laws of these
+-- lists.
 use Rattle.std.proofs.Common.{◌≡◌, ℕ, Bool, List, [], length, Option, Some, None, refl, sym, ap, subst, ◌∙◌}
 use Rattle.std.proofs.lemmas.List.{nil_from_length}
 use Rattle.std.proofs.lemmas.List.Sorted.{length_permutation}
@@ -26,7 +27,8 @@ use Rattle.apollo_schema.specs.Built.{IsFoundIn}
 use Rattle.apollo_schema.specs.declared.schema.Schema.{Schema}
 use Rattle.apollo_schema.specs.MeantSchema.{IsPartOf, MeansSchema}
 
--- what the laws say of rearranged lists: what they are completed with, their schema definitions, types, directives and faults
+-- what the laws say of rearranged lists: what they are completed with, their schema definitions, types,
+-- directives and faults
 abbrev pub CompletedToo : Type 0
 CompletedToo = (adopts : Bool) (xs ys : List ListItem) → AreRearranged xs ys → AreRearranged (completed adopts xs) (completed adopts ys)
 
@@ -45,14 +47,16 @@ SameFaults = (adopts : Bool) (xs ys : List Added) → AreRearranged (added_items
 abbrev pub EqualSchemas : Type 0
 EqualSchemas = (adopts : Bool) (xs ys : List Added) → AreRearranged (added_items xs) (added_items ys) → MeanEqualSchemas adopts xs ys
 
--- what `==` compares of the schema definition that a schema has, by what it compares of that of the list, if there is one
+-- what `==` compares of the schema definition that a schema has, by what it compares of that of the list, if
+-- there is one
 bare-or_none : (o : Option (NodeView SchemaDefinition))
     → bare_schema_definition (unwrap_or o no_schema).value ≡ unwrap_or (option_map (λ d. bare_schema_definition d.value) o) (bare_schema_definition no_schema.value)
 bare-or_none None = refl
 bare-or_none (Some d) = refl
 
 module _ (adopts : Bool) (xs ys : List Added) where
-  -- the schemas that two lists mean are equal where the lists mean equal schema definitions, types and directives
+  -- the schemas that two lists mean are equal where the lists mean equal schema definitions, types and
+  -- directives
   pub schemas-alike : ((start other : ℕ) → schema_meant start (whole adopts xs) ≡ schema_meant other (whole adopts ys))
       → ((start other : ℕ) (n : List ℕ) → type_meant start (whole adopts xs) n ≡ type_meant other (whole adopts ys) n)
       → ((n : List ℕ) → directive_meant (whole adopts xs) n ≡ directive_meant (whole adopts ys) n) → MeanEqualSchemas adopts xs ys

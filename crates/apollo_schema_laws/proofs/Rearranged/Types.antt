@@ -1,5 +1,5 @@
--- The types and the schema definitions that lists mean: what `==` compares of them is decided by the parts that they are made
--- of, without locations and without the origins of components.
+-- The types and the schema definitions that lists mean: what `==` compares of them is decided by the parts
+-- that they are made of, without locations and without the origins of components.
 use Rattle.apollo_meaning.proofs.Prelude.{◌∙◌, ◌∷◌, ◌≡◌, Bool, EnumBody, InputObjectBody, InterfaceBody, List, ListItem, Mutation, NameView, NodeView, ObjectBody, Option, Query, ScalarBody, SchemaPart, Some, SourcedSchema, Subscription, TypeBody, TypePart, UnionBody, [], ap, arith, by_text, cond, extensions_of, false, filter, find, first, first_of_each, first_schema, flat_map, folding_order, kind_of, list_any, lookup, map, of_kind, option_map, refl, same_key, same_kind, same_text, schema_definition_of, schema_extensions, schema_from, sym, true, ℕ, map-map}
 use Rattle.apollo_schema_laws.proofs.Rearranged.Words.{AreRearranged, DefinitionsOf, ExtensionsOf, SchemaDefinitions, SchemaExtensions, first_of_each-map, list_any-map, option_cases, option_map_id, root_in, roots_of, same_operation, schema_directives_of, schema_meant, schema_parts, schema_sourced, type_meant, flat_map-map, find-made}
 use Rattle.graphql_nodes.specs.Comparing.{bare_name, bare_node, entries_by_text, members_by_text}
@@ -24,7 +24,8 @@ use Rattle.apollo_schema_laws.proofs.Subjects.{extensions-agree, first-agree, fi
 abbrev parts_of : {P : Type 0} → List (ComponentOrigin × P) → List P
 parts_of = map (λ s. s.1)
 
--- what parts hold, seen through a function that forgets origins and locations, is what the parts without locations hold
+-- what parts hold, seen through a function that forgets origins and locations, is what the parts without
+-- locations hold
 module _ {A B C P : Type 0} (seen : A → B) (sourced : ComponentOrigin → C → A) (plain : C → B) (one : C → C) (forgets : (o : ComponentOrigin) (c : C) → seen (sourced o c) ≡ plain (one c))
     (bare : P → P) (held : P → List C) (holds : (p : P) → held (bare p) ≡ map one (held p)) where
   forget-each : (o : ComponentOrigin) (cs : List C) → map seen (map (sourced o) cs) ≡ map plain (map one cs)
@@ -179,7 +180,8 @@ forget-definition head ps = λ i. record {
   subscription = forget-root Subscription ps i;
 }
 
--- the type that a name means by its first definition and its extensions, without locations, and the schema definition by its own
+-- the type that a name means by its first definition and its extensions, without locations, and the schema
+-- definition by its own
 abbrev type_meant_of : Option TypePart → List TypePart → Option BareType
 type_meant_of o es = option_map (λ d. plain_type d.body d (d ∷ of_kind (kind_of d) es)) o
 

@@ -1,5 +1,6 @@
--- A type, and a schema definition, is written out with no more extensions than it was made of: each component comes from one of its
--- parts. So a schema's write-out folds no more extensions than the list that the schema is of.
+-- A type, and a schema definition, is written out with no more extensions than it was made of: each component
+-- comes from one of its parts. So a schema's write-out folds no more extensions than the list that the schema
+-- is of.
 use Rattle.apollo_schema_laws.proofs.Words.Lists.{◌≡◌, List, [], ◌∷◌, None, Option, Some, map, find, flat_map, option_map, refl, sym, subst, ℕ, ◌≤◌, Bool, true, length, ◌∙◌, true≢false, arith, AllByRecursion, cons_option, list_any, IfSome, each-append}
 use Rattle.apollo_schema_laws.proofs.Words.Lists.{length-map, ◌+◌, ◌++◌, filter, ap, length-append, filter_map-append, recursion_from_All, All, filter_map, range_with_len, IsDistinct, enumerate_from, option_map_or, unwrap_or, each-weaken, filter_map-numbered}
 use Rattle.apollo_schema_laws.proofs.Words.Syntax.{NameView, NodeView, same_text, values_of, OperationType, Query, Mutation, Subscription, Part, Directive, SourceSpan, Parts, by_text, keys_of, lookup}
@@ -122,7 +123,8 @@ schema-few head es =
     let ps : List (ComponentOrigin × SchemaPart) = (Definition, head) ∷ extensions_from (λ (s : SchemaPart). s.location) es in
     made-few (λ (s : SchemaPart). s.location) head es (schema_components (made_schema head es)) (each-of_schema (λ o. is_among (ids_in ps) o ≡ true) ps (each-among ps) head)
 
--- A list folds no more extensions than it has, and a schema's write-out no more than the list that the schema is of.
+-- A list folds no more extensions than it has, and a schema's write-out no more than the list that the schema
+-- is of.
 
 -- how many extensions a list has, of types and of the schema
 abbrev pub extensions_in : List ListItem → ℕ

@@ -103,7 +103,8 @@ module _ (schema : Schema) (list : IsMeantByList schema) where
         ap is_built_in (location ∙ ap (λ (p : TypePart). p.location) head_is) ∙ (first-built_in n b e).marked
     marked-where None e = ap is_built_in location ∙ first-unmarked adopts more (handed schema list) n m.made_of.head (sym (first-split n ∙ ap (λ o. option_or o (first (later_items adopts more) n)) e) ∙ m.first_one)
 
-    -- the built-in definition, or else what is written of the type, is the type's definition with its extensions
+    -- the built-in definition, or else what is written of the type, is the type's definition with its
+    -- extensions
     pub written-view : (c : Bool) → (b : Bool) × (about (TypeNamed n) built_ins ++ held_items c t ≡ Defined (record (definition_part t) { ignorable = b }) ∷ extension_items c t)
     written-view c = by (first built_ins n) refl
       where

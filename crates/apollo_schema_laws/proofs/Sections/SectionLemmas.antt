@@ -110,7 +110,8 @@ pub has_some-picked : {A : Type 0} (id : ExtensionId) (xs : List (ComponentOrigi
 has_some-picked id [] = refl
 has_some-picked id (x ∷ xs) = grind (arith, has_some-picked id xs)
 
--- the parts of extensions are written in the order in which these tests take them, where what they see is which of the identities there are
+-- the parts of extensions are written in the order in which these tests take them, where what they see is
+-- which of the identities there are
 pub written-in_order : (cs : List SourcedPart) (tests : List (Parts → Bool)) (lists : List (List ExtensionId)) → ids_in cs ≡ flat_map (λ ids. ids) lists
     → map {B = ExtensionId → Bool} (λ t e. t (of_origin (Extension e) cs)) tests ≡ map (λ ids e. list_any (same_id e) ids) lists → in_order tests (map (λ e. e.1) (of_extensions cs)) ≡ true
 written-in_order cs tests lists listed seen =

@@ -1,4 +1,5 @@
--- Types by their sections: their write-out, and the names that stand once in them and in what is written of them.
+-- Types by their sections: their write-out, and the names that stand once in them and in what is written of
+-- them.
 use Rattle.apollo_schema_laws.proofs.Words.Lists.{◌≡◌, List, [], ◌++◌, Option, map, sym, ap, ◌∙◌, append_assoc, subst, append-nil, map-map, ℕ, ◌∷◌, None, Some, is_some, refl, true≢false, map-id, flat_map, IsPermutation-map, IsDistinct-IsPermutation, AllByRecursion, IsDistinct, IsPermutation, option_map, unwrap_or, each-weaken, flat_map-map, map-append, map-flat_map}
 use Rattle.apollo_schema_laws.proofs.Words.Syntax.{NameView, values_of, SourceSpan, type_extension, Parts, NodeView, same_text}
 use Rattle.apollo_schema_laws.proofs.Words.Types.{extension_location, by_origin, written_type, Component, ComponentName, ExtensionId, type_kind, type_name, type_location, type_description, type_components, write_type, ExtendedType, Object, Interface, Union, Enum, InputObject, first_of_each, same_key, ComponentOrigin, each-first, first_of_each-map, name_laws, first_of_each-distinct}
@@ -37,7 +38,8 @@ module _ (t u : ExtendedType) (h : HasWhatIsWritten t u) where
   pub components-again : HasSameComponents (type_sections t) (type_sections u)
   components-again = subst (HasSameComponents (type_sections t)) (sym h.sections) (written-keeps (type_sections t) h.parts (h.definition ∙ ap (λ cs. (by_origin cs).definition) (components-sections t)) same_parts)
 
--- Names that stand once: in each type that a list means, in each that has what such a type is written out as, and in the parts of that.
+-- Names that stand once: in each type that a list means, in each that has what such a type is written out as,
+-- and in the parts of that.
 
 -- names of the same components stand once in both
 still-once : {A : Type 0} (name : A → NameView) (xs ys : List (ComponentOrigin × A)) → IsPermutation (map (λ x. x.1) xs) (map (λ x. x.1) ys)

@@ -1,4 +1,5 @@
--- A type that a list means, and the one that a list with its write-out means: they are equal, since they have the same components, and are written out alike.
+-- A type that a list means, and the one that a list with its write-out means: they are equal, since they have
+-- the same components, and are written out alike.
 use Rattle.apollo_schema_laws.proofs.Words.Lists.{◌≡◌, ℕ, Bool, true, false, cond, List, [], ◌∷◌, Option, None, map, find, option_map, refl, sym, ap, subst, ◌∙◌, length, ◌==◌, list_any-IsPermutation, map-map, AllByRecursion, IsDistinct, flat_map, list_any, IsPermutation, length-map, ◌++◌, map-id, filter, append-nil, map-append, IsEquivalence, on_equiv, each-filter, each-weaken, list_any-map, arith}
 use Rattle.apollo_schema_laws.proofs.Words.Syntax.{bare_name, entries_by_text, members_by_text, NameView, NodeView, by_text, same_text, lookup, values_of, TypeKind, bare_directive, bare_field_definition, bare_enum_value_definition, bare_input_value_definition, Directive, SourceSpan}
 use Rattle.apollo_schema_laws.proofs.Words.Types.{bare_component, same_key, Component, ComponentName, ComponentOrigin, BareType, bare_extended_type, type_kind, type_name, type_description, type_location, write_type, ExtendedType, Scalar, Object, Interface, Union, Enum, InputObject, each-first, name_laws, by_origin, Definition, PartsByOrigin, same_origin, first_of_each, of_origin, entry_laws}

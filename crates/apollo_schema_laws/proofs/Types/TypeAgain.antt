@@ -1,4 +1,5 @@
--- The type that written parts mean again, under any distinct numbers of the extensions, has what is written of the first.
+-- The type that written parts mean again, under any distinct numbers of the extensions, has what is written
+-- of the first.
 use Rattle.apollo_schema_laws.proofs.Words.Lists.{◌≡◌, ℕ, ◌+◌, ◌≤◌, Bool, true, false, cond, ◌==◌, List, [], ◌∷◌, Option, map, filter, length, refl, ap, arith, nat_tests, AllByRecursion, IsDistinct, filter_map, enumerate_from, ◌++◌, flat_map, sym, subst, ◌∙◌, map-map, each-weaken, flat_map-map, map-flat_map}
 use Rattle.apollo_schema_laws.proofs.Words.Syntax.{same, SourceSpan, NodeView, Directive, Parts, NameView, no_parts, same_text, values_of}
 use Rattle.apollo_schema_laws.proofs.Words.Types.{ComponentOrigin, Extension, extension_id, extension_location, same_id, ExtensionId, by_origin, of_origin, identities, origins_in, Component, ComponentName, Definition, PartsByOrigin, type_kind, type_components, ExtendedType, Scalar, Object, Interface, Union, Enum, InputObject}
@@ -101,7 +102,8 @@ numbered-written location part at [] es = refl
 numbered-written location part at (i ∷ is) [] = refl
 numbered-written location part at (i ∷ is) (e ∷ es) = (λ j. (Extension (extension_id i (at (extension_location e.0) e.1 j)), part (extension_location e.0) e.1) ∷ numbered-written location part at is es j)
 
--- The type that written parts mean again, under any distinct numbers of the extensions, has what is written of the first.
+-- The type that written parts mean again, under any distinct numbers of the extensions, has what is written
+-- of the first.
 
 -- what parts have of one sort, with their origins
 abbrev pub shown_in : {P A : Type 0} → (P → List A) → List (ComponentOrigin × P) → List (ComponentOrigin × A)

@@ -1,4 +1,5 @@
--- What a type is written out as, and types of a table, read as items of a list, and what that says of one name.
+-- What a type is written out as, and types of a table, read as items of a list, and what that says of one
+-- name.
 use Rattle.apollo_schema_laws.proofs.Words.Lists.{◌≡◌, Bool, List, [], ◌∷◌, None, Option, map, refl, ℕ, true, false, cond, ◌++◌, filter, flat_map, ap, ◌∙◌, append-nil, map-append, filter-append, AllByRecursion, IsDistinct, list_any, option_map_or, map-map, arith, filter_map-unmade}
 use Rattle.apollo_schema_laws.proofs.Words.Syntax.{NameView, SourceSpan, TypeKind, type_definition, type_extension, directive_list, Parts, is_built_in, same, same_text, by_text, HasUniqueKeys, keys_of, values_of, lookup, Definition}
 use Rattle.apollo_schema_laws.proofs.Words.Types.{extension_location, by_origin, ExtensionId, PartsByOrigin, type_kind, type_name, type_location, type_description, type_components, write_type, ExtendedType}
