@@ -1,8 +1,8 @@
 //! The keys that tables and sets hash by, and their hasher.
 //!
 //! Whoever knows the keys can make names that all get one hash. A table of such names takes a time that grows
-//! with their square. So a table of names from strangers is given keys that nobody can foretell. The hasher is
-//! std's `FoldHasher` with both of its numbers taken from the keys. Each step multiplies two words, each
+//! with their square. So a table of names from strangers is given keys that nobody can foretell. The hasher
+//! is std's `FoldHasher` with both of its numbers taken from the keys. Each step multiplies two words, each
 //! joined with a secret one. Of a text of at most eight bytes these are the text and its length. So without
 //! the keys no two texts can be chosen that collide under many of them.
 ghost use Rattle.std.specs.Prelude.{◌≡◌, ◌+◌, ◌≤◌, length};
