@@ -1,7 +1,8 @@
 //! What stands in nodes among the parts of a definition or extension: GraphQL specification of October 2021,
 //! sections 3.3 and 3.5 to 3.10.
-ghost use Rattle.std.specs.Prelude.{◌≡◌};
+ghost use Rattle.std.specs.Prelude.{◌≡◌, OnOk, OnErr};
 ghost use Rattle.graphql_nodes.specs.NodeView.{NodeView};
+ghost use Rattle.graphql_ast.specs.Parts.{with_part};
 ghost use Rattle.graphql_ast.specs.declared.parts.Part.{Part};
 ghost use Rattle.graphql_ast.specs.declared.parts.Part.TheVariants as sorts;
 
@@ -22,6 +23,12 @@ pub trait NodePart: Drop {
     fn into_part(node: Node<Self>) -> Part
         ensures { result ≡ node_part node };
 
+    /// Adds a node of it at the end of the list of its sort. The error is out of memory: the parts are as
+    /// they were, and the node is dropped. It is `Parts::push` of that part, in fewer instructions.
+    fn push_node(node: Node<Self>, parts: &mut Parts) -> Result<(), AllocError>
+        ensures added { OnOk result (parts.new ≡ with_part (node_part node) parts.old) }
+        ensures refused { OnErr result (parts.new ≡ parts.old) };
+
     /// Makes room for so many more at the end of the list of its sort. The error is out of memory. The parts
     /// are as they were, after a refusal too.
     fn make_room(parts: &mut Parts, count: usize) -> Result<(), AllocError>
@@ -35,6 +42,13 @@ impl NodePart for Directive {
         ensures { result ≡ sorts.Directive node }
     {
         Part::Directive(node)
+    }
+
+    fn push_node(node: Node<Self>, parts: &mut Parts) -> Result<(), AllocError>
+        ensures added { OnOk result (parts.new ≡ with_part (sorts.Directive node) parts.old) }
+        ensures refused { OnErr result (parts.new ≡ parts.old) }
+    {
+        parts.directives.push(node)
     }
 
     fn make_room(parts: &mut Parts, count: usize) -> Result<(), AllocError> {
@@ -51,6 +65,13 @@ impl NodePart for FieldDefinition {
         Part::Field(node)
     }
 
+    fn push_node(node: Node<Self>, parts: &mut Parts) -> Result<(), AllocError>
+        ensures added { OnOk result (parts.new ≡ with_part (sorts.Field node) parts.old) }
+        ensures refused { OnErr result (parts.new ≡ parts.old) }
+    {
+        parts.fields.push(node)
+    }
+
     fn make_room(parts: &mut Parts, count: usize) -> Result<(), AllocError> {
         parts.fields.reserve_exact(count)
     }
@@ -63,6 +84,13 @@ impl NodePart for EnumValueDefinition {
         ensures { result ≡ sorts.EnumValue node }
     {
         Part::EnumValue(node)
+    }
+
+    fn push_node(node: Node<Self>, parts: &mut Parts) -> Result<(), AllocError>
+        ensures added { OnOk result (parts.new ≡ with_part (sorts.EnumValue node) parts.old) }
+        ensures refused { OnErr result (parts.new ≡ parts.old) }
+    {
+        parts.values.push(node)
     }
 
     fn make_room(parts: &mut Parts, count: usize) -> Result<(), AllocError> {
@@ -79,6 +107,13 @@ impl NodePart for InputValueDefinition {
         Part::InputField(node)
     }
 
+    fn push_node(node: Node<Self>, parts: &mut Parts) -> Result<(), AllocError>
+        ensures added { OnOk result (parts.new ≡ with_part (sorts.InputField node) parts.old) }
+        ensures refused { OnErr result (parts.new ≡ parts.old) }
+    {
+        parts.input_fields.push(node)
+    }
+
     fn make_room(parts: &mut Parts, count: usize) -> Result<(), AllocError> {
         parts.input_fields.reserve_exact(count)
     }
@@ -91,6 +126,13 @@ impl NodePart for (OperationType, NamedType) {
         ensures { result ≡ sorts.Root node }
     {
         Part::Root(node)
+    }
+
+    fn push_node(node: Node<Self>, parts: &mut Parts) -> Result<(), AllocError>
+        ensures added { OnOk result (parts.new ≡ with_part (sorts.Root node) parts.old) }
+        ensures refused { OnErr result (parts.new ≡ parts.old) }
+    {
+        parts.roots.push(node)
     }
 
     fn make_room(parts: &mut Parts, count: usize) -> Result<(), AllocError> {

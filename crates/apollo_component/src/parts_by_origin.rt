@@ -13,6 +13,7 @@ use graphql_ast::declaration::{SchemaDeclaration, TypeDeclaration};
 use graphql_ast::definition::Definition;
 use graphql_ast::parts::{Part, Parts};
 use graphql_nodes::name::Name;
+use graphql_nodes::node::Node;
 use graphql_nodes::node_str::NodeStr;
 use graphql_nodes::source::SourceSpan;
 use graphql_nodes::type_kind::TypeKind;
@@ -64,6 +65,24 @@ impl PartsByOrigin {
         Ok(())
     }
 
+    /// Adds a node of this origin, as [`add`](PartsByOrigin::add) does. One of the definition goes straight
+    /// into its list.
+    fn add_node<T: NodePart>(
+        &mut self,
+        alloc: Global,
+        origin: ComponentOrigin,
+        node: Node<T>,
+    ) -> Result<(), AllocError>
+        ensures { OnOk result ((cs : List SourcedPart) → self.old ≡ by_origin cs →
+            self.new ≡ by_origin (cs ++ (origin, T.node_part node) ∷ [])) }
+    {
+        match origin {
+            ComponentOrigin::Definition => T::push_node(node, &mut self.definition)?,
+            ComponentOrigin::Extension(_) => self.add(alloc, origin, T::into_part(node))?,
+        }
+        Ok(())
+    }
+
     /// Adds each of these components, in order, as [`add`](PartsByOrigin::add) does. The error is out of
     /// memory: drop the parts then.
     pub fn add_components<T: NodePart>(
@@ -76,11 +95,7 @@ impl PartsByOrigin {
     {
         T::make_room(&mut self.definition, components.len())?;
         for component in components {
-            self.add(
-                alloc,
-                component.origin,
-                T::into_part(component.node.clone()?),
-            )?;
+            self.add_node(alloc, component.origin, component.node.clone()?)?;
         }
         Ok(())
     }
@@ -97,11 +112,7 @@ impl PartsByOrigin {
     {
         T::make_room(&mut self.definition, components.len())?;
         for component in components {
-            self.add(
-                alloc,
-                component.origin,
-                T::into_part(component.node.clone()?),
-            )?;
+            self.add_node(alloc, component.origin, component.node.clone()?)?;
         }
         Ok(())
     }
