@@ -1,5 +1,5 @@
--- Definitions that differ in locations alone, and are not marked built-in, make lists that are alike: with
--- adoption, one has a fault where the other has, and they mean schemas that are written out alike.
+-- Definitions that differ in locations alone, and are not marked built-in, make lists that are alike. With
+-- adoption, one has a fault where the other has. They mean schemas that are written out alike.
 use Rattle.apollo_meaning.proofs.Prelude.{◌++◌, ◌∙◌, ◌∷◌, ◌≡◌, Added, AllByRecursion, Defined, Definition, Extended, Fault, List, ListItem, Option, Other, SchemaDefined, SchemaExtended, [], added, added_item, added_items, ap, arith, completed, false, folding_order, is_built_in, map, map-append, None, refl, subst, sym, true, whole, ℕ}
 use Rattle.graphql_nodes.specs.declared.source.SourceSpan.{SourceSpan}
 use Rattle.graphql_ast.specs.BareDocuments.{bare_definition}
@@ -12,8 +12,9 @@ use Rattle.apollo_schema.specs.MeantSchema.{AreOf, MeansSchema}
 use Rattle.apollo_schema.specs.SchemaWriteOut.{write_schema}
 use Rattle.apollo_schema.specs.declared.schema.Schema.{Schema}
 use Rattle.apollo_schema_laws.specs.WrittenAgain.{with_built_ins}
-use Rattle.apollo_canonical_text.proofs.Plain.{mark, marked, plain_item, plain_list}
-use Rattle.apollo_canonical_text.proofs.PlainCompletion.{completed-plain}
+use Rattle.apollo_schema_laws.proofs.Rearranged.Bare.{mark, marked}
+use Rattle.apollo_schema_laws.proofs.Rearranged.BareCompletion.{completed-unplaced}
+use Rattle.apollo_canonical_text.proofs.Plain.{plain_item, plain_list}
 use Rattle.apollo_canonical_text.proofs.PlainComponents.{count}
 use Rattle.apollo_canonical_text.proofs.PlainFaults.{faults-count}
 use Rattle.apollo_canonical_text.proofs.PlainParts.{nowhere}
@@ -86,4 +87,6 @@ module _ (ds es : List Definition) (unmarked : AllByRecursion IsUnmarked ds) (ot
       xs = plain_list (whole true (list ds))
 
       whole-alike : plain_list (whole true (list ds)) ≡ plain_list (whole true (list es))
-      whole-alike = sym (completed-plain true (added_items (list ds))) ∙ ap (completed true) same-list ∙ completed-plain true (added_items (list es))
+      whole-alike =
+          sym (completed-unplaced true true (added_items (list ds))) ∙ ap (completed true) same-list
+          ∙ completed-unplaced true true (added_items (list es))

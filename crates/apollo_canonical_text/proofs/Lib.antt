@@ -1,5 +1,4 @@
 mod Plain
-mod PlainCompletion
 mod PlainFolding
 mod PlainTypes
 mod PlainParts
@@ -7,12 +6,12 @@ mod PlainSchema
 mod PlainComponents
 mod PlainFaults
 mod PlainWriteOut
-mod Lists
 mod Alike
 mod Unmarked
 mod Read
 mod FromTexts
 pub mod WellFormedLists
+mod Whole
 mod Items
 mod Components
 mod Written

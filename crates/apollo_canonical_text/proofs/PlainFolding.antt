@@ -1,8 +1,9 @@
 -- Extensions are folded in the same order in a plain list.
-use Rattle.apollo_meaning.proofs.Prelude.{◌++◌, ◌∙◌, ◌∷◌, ◌≡◌, Defined, Extended, Folding, List, ListItem, None, OfSchema, OfType, Option, Other, SchemaDefined, SchemaExtended, SchemaPart, Some, TypePart, [], ap, each_after, extensions_of, first, first_schema, folded, folded_at, folding_order, key_of, kind_of, map, map-append, map-map, of_kind, option_map, option_map_or, refl, schema_extensions, schemas_folded_at, sym, types_folded_at}
+use Rattle.apollo_meaning.proofs.Prelude.{◌++◌, ◌∙◌, ◌∷◌, ◌≡◌, Defined, Extended, Folding, List, ListItem, OfSchema, OfType, Other, SchemaDefined, SchemaExtended, [], ap, arith, each_after, extensions_of, first, first_schema, folded, folded_at, folding_order, key_of, kind_of, map, map-append, map-map, of_kind, option_map_or, refl, schema_extensions, schemas_folded_at, sym, types_folded_at, true}
 use Rattle.std.proofs.lemmas.List.{map-id}
 use Rattle.apollo_meaning.proofs.Order.MomentLemmas.{folding_order-forget}
-use Rattle.apollo_canonical_text.proofs.Plain.{plain_item, plain_list, plain_part, plain_schema_part, extensions-plain, first-plain, first_schema-plain, of_kind-plain, schema_extensions-plain}
+use Rattle.apollo_schema_laws.proofs.Rearranged.Bare.{extensions-unplaced, first-unplaced, first_schema-unplaced, of_kind-unplaced, schema_extensions-unplaced, unless-unplaced}
+use Rattle.apollo_canonical_text.proofs.Plain.{plain_item, plain_list, plain_part, plain_schema_part}
 
 -- what elements add, one after the other, is seen alike where each that is carried adds what is seen alike
 module _ {X V Y W Z : Type 0} (at : List X → X → List Y) (other : List V → V → List W) (carry : V → X) (seen : Y → Z) (see : W → Z)
@@ -21,17 +22,12 @@ plain_folding (OfSchema s) = OfSchema (plain_schema_part s)
 
 types-folded : (before : List ListItem) (x : ListItem) → types_folded_at (plain_list before) (plain_item x) ≡ map plain_part (types_folded_at before x)
 types-folded before (Defined d) =
-    (λ i. option_map_or (λ _. []) (first-plain before (key_of d) i) ((ap (of_kind (kind_of (plain_part d))) (extensions-plain before (key_of d)) ∙ of_kind-plain d (extensions_of before (key_of d))) i))
-    ∙ by (first before (key_of d)) (of_kind (kind_of d) (extensions_of before (key_of d)))
-  where
-    by : (o : Option TypePart) (es : List TypePart) → option_map_or (λ _. []) (option_map plain_part o) (map plain_part es) ≡ map plain_part (option_map_or (λ _. []) o es)
-    by None es = refl
-    by (Some d) es = refl
-types-folded before (Extended e) = ap (λ o. option_map_or (λ d. of_kind (kind_of d) (plain_part e ∷ [])) o []) (first-plain before (key_of e)) ∙ by (first before (key_of e))
-  where
-    by : (o : Option TypePart) → option_map_or (λ d. of_kind (kind_of d) (plain_part e ∷ [])) (option_map plain_part o) [] ≡ map plain_part (option_map_or (λ d. of_kind (kind_of d) (e ∷ [])) o [])
-    by None = refl
-    by (Some d) = of_kind-plain d (e ∷ [])
+    (λ i. option_map_or (λ _. []) (first-unplaced true before (key_of d) i)
+    ((ap (of_kind (kind_of (plain_part d))) (extensions-unplaced true before (key_of d))
+    ∙ of_kind-unplaced true d (extensions_of before (key_of d))) i))
+    ∙ unless-unplaced plain_part plain_part (first before (key_of d))
+    (of_kind (kind_of d) (extensions_of before (key_of d)))
+types-folded before (Extended e) = grind (arith, first-unplaced true before (key_of e))
 types-folded before (SchemaDefined s) = refl
 types-folded before (SchemaExtended s) = refl
 types-folded before (Other d) = refl
@@ -39,16 +35,11 @@ types-folded before (Other d) = refl
 schemas-folded : (before : List ListItem) (x : ListItem) → schemas_folded_at (plain_list before) (plain_item x) ≡ map plain_schema_part (schemas_folded_at before x)
 schemas-folded before (Defined d) = refl
 schemas-folded before (Extended e) = refl
-schemas-folded before (SchemaDefined s) = (λ i. option_map_or (λ _. []) (first_schema-plain before i) (schema_extensions-plain before i)) ∙ by (first_schema before) (schema_extensions before)
-  where
-    by : (o : Option SchemaPart) (es : List SchemaPart) → option_map_or (λ _. []) (option_map plain_schema_part o) (map plain_schema_part es) ≡ map plain_schema_part (option_map_or (λ _. []) o es)
-    by None es = refl
-    by (Some d) es = refl
-schemas-folded before (SchemaExtended e) = ap (λ o. option_map_or (λ _. plain_schema_part e ∷ []) o []) (first_schema-plain before) ∙ by (first_schema before)
-  where
-    by : (o : Option SchemaPart) → option_map_or (λ _. plain_schema_part e ∷ []) (option_map plain_schema_part o) [] ≡ map plain_schema_part (option_map_or (λ _. e ∷ []) o [])
-    by None = refl
-    by (Some d) = refl
+schemas-folded before (SchemaDefined s) =
+    (λ i. option_map_or (λ _. []) (first_schema-unplaced true before i)
+    (schema_extensions-unplaced true before i))
+    ∙ unless-unplaced plain_schema_part plain_schema_part (first_schema before) (schema_extensions before)
+schemas-folded before (SchemaExtended e) = grind (arith, first_schema-unplaced true before)
 schemas-folded before (Other d) = refl
 
 all-folded : (before : List ListItem) (x : ListItem) → map (λ f. f) (folded_at (plain_list before) (plain_item x)) ≡ map plain_folding (folded_at before x)

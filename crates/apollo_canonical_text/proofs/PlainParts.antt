@@ -1,20 +1,14 @@
--- Plain components are put under their origins as plain parts, and plain types are written out as what the
--- types are written out as, without locations.
-use Rattle.apollo_meaning.proofs.Prelude.{Component, ComponentName, ◌++◌, ◌∙◌, ◌∷◌, ◌≡◌, Bool, Enum, ExtendedType, InputObject, Interface, List, NameView, None, Object, Option, Scalar, Union, [], ap, arith, cond, false, filter, filter_map, first_of_each, is_built_in, map, map-append, map-map, option_map, refl, sym, true, drop, TypeKind, type_kind}
-use Rattle.graphql_nodes.specs.Comparing.{bare_name, bare_node}
-use Rattle.graphql_nodes.specs.Tables.{values_of}
+-- Plain components are put under their origins as plain parts. Plain types are written out as what the types
+-- are written out as, without locations.
+use Rattle.apollo_meaning.proofs.Prelude.{◌∙◌, ◌∷◌, ◌≡◌, Bool, ExtendedType, List, NameView, None, Option, Scalar, [], ap, arith, cond, false, filter, filter_map, first_of_each, is_built_in, map, map-append, map-map, option_map, refl, sym, true, drop, TypeKind, type_kind}
+use Rattle.graphql_nodes.specs.Comparing.{bare_name}
 use Rattle.graphql_nodes.specs.declared.source.SourceSpan.{SourceSpan}
 use Rattle.graphql_nodes.specs.declared.type_kind.TypeKind.TheVariants as k
-use Rattle.graphql_ast.specs.Bare.{bare_directive}
 use Rattle.graphql_ast.specs.BareDocuments.{bare_definition}
-use Rattle.graphql_ast.specs.BareTypeSystem.{bare_enum_value_definition, bare_field_definition, bare_input_value_definition, bare_root_operation}
 use Rattle.graphql_ast.specs.BareDeclarations.{bare_item, bare_parts}
-use Rattle.graphql_ast.specs.Declarations.{type_definition, type_extension}
+use Rattle.graphql_ast.specs.Declarations.{Declaration, OfDirective, OfFragment, OfOperation, OfSchema, OfType, declaration_of, made, type_definition, type_extension}
 use Rattle.graphql_ast.specs.Parts.{Sort, Directives, Names, Fields, Values, InputFields, Roots, of_sort, parts_of, with_lists}
 use Rattle.graphql_ast.specs.declared.definition.Definition.{Definition}
-use Rattle.graphql_ast.specs.declared.definition.Definition.TheVariants as d
-use Rattle.graphql_ast.specs.declared.directive.Directive.{Directive}
-use Rattle.graphql_ast.specs.declared.type_system.FieldDefinition.{FieldDefinition}
 use Rattle.graphql_ast.specs.declared.parts.Part.{Part}
 use Rattle.graphql_ast.specs.declared.parts.Part.TheVariants as p
 use Rattle.graphql_ast.specs.declared.parts.Parts.{Parts}
@@ -26,11 +20,10 @@ use Rattle.apollo_component.specs.declared.extension.ExtensionId.{ExtensionId}
 use Rattle.apollo_component.specs.declared.parts_by_origin.PartsByOrigin.{PartsByOrigin}
 use Rattle.apollo_component.proofs.FirstOfEachLemmas.{first_of_each-map}
 use Rattle.apollo_component.proofs.Lists.Each.{filter-map}
-use Rattle.apollo_types.specs.Components.{of_directive, of_field, of_input_field, of_name, of_value}
 use Rattle.apollo_types.specs.TypeWriteOut.{type_components, type_description, type_location, type_name, write_type}
 use Rattle.apollo_schema.specs.SchemaWriteOut.{write_held_type}
-use Rattle.apollo_canonical_text.proofs.Plain.{mark-kept}
-use Rattle.apollo_canonical_text.proofs.PlainTypes.{plain_component, plain_component_name, plain_entry, plain_id, plain_origin, plain_type}
+use Rattle.apollo_schema_laws.proofs.Rearranged.Bare.{mark-kept}
+use Rattle.apollo_canonical_text.proofs.PlainTypes.{plain_id, plain_origin, plain_type}
 
 -- what a definition is made of
 abbrev pub bare_part : Part → Part
@@ -64,11 +57,8 @@ abbrev pub plain_part_of : SourcedPart → SourcedPart
 plain_part_of c = (plain_origin c.0, bare_part c.1)
 
 -- origins are the same as before
-same-plain : (a b : ComponentOrigin) → same_origin (plain_origin a) (plain_origin b) ≡ same_origin a b
-same-plain origins.Definition origins.Definition = refl
-same-plain origins.Definition (origins.Extension b) = refl
-same-plain (origins.Extension a) origins.Definition = refl
-same-plain (origins.Extension a) (origins.Extension b) = refl
+pub same-plain : (a b : ComponentOrigin) → same_origin (plain_origin a) (plain_origin b) ≡ same_origin a b
+same-plain a b = grind arith
 
 -- the parts of one origin
 of_origin-plain : (o : ComponentOrigin) (cs : List SourcedPart) → of_origin (plain_origin o) (map plain_part_of cs) ≡ bare_parts (of_origin o cs)
@@ -80,8 +70,7 @@ of_origin-plain o cs =
 -- the identities of extensions
 ids-plain : (os : List ComponentOrigin) → filter_map id_of (map plain_origin os) ≡ map plain_id (filter_map id_of os)
 ids-plain [] = refl
-ids-plain (origins.Definition ∷ os) = ids-plain os
-ids-plain (origins.Extension e ∷ os) = ap (λ l. plain_id e ∷ l) (ids-plain os)
+ids-plain (o ∷ os) = grind (arith, ids-plain os)
 
 pub identities-plain : (cs : List SourcedPart) → identities (origins_in (map plain_part_of cs)) ≡ map plain_id (identities (origins_in cs))
 identities-plain cs =
@@ -103,88 +92,44 @@ by_origin-plain cs = λ i. record { definition = of_origin-plain origins.Definit
         ∙ (λ i. map (λ e. (plain_id e, of_origin-plain (origins.Extension e) cs i)) (identities (origins_in cs)))
         ∙ sym (map-map (λ (e : ExtensionId × Parts). (plain_id e.0, bare_parts e.1)) (λ e. (e, of_origin (origins.Extension e) cs)) (identities (origins_in cs)))
 
--- components of each sort
-module _ {A : Type 0} (of : A → SourcedPart) (plain : A → A) (agree : (a : A) → of (plain a) ≡ plain_part_of (of a)) where
-  pub of-plain : (xs : List A) → map of (map plain xs) ≡ map plain_part_of (map of xs)
-  of-plain [] = refl
-  of-plain (a ∷ xs) = λ i. agree a i ∷ of-plain xs i
-
-  pub of-values : (es : List (NameView × A)) → map of (values_of (map (λ (e : NameView × A). (bare_name e.0, plain e.1)) es)) ≡ map plain_part_of (map of (values_of es))
-  of-values [] = refl
-  of-values (e ∷ es) = λ i. agree e.1 i ∷ of-values es i
-
-two-plain : (us bs cs ds : List SourcedPart) → us ≡ map plain_part_of bs → cs ≡ map plain_part_of ds → us ++ cs ≡ map plain_part_of (bs ++ ds)
-two-plain us bs cs ds e f = (λ i. e i ++ f i) ∙ sym (map-append plain_part_of bs ds)
-
-module _ (ds : List (Component Directive)) where
-  -- directives, and what stands behind them
-  directives-plain : map of_directive (map (plain_component bare_directive) ds) ≡ map plain_part_of (map of_directive ds)
-  directives-plain = of-plain of_directive (plain_component bare_directive) (λ a. refl) ds
-
-  named-plain : (ns : List ComponentName) → map of_directive (map (plain_component bare_directive) ds) ++ map of_name (map plain_component_name ns) ≡ map plain_part_of (map of_directive ds ++ map of_name ns)
-  named-plain ns = two-plain _ (map of_directive ds) _ (map of_name ns) directives-plain (of-plain of_name plain_component_name (λ a. refl) ns)
-
-  fielded-plain : (ns : List ComponentName) (fs : List (NameView × Component FieldDefinition))
-      → (map of_directive (map (plain_component bare_directive) ds) ++ map of_name (map plain_component_name ns)) ++ map of_field (values_of (map (plain_entry bare_field_definition) fs))
-      ≡ map plain_part_of ((map of_directive ds ++ map of_name ns) ++ map of_field (values_of fs))
-  fielded-plain ns fs = two-plain _ (map of_directive ds ++ map of_name ns) _ (map of_field (values_of fs)) (named-plain ns) (of-values of_field (plain_component bare_field_definition) (λ a. refl) fs)
-
+-- the components of a plain type
 components-plain : (t : ExtendedType) → type_components (plain_type t) ≡ map plain_part_of (type_components t)
-components-plain (Scalar n) = directives-plain n.value.directives.0
-components-plain (Object n) = fielded-plain n.value.directives.0 n.value.implements_interfaces n.value.fields
-components-plain (Interface n) = fielded-plain n.value.directives.0 n.value.implements_interfaces n.value.fields
-components-plain (Union n) = named-plain n.value.directives.0 n.value.members
-components-plain (Enum n) =
-    two-plain _ (map of_directive n.value.directives.0) _ (map of_value (values_of n.value.values)) (directives-plain n.value.directives.0) (of-values of_value (plain_component bare_enum_value_definition) (λ a. refl) n.value.values)
-components-plain (InputObject n) =
-    two-plain _ (map of_directive n.value.directives.0) _ (map of_input_field (values_of n.value.fields)) (directives-plain n.value.directives.0) (of-values of_input_field (plain_component bare_input_value_definition) (λ a. refl) n.value.fields)
+components-plain (Scalar n) = simp map-map
+components-plain t = simp (map-append, map-map)
 
 -- a definition without the location of its own
+abbrev nowhere_declared : Declaration → Declaration
+nowhere_declared (OfType t) = OfType (record t { location = None })
+nowhere_declared (OfSchema s) = OfSchema (record s { location = None })
+nowhere_declared (OfDirective n) = OfDirective (record n { location = None })
+nowhere_declared (OfOperation n) = OfOperation (record n { location = None })
+nowhere_declared (OfFragment n) = OfFragment (record n { location = None })
+
 abbrev pub nowhere : Definition → Definition
-nowhere (d.OperationDefinition n) = d.OperationDefinition (record n { location = None })
-nowhere (d.FragmentDefinition n) = d.FragmentDefinition (record n { location = None })
-nowhere (d.DirectiveDefinition n) = d.DirectiveDefinition (record n { location = None })
-nowhere (d.SchemaDefinition n) = d.SchemaDefinition (record n { location = None })
-nowhere (d.ScalarTypeDefinition n) = d.ScalarTypeDefinition (record n { location = None })
-nowhere (d.ObjectTypeDefinition n) = d.ObjectTypeDefinition (record n { location = None })
-nowhere (d.InterfaceTypeDefinition n) = d.InterfaceTypeDefinition (record n { location = None })
-nowhere (d.UnionTypeDefinition n) = d.UnionTypeDefinition (record n { location = None })
-nowhere (d.EnumTypeDefinition n) = d.EnumTypeDefinition (record n { location = None })
-nowhere (d.InputObjectTypeDefinition n) = d.InputObjectTypeDefinition (record n { location = None })
-nowhere (d.SchemaExtension n) = d.SchemaExtension (record n { location = None })
-nowhere (d.ScalarTypeExtension n) = d.ScalarTypeExtension (record n { location = None })
-nowhere (d.ObjectTypeExtension n) = d.ObjectTypeExtension (record n { location = None })
-nowhere (d.InterfaceTypeExtension n) = d.InterfaceTypeExtension (record n { location = None })
-nowhere (d.UnionTypeExtension n) = d.UnionTypeExtension (record n { location = None })
-nowhere (d.EnumTypeExtension n) = d.EnumTypeExtension (record n { location = None })
-nowhere (d.InputObjectTypeExtension n) = d.InputObjectTypeExtension (record n { location = None })
+nowhere x = made (nowhere_declared (declaration_of x))
 
 -- what a plain type and a plain extension are written out as is bare but for that
 definition-plain : (kind : TypeKind) (text : Option NameView) (name : NameView) (ps : Parts) (at other : Option SourceSpan)
     → nowhere (type_definition kind (option_map bare_name text) (bare_name name) (bare_parts ps) at) ≡ bare_definition (type_definition kind text name ps other)
 definition-plain k.Scalar text name ps at other = refl
-definition-plain k.Object text name ps at other = refl
-definition-plain k.Interface text name ps at other = refl
-definition-plain k.Union text name ps at other = refl
-definition-plain k.Enum text name ps at other = refl
-definition-plain k.InputObject text name ps at other = refl
+definition-plain kind text name ps at other = refl
 
 extension-plain : (kind : TypeKind) (name : NameView) (ps : Parts) (at other : Option SourceSpan)
     → nowhere (type_extension kind (bare_name name) (bare_parts ps) at) ≡ bare_definition (type_extension kind name ps other)
 extension-plain k.Scalar name ps at other = refl
-extension-plain k.Object name ps at other = refl
-extension-plain k.Interface name ps at other = refl
-extension-plain k.Union name ps at other = refl
-extension-plain k.Enum name ps at other = refl
-extension-plain k.InputObject name ps at other = refl
+extension-plain kind name ps at other = refl
 
 -- so are all extensions
-pub extensions-plain : (make : Parts → Option SourceSpan → Definition) (made : Parts → Option SourceSpan → Definition)
-    → ((ps : Parts) (at other : Option SourceSpan) → nowhere (made (bare_parts ps) at) ≡ bare_definition (make ps other))
+pub extensions-plain : (make : Parts → Option SourceSpan → Definition)
+    (makes : Parts → Option SourceSpan → Definition)
+    → ((ps : Parts) (at other : Option SourceSpan) → nowhere (makes (bare_parts ps) at)
+    ≡ bare_definition (make ps other))
     → (es : List (ExtensionId × Parts))
-    → map nowhere (map (λ (e : ExtensionId × Parts). made e.1 (extension_location e.0)) (map (λ (e : ExtensionId × Parts). (plain_id e.0, bare_parts e.1)) es)) ≡ map bare_definition (map (λ (e : ExtensionId × Parts). make e.1 (extension_location e.0)) es)
-extensions-plain make made agree [] = refl
-extensions-plain make made agree (e ∷ es) = λ i. agree e.1 (extension_location (plain_id e.0)) (extension_location e.0) i ∷ extensions-plain make made agree es i
+    → map nowhere (map (λ (e : ExtensionId × Parts). makes e.1 (extension_location e.0))
+    (map (λ (e : ExtensionId × Parts). (plain_id e.0, bare_parts e.1)) es))
+    ≡ map bare_definition (map (λ (e : ExtensionId × Parts). make e.1 (extension_location e.0)) es)
+extensions-plain make makes agree es =
+    simp map-map (λ i. map (λ e. agree e.1 (extension_location (plain_id e.0)) (extension_location e.0) i) es)
 
 type-written : (kind : TypeKind) (text : Option NameView) (name : NameView) (ps : PartsByOrigin) (at other : Option SourceSpan)
     → map nowhere (written_type kind (option_map bare_name text) (bare_name name) (plain_by_origin ps) at) ≡ map bare_definition (written_type kind text name ps other)
@@ -198,20 +143,12 @@ type-says t at = ap (λ ps. written_type (type_kind (plain_type t)) (type_descri
     by : (u : ExtendedType) → written_type (type_kind (plain_type u)) (type_description (plain_type u)) (type_name (plain_type u)) (plain_by_origin (by_origin (type_components t))) at
         ≡ written_type (type_kind u) (option_map bare_name (type_description u)) (bare_name (type_name u)) (plain_by_origin (by_origin (type_components t))) at
     by (Scalar n) = refl
-    by (Object n) = refl
-    by (Interface n) = refl
-    by (Union n) = refl
-    by (Enum n) = refl
-    by (InputObject n) = refl
+    by u = refl
 
 -- a plain type is marked as the type is
 marked-plain : (t : ExtendedType) → is_built_in (type_location (plain_type t)) ≡ is_built_in (type_location t)
 marked-plain (Scalar n) = mark-kept n.location
-marked-plain (Object n) = mark-kept n.location
-marked-plain (Interface n) = mark-kept n.location
-marked-plain (Union n) = mark-kept n.location
-marked-plain (Enum n) = mark-kept n.location
-marked-plain (InputObject n) = mark-kept n.location
+marked-plain t = mark-kept (type_location t)
 
 pub held-plain : (t : ExtendedType) → map nowhere (write_held_type (plain_type t)) ≡ map bare_definition (write_held_type t)
 held-plain t = (λ i. map nowhere (cond (marked-plain t i) (drop 1 (write_type (plain_type t))) (write_type (plain_type t)))) ∙ by (is_built_in (type_location t))

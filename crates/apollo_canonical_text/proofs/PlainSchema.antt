@@ -1,7 +1,7 @@
 -- The schema definition that a plain list means, and what it is written out as.
-use Rattle.apollo_meaning.proofs.Prelude.{◌&&◌, ◌++◌, ◌∙◌, ◌∷◌, ◌≡◌, ◌+◌, ◌==◌, Bool, ComponentName, ExtendedType, Folding, List, ListItem, Mutation, NameView, NodeView, None, OfSchema, OfType, OperationType, Option, Query, SchemaDefinition, SchemaPart, Some, SourcedSchema, Subscription, [], ap, component, component_name, cond, false, find, first_schema, flat_map, folding_order, length, list_any, lookup, map, map-append, not, option_map, refl, same_text, schema_from, schema_of, sym, true, ℕ, unwrap_or, Scalar, Object, Interface, Union, Enum, InputObject, Root}
+use Rattle.apollo_meaning.proofs.Prelude.{◌&&◌, ◌∙◌, ◌∷◌, ◌≡◌, ◌+◌, ◌==◌, Bool, ComponentName, ExtendedType, Folding, List, ListItem, Mutation, NameView, NodeView, None, OfSchema, OfType, OperationType, Option, Query, SchemaDefinition, SchemaPart, Some, SourcedSchema, Subscription, [], ap, arith, component, component_name, cond, false, find, first_schema, flat_map, folding_order, length, list_any, lookup, map, map-append, map-map, not, option_map, refl, same_text, schema_from, schema_of, true, ℕ, unwrap_or, Root}
 use Rattle.std.specs.Prelude.{nat_eq, is_none}
-use Rattle.std.specs.List.{cons_option, list_all}
+use Rattle.std.specs.List.{list_all}
 use Rattle.std.specs.Option.{option_eq}
 use Rattle.std.specs.Cmp.Lexicographic.{pointwise}
 use Rattle.std.proofs.lemmas.List.{length-map}
@@ -13,18 +13,17 @@ use Rattle.graphql_ast.specs.BareTypeSystem.{bare_root_operation}
 use Rattle.graphql_ast.specs.Declarations.{schema_definition, schema_extension}
 use Rattle.apollo_component.specs.Extensions.{same_origin}
 use Rattle.apollo_component.specs.WriteOut.{by_origin, identities, origins_in, written_schema}
-use Rattle.apollo_component.specs.declared.extension.ComponentOrigin.{ComponentOrigin}
 use Rattle.apollo_component.specs.declared.extension.ComponentOrigin.TheVariants as origins
 use Rattle.apollo_component.specs.declared.parts_by_origin.PartsByOrigin.{PartsByOrigin}
 use Rattle.apollo_component.proofs.Lists.Cases.{find-made, list_any-map}
-use Rattle.apollo_types.specs.Components.{of_directive, of_root}
 use Rattle.apollo_types.specs.SchemaDefinitionWriteOut.{default_name, has_implied_root, has_own_root, is_some_object, is_written, schema_components, write_schema_definition}
 use Rattle.apollo_types.specs.SchemaRoots.{named_roots, operation_types, root_of}
 use Rattle.apollo_meaning.specs.Schema.Definition.{no_schema, root_in, roots_of, same_operation, schema_directives_of, schema_extension_source, schema_parts, schema_sourced}
-use Rattle.apollo_canonical_text.proofs.Plain.{mark, plain_list, plain_schema_part, first_schema-plain}
+use Rattle.apollo_schema_laws.proofs.Rearranged.Bare.{first_schema-unplaced, mark}
+use Rattle.apollo_canonical_text.proofs.Plain.{plain_list, plain_schema_part}
 use Rattle.apollo_canonical_text.proofs.PlainFolding.{folding_order-plain, plain_folding}
 use Rattle.apollo_canonical_text.proofs.PlainTypes.{carried, plain_component, plain_component_name, plain_id, plain_origin, plain_type}
-use Rattle.apollo_canonical_text.proofs.PlainParts.{by_origin-plain, extensions-plain, identities-plain, nowhere, of-plain, plain_by_origin, plain_part_of}
+use Rattle.apollo_canonical_text.proofs.PlainParts.{by_origin-plain, extensions-plain, identities-plain, nowhere, plain_by_origin, plain_part_of, same-plain}
 
 -- a schema definition
 abbrev pub plain_definition : SchemaDefinition → SchemaDefinition
@@ -54,11 +53,7 @@ root op ps =
     ap (λ rs. option_map (λ r. r.1) (find (λ r. same_operation op r.0) rs))
     (carried (λ o (r : Root). (r.value.0, component_name o r.value.1)) plain_root (bare_node bare_root_operation) (λ o r. refl) plain_schema_part (λ (s : SchemaPart). s.roots) (λ s. refl) ps)
     ∙ ap (option_map (λ r. r.1)) (find-made (λ (r : OperationType × ComponentName). same_operation op r.0) plain_root (flat_map roots_of ps))
-    ∙ by (find (λ r. same_operation op r.0) (flat_map roots_of ps))
-  where
-    by : (o : Option (OperationType × ComponentName)) → option_map (λ r. r.1) (option_map plain_root o) ≡ option_map plain_component_name (option_map (λ r. r.1) o)
-    by None = refl
-    by (Some r) = refl
+    ∙ grind arith
 
 from-plain : (head : SchemaPart) (ps : List SourcedSchema) → schema_from (plain_schema_part head) (map plain_sourced ps) ≡ plain_node (schema_from head ps)
 from-plain head ps = λ i. record {
@@ -80,7 +75,10 @@ sourced-plain start (OfSchema s ∷ fs) = ap (λ l. plain_sourced (schema_extens
 
 pub schema_of-plain : (start : ℕ) (xs : List ListItem) → unwrap_or (schema_of start (folding_order (plain_list xs)) (plain_list xs)) no_schema ≡ plain_node (unwrap_or (schema_of start (folding_order xs) xs) no_schema)
 schema_of-plain start xs =
-    (λ i. unwrap_or (option_map (λ s. schema_from s ((origins.Definition, s) ∷ (ap (schema_sourced start) (folding_order-plain xs) ∙ sourced-plain start (folding_order xs)) i)) (first_schema-plain xs i)) no_schema)
+    (λ i. unwrap_or (option_map (λ s. schema_from s
+    ((origins.Definition, s) ∷
+    (ap (schema_sourced start) (folding_order-plain xs) ∙ sourced-plain start (folding_order xs)) i))
+    (first_schema-unplaced true xs i)) no_schema)
     ∙ by (first_schema xs)
   where
     by : (o : Option SchemaPart) → unwrap_or (option_map (λ s. schema_from s ((origins.Definition, s) ∷ map plain_sourced (schema_sourced start (folding_order xs)))) (option_map plain_schema_part o)) no_schema
@@ -94,58 +92,31 @@ plain_table plain = map (λ e. (bare_name e.0, plain e.1))
 
 pub lookup-plain : {V : Type 0} (plain : V → V) (test : NameView → Bool) → ((k : NameView) → test (bare_name k) ≡ test k) → (es : List (NameView × V)) → lookup test (plain_table plain es) ≡ option_map plain (lookup test es)
 lookup-plain plain test agree [] = refl
-lookup-plain plain test agree (e ∷ es) = ap (λ b. cond b (Some (plain e.1)) (lookup test (plain_table plain es))) (agree e.0) ∙ by (test e.0) (lookup-plain plain test agree es)
-  where
-    by : (b : Bool) → lookup test (plain_table plain es) ≡ option_map plain (lookup test es) → cond b (Some (plain e.1)) (lookup test (plain_table plain es)) ≡ option_map plain (cond b (Some e.1) (lookup test es))
-    by true rest = refl
-    by false rest = rest
+lookup-plain plain test agree (e ∷ es) = grind (arith, agree e.0, lookup-plain plain test agree es)
 
 -- the roots that are there, and all components
 roots-plain : (s : SchemaDefinition) → named_roots (plain_definition s) ≡ map plain_root (named_roots s)
-roots-plain s = one Query s.query _ _ (one Mutation s.mutation _ _ (one Subscription s.subscription [] [] refl))
-  where
-    one : (op : OperationType) (o : Option ComponentName) (rest others : List (OperationType × ComponentName)) → rest ≡ map plain_root others
-        → cons_option (option_map (λ n. (op, n)) (option_map plain_component_name o)) rest ≡ map plain_root (cons_option (option_map (λ n. (op, n)) o) others)
-    one op None rest others e = e
-    one op (Some n) rest others e = ap (λ l. (op, plain_component_name n) ∷ l) e
+roots-plain s = grind arith
 
 components-plain : (s : SchemaDefinition) → schema_components (plain_definition s) ≡ map plain_part_of (schema_components s)
-components-plain s =
-    (λ i. of-plain of_directive (plain_component bare_directive) (λ a. refl) s.directives.0 i ++ (ap (map of_root) (roots-plain s) ∙ of-plain of_root plain_root (λ a. refl) (named_roots s)) i)
-    ∙ sym (map-append plain_part_of (map of_directive s.directives.0) (map of_root (named_roots s)))
+components-plain s = simp (map-append, map-map, roots-plain)
 
 -- whether it is written
 own-plain : (s : SchemaDefinition) → has_own_root (plain_definition s) ≡ has_own_root s
 own-plain s =
     ap (list_any (λ r. same_origin origins.Definition r.1.origin)) (roots-plain s)
     ∙ list_any-map (λ (r : OperationType × ComponentName). same_origin origins.Definition r.1.origin) plain_root (named_roots s)
-    ∙ (λ i. list_any (λ r. by r.1.origin i) (named_roots s))
-  where
-    by : (o : ComponentOrigin) → same_origin origins.Definition (plain_origin o) ≡ same_origin origins.Definition o
-    by origins.Definition = refl
-    by (origins.Extension e) = refl
+    ∙ (λ i. list_any (λ r. same-plain origins.Definition r.1.origin i) (named_roots s))
 
 object-plain : (o : Option ExtendedType) → is_some_object (option_map plain_type o) ≡ is_some_object o
-object-plain None = refl
-object-plain (Some (Scalar n)) = refl
-object-plain (Some (Object n)) = refl
-object-plain (Some (Interface n)) = refl
-object-plain (Some (Union n)) = refl
-object-plain (Some (Enum n)) = refl
-object-plain (Some (InputObject n)) = refl
+object-plain o = grind arith
 
 module _ (types : List (NameView × ExtendedType)) (s : SchemaDefinition) where
   implied-plain : (op : OperationType) → has_implied_root (plain_table plain_type types) (plain_definition s) op ≡ has_implied_root types s op
   implied-plain op = (λ i. option_eq (pointwise nat_eq) (text op i) (cond ((ap is_some_object (lookup-plain plain_type (same_text (default_name op)) (λ k. refl) types) ∙ object-plain (lookup (same_text (default_name op)) types)) i) (Some (default_name op).text) None))
     where
-      of : (o : Option ComponentName) → option_map (λ n. n.name.text) (option_map plain_component_name o) ≡ option_map (λ n. n.name.text) o
-      of None = refl
-      of (Some n) = refl
-
       text : (op : OperationType) → option_map (λ n. n.name.text) (root_of (plain_definition s) op) ≡ option_map (λ n. n.name.text) (root_of s op)
-      text Query = of s.query
-      text Mutation = of s.mutation
-      text Subscription = of s.subscription
+      text op = grind arith
 
   written-plain : is_written (plain_table plain_type types) (plain_definition s) ≡ is_written types s
   written-plain = λ i. own-plain s i && not (

@@ -1,18 +1,20 @@
 -- The types that plain parts make are plain: origins keep their numbers, and locations are gone.
-use Rattle.apollo_meaning.proofs.Prelude.{◌∙◌, ◌∷◌, ◌≡◌, ◌+◌, Bool, Component, ComponentName, Enum, EnumBody, ExtendedType, Folding, InputObject, InputObjectBody, Interface, InterfaceBody, List, ListItem, NameView, NodeView, None, Object, ObjectBody, OfSchema, OfType, Option, Scalar, ScalarBody, Some, Sourced, TypeBody, TypePart, Union, UnionBody, [], ap, arith, cond, component, component_name, distinct_entries, distinct_names, extension_part, extensions_with_origin, false, filter, filter_map, first, flat_map, folding_order, key_of, map, option_map, parts, refl, same, same_component_name, same_key, same_text, sym, true, type_from, type_of_kind, ℕ}
-use Rattle.std.specs.List.{enumerate_from}
+use Rattle.apollo_meaning.proofs.Prelude.{◌∙◌, ◌∷◌, ◌≡◌, ◌+◌, Component, ComponentName, Enum, ExtendedType, Folding, InputObject, Interface, List, ListItem, NameView, NodeView, None, Object, OfSchema, OfType, Option, Scalar, Some, Sourced, TypeKind, TypePart, Union, [], ap, arith, component, component_name, distinct_entries, distinct_names, extensions_with_origin, first, flat_map, folding_order, map, map-map, option_map, parts, refl, same_component_name, same_key, same_text, sym, type_from, type_of_kind, ℕ, true}
 use Rattle.std.proofs.lemmas.List.Folds.{flat_map-map}
 use Rattle.graphql_nodes.specs.Comparing.{bare_name, bare_node}
+use Rattle.graphql_nodes.specs.declared.type_kind.TypeKind.TheVariants as k
 use Rattle.graphql_ast.specs.Bare.{bare_directive}
 use Rattle.graphql_ast.specs.BareTypeSystem.{bare_enum_value_definition, bare_field_definition, bare_input_value_definition}
 use Rattle.apollo_component.specs.declared.extension.ComponentOrigin.{ComponentOrigin}
 use Rattle.apollo_component.specs.declared.extension.ComponentOrigin.TheVariants.{Definition, Extension}
 use Rattle.apollo_component.specs.declared.extension.ExtensionId.{ExtensionId}
 use Rattle.apollo_component.proofs.FirstOfEachLemmas.{first_of_each-map}
-use Rattle.apollo_meaning.specs.Types.Components.{body_fields, body_input_fields, body_interfaces, body_members, body_values, field_entry, input_field_entry, value_entry}
-use Rattle.apollo_meaning.specs.Types.Meaning.{of_type, type_of}
+use Rattle.apollo_meaning.specs.Items.Parts.{held_parts}
+use Rattle.apollo_meaning.specs.Types.Components.{field_entry, fields_of, input_field_entry, names_of, sourced_directives, value_entry}
+use Rattle.apollo_meaning.specs.Types.Meaning.{enum_of, input_object_of, interface_of, object_of, scalar_of, type_of, union_of}
 use Rattle.apollo_schema_laws.proofs.Permutations.{map-flat_map}
-use Rattle.apollo_canonical_text.proofs.Plain.{mark, plain_body, plain_list, plain_part, first-plain}
+use Rattle.apollo_schema_laws.proofs.Rearranged.Bare.{first-unplaced, mark, of_type-bare}
+use Rattle.apollo_canonical_text.proofs.Plain.{plain_list, plain_part}
 use Rattle.apollo_canonical_text.proofs.PlainFolding.{folding_order-plain, plain_folding}
 
 -- the identity of an extension, and the origin of a component: its number stays
@@ -63,82 +65,105 @@ plain_type (InputObject n) = InputObject (record {
 -- what parts hold, with their origins
 module _ {A C P : Type 0} (sourced : ComponentOrigin → C → A) (seen : A → A) (one : C → C) (agree : (o : ComponentOrigin) (c : C) → sourced (plain_origin o) (one c) ≡ seen (sourced o c))
     (plain : P → P) (held : P → List C) (holds : (p : P) → held (plain p) ≡ map one (held p)) where
-  each-carried : (o : ComponentOrigin) (cs : List C) → map (sourced (plain_origin o)) (map one cs) ≡ map seen (map (sourced o) cs)
-  each-carried o [] = refl
-  each-carried o (c ∷ cs) = λ i. agree o c i ∷ each-carried o cs i
-
   pub carried : (ps : List (ComponentOrigin × P)) → flat_map (λ (s : ComponentOrigin × P). map (sourced s.0) (held s.1)) (map (λ (s : ComponentOrigin × P). (plain_origin s.0, plain s.1)) ps) ≡ map seen (flat_map (λ (s : ComponentOrigin × P). map (sourced s.0) (held s.1)) ps)
   carried ps =
-      flat_map-map (λ (s : ComponentOrigin × P). map (sourced s.0) (held s.1)) (λ (s : ComponentOrigin × P). (plain_origin s.0, plain s.1)) ps
-      ∙ (λ i. flat_map (λ (s : ComponentOrigin × P). (ap (map (sourced (plain_origin s.0))) (holds s.1) ∙ each-carried s.0 (held s.1)) i) ps)
-      ∙ sym (map-flat_map seen (λ (s : ComponentOrigin × P). map (sourced s.0) (held s.1)) ps)
+      simp (flat_map-map, map-flat_map, map-map)
+      (λ i. flat_map (λ s. (ap (map (sourced (plain_origin s.0))) (holds s.1)
+      ∙ map-map (sourced (plain_origin s.0)) one (held s.1)
+      ∙ (λ j. map (λ c. agree s.0 c j) (held s.1))) i) ps)
 
 -- a part with its origin
 abbrev pub plain_sourced : Sourced → Sourced
 plain_sourced s = (plain_origin s.0, plain_part s.1)
 
 module _ (ps : List Sourced) where
-  directives : flat_map (λ (s : Sourced). map (component s.0) s.1.directives) (map plain_sourced ps) ≡ map (plain_component bare_directive) (flat_map (λ (s : Sourced). map (component s.0) s.1.directives) ps)
-  directives = carried component (plain_component bare_directive) (bare_node bare_directive) (λ o d. refl) plain_part (λ p. p.directives) (λ p. refl) ps
+  directives : flat_map sourced_directives (map plain_sourced ps)
+      ≡ map (plain_component bare_directive) (flat_map sourced_directives ps)
+  directives =
+      carried component (plain_component bare_directive) (bare_node bare_directive) (λ o d. refl) plain_part
+      (λ p. p.parts.directives) (λ p. refl) ps
 
-  names : (held : TypePart → List NameView) → ((p : TypePart) → held (plain_part p) ≡ map bare_name (held p))
-      → distinct_names (flat_map (λ (s : Sourced). map (component_name s.0) (held s.1)) (map plain_sourced ps)) ≡ map plain_component_name (distinct_names (flat_map (λ (s : Sourced). map (component_name s.0) (held s.1)) ps))
-  names held holds =
-      ap distinct_names (carried component_name plain_component_name bare_name (λ o n. refl) plain_part held holds ps)
-      ∙ sym (first_of_each-map same_component_name plain_component_name (flat_map (λ (s : Sourced). map (component_name s.0) (held s.1)) ps))
+  names : distinct_names (flat_map names_of (map plain_sourced ps))
+      ≡ map plain_component_name (distinct_names (flat_map names_of ps))
+  names =
+      ap distinct_names (carried component_name plain_component_name bare_name (λ o n. refl) plain_part
+      (λ p. (held_parts p).names) (λ p i. (of_type-bare p.kind p.parts i).names) ps)
+      ∙ sym (first_of_each-map same_component_name plain_component_name (flat_map names_of ps))
 
   entries : {T : Type 0} (bare : T → T) (entry : ComponentOrigin → NodeView T → NameView × Component T)
       → ((o : ComponentOrigin) (c : NodeView T) → entry (plain_origin o) (bare_node bare c) ≡ plain_entry bare (entry o c))
       → (held : TypePart → List (NodeView T)) → ((p : TypePart) → held (plain_part p) ≡ map (bare_node bare) (held p))
-      → distinct_entries (flat_map (λ (s : Sourced). map (entry s.0) (held s.1)) (map plain_sourced ps)) ≡ map (plain_entry bare) (distinct_entries (flat_map (λ (s : Sourced). map (entry s.0) (held s.1)) ps))
+      → distinct_entries (flat_map (λ (s : Sourced). map (entry s.0) (held s.1)) (map plain_sourced ps))
+      ≡ map (plain_entry bare) (distinct_entries (flat_map (λ (s : Sourced). map (entry s.0) (held s.1)) ps))
   entries bare entry agree held holds =
       ap distinct_entries (carried entry (plain_entry bare) (bare_node bare) agree plain_part held holds ps)
       ∙ sym (first_of_each-map (same_key same_text) (plain_entry bare) (flat_map (λ (s : Sourced). map (entry s.0) (held s.1)) ps))
 
-pub holds-interfaces : (b : TypeBody) → body_interfaces (plain_body b) ≡ map bare_name (body_interfaces b)
-holds-interfaces b = grind arith
+  fields : distinct_entries (flat_map fields_of (map plain_sourced ps))
+      ≡ map (plain_entry bare_field_definition) (distinct_entries (flat_map fields_of ps))
+  fields = entries bare_field_definition field_entry (λ o f. refl) (λ p. (held_parts p).fields)
+      (λ p i. (of_type-bare p.kind p.parts i).fields)
 
-pub holds-fields : (b : TypeBody) → body_fields (plain_body b) ≡ map (bare_node bare_field_definition) (body_fields b)
-holds-fields b = grind arith
-
-pub holds-members : (b : TypeBody) → body_members (plain_body b) ≡ map bare_name (body_members b)
-holds-members b = grind arith
-
-pub holds-values : (b : TypeBody) → body_values (plain_body b) ≡ map (bare_node bare_enum_value_definition) (body_values b)
-holds-values b = grind arith
-
-pub holds-input_fields : (b : TypeBody) → body_input_fields (plain_body b) ≡ map (bare_node bare_input_value_definition) (body_input_fields b)
-holds-input_fields b = grind arith
-
-from-plain : (head : TypePart) (ps : List Sourced) → type_from (plain_part head) (map plain_sourced ps) ≡ plain_type (type_from head ps)
-from-plain head ps = by head.body
-  where
-    by : (b : TypeBody) → type_of_kind (plain_body b) (plain_part head) (map plain_sourced ps) ≡ plain_type (type_of_kind b head ps)
-    by ScalarBody = λ i. Scalar (record { value = record { description = option_map bare_name head.description; name = bare_name head.name; directives = record { 0 = directives ps i } }; location = mark head.location })
-    by (ObjectBody interfaces fields) = λ i. Object (record { value = record { description = option_map bare_name head.description; name = bare_name head.name; implements_interfaces = names ps (λ p. body_interfaces p.body) (λ p. holds-interfaces p.body) i; directives = record { 0 = directives ps i }; fields = entries ps bare_field_definition field_entry (λ o f. refl) (λ p. body_fields p.body) (λ p. holds-fields p.body) i }; location = mark head.location })
-    by (InterfaceBody interfaces fields) = λ i. Interface (record { value = record { description = option_map bare_name head.description; name = bare_name head.name; implements_interfaces = names ps (λ p. body_interfaces p.body) (λ p. holds-interfaces p.body) i; directives = record { 0 = directives ps i }; fields = entries ps bare_field_definition field_entry (λ o f. refl) (λ p. body_fields p.body) (λ p. holds-fields p.body) i }; location = mark head.location })
-    by (UnionBody members) = λ i. Union (record { value = record { description = option_map bare_name head.description; name = bare_name head.name; directives = record { 0 = directives ps i }; members = names ps (λ p. body_members p.body) (λ p. holds-members p.body) i }; location = mark head.location })
-    by (EnumBody values) = λ i. Enum (record { value = record { description = option_map bare_name head.description; name = bare_name head.name; directives = record { 0 = directives ps i }; values = entries ps bare_enum_value_definition value_entry (λ o f. refl) (λ p. body_values p.body) (λ p. holds-values p.body) i }; location = mark head.location })
-    by (InputObjectBody fields) = λ i. InputObject (record { value = record { description = option_map bare_name head.description; name = bare_name head.name; directives = record { 0 = directives ps i }; fields = entries ps bare_input_value_definition input_field_entry (λ o f. refl) (λ p. body_input_fields p.body) (λ p. holds-input_fields p.body) i }; location = mark head.location })
+  made : (kind : TypeKind) (head : TypePart) → type_of_kind kind (plain_part head) (map plain_sourced ps)
+      ≡ plain_type (type_of_kind kind head ps)
+  made k.Scalar head = λ i. Scalar (record {
+    value = record (scalar_of (plain_part head) []) { directives = record { 0 = directives i } };
+    location = mark head.location;
+  })
+  made k.Object head = λ i. Object (record {
+    value = record (object_of (plain_part head) []) {
+      implements_interfaces = names i;
+      directives = record { 0 = directives i };
+      fields = fields i;
+    };
+    location = mark head.location;
+  })
+  made k.Interface head = λ i. Interface (record {
+    value = record (interface_of (plain_part head) []) {
+      implements_interfaces = names i;
+      directives = record { 0 = directives i };
+      fields = fields i;
+    };
+    location = mark head.location;
+  })
+  made k.Union head = λ i. Union (record {
+    value = record (union_of (plain_part head) []) {
+      directives = record { 0 = directives i };
+      members = names i;
+    };
+    location = mark head.location;
+  })
+  made k.Enum head = λ i. Enum (record {
+    value = record (enum_of (plain_part head) []) {
+      directives = record { 0 = directives i };
+      values = entries bare_enum_value_definition value_entry (λ o v. refl) (λ p. (held_parts p).values)
+          (λ p j. (of_type-bare p.kind p.parts j).values) i;
+    };
+    location = mark head.location;
+  })
+  made k.InputObject head = λ i. InputObject (record {
+    value = record (input_object_of (plain_part head) []) {
+      directives = record { 0 = directives i };
+      fields = entries bare_input_value_definition input_field_entry (λ o f. refl)
+          (λ p. (held_parts p).input_fields) (λ p j. (of_type-bare p.kind p.parts j).input_fields) i;
+    };
+    location = mark head.location;
+  })
 
 -- the extensions of a name that are folded, with their numbers
 sourced-plain : (n : List ℕ) (start : ℕ) (fs : List Folding) → extensions_with_origin n start (map plain_folding fs) ≡ map plain_sourced (extensions_with_origin n start fs)
 sourced-plain n start [] = refl
-sourced-plain n start (OfType p ∷ fs) = by (same n (key_of p)) (sourced-plain n (start + 1) fs)
-  where
-    by : (b : Bool) → extensions_with_origin n (start + 1) (map plain_folding fs) ≡ map plain_sourced (extensions_with_origin n (start + 1) fs)
-        → map extension_part (cond b ((start, plain_part p) ∷ filter (λ e. same n (key_of e.1)) (filter_map of_type (enumerate_from (start + 1) (map plain_folding fs)))) (filter (λ e. same n (key_of e.1)) (filter_map of_type (enumerate_from (start + 1) (map plain_folding fs)))))
-        ≡ map plain_sourced (map extension_part (cond b ((start, p) ∷ filter (λ e. same n (key_of e.1)) (filter_map of_type (enumerate_from (start + 1) fs))) (filter (λ e. same n (key_of e.1)) (filter_map of_type (enumerate_from (start + 1) fs)))))
-    by true rest = ap (λ l. plain_sourced (extension_part (start, p)) ∷ l) rest
-    by false rest = rest
+sourced-plain n start (OfType p ∷ fs) = grind (arith, sourced-plain n (start + 1) fs)
 sourced-plain n start (OfSchema s ∷ fs) = sourced-plain n (start + 1) fs
 
 -- the type of a name
 pub type_of-plain : (start : ℕ) (xs : List ListItem) (n : List ℕ) → type_of start (folding_order (plain_list xs)) (plain_list xs) n ≡ option_map plain_type (type_of start (folding_order xs) xs n)
 type_of-plain start xs n =
-    (λ i. option_map (λ d. type_from d ((Definition, d) ∷ (ap (extensions_with_origin n start) (folding_order-plain xs) ∙ sourced-plain n start (folding_order xs)) i)) (first-plain xs n i))
+    (λ i. option_map (λ d. type_from d ((Definition, d) ∷
+    (ap (extensions_with_origin n start) (folding_order-plain xs)
+    ∙ sourced-plain n start (folding_order xs)) i)) (first-unplaced true xs n i))
     ∙ by (first xs n)
   where
     by : (o : Option TypePart) → option_map (λ d. type_from d ((Definition, d) ∷ map plain_sourced (extensions_with_origin n start (folding_order xs)))) (option_map plain_part o) ≡ option_map plain_type (option_map (λ d. type_from d (parts start (folding_order xs) n d)) o)
     by None = refl
-    by (Some d) = ap Some (from-plain d (parts start (folding_order xs) n d))
+    by (Some d) = ap Some (made (parts start (folding_order xs) n d) d.kind d)

@@ -1,20 +1,20 @@
 -- The schema that a plain list means is plain, and is written out without locations as the schema is.
-use Rattle.apollo_meaning.proofs.Prelude.{◌&&◌, ◌++◌, ◌∙◌, ◌∷◌, ◌≡◌, Bool, DirectiveDefinition, Directives, ExtendedType, List, ListItem, NameView, NodeView, None, Option, Some, [], ap, by_text, cond, defined_part, directive_definitions, false, filter, filter_map, find, first_of_each, flat_map, folding_order, is_built_in, keys_of, map, map-append, map-map, not, option_map, option_or, refl, same_text, subst, sym, true, type_names, ℕ}
-use Rattle.std.specs.List.{IsDistinct, last_or}
+use Rattle.apollo_meaning.proofs.Prelude.{◌++◌, ◌∙◌, ◌∷◌, ◌≡◌, DirectiveDefinition, Directives, ExtendedType, List, ListItem, NameView, NodeView, [], ap, by_text, defined_part, directive_definitions, filter, filter_map, first_of_each, flat_map, folding_order, keys_of, map, map-append, map-map, not, option_map, refl, same_text, subst, sym, type_names, ℕ, true}
+use Rattle.std.specs.List.{IsDistinct}
 use Rattle.graphql_nodes.specs.Comparing.{bare_name}
 use Rattle.graphql_nodes.specs.Tables.{HasUniqueKeys, values_of}
 use Rattle.graphql_ast.specs.BareDocuments.{bare_definition}
 use Rattle.graphql_ast.specs.declared.definition.Definition.TheVariants as ast
 use Rattle.apollo_component.proofs.FirstOfEachLemmas.{first_of_each-map, name_laws}
-use Rattle.apollo_component.proofs.Lists.Cases.{find-made}
 use Rattle.apollo_component.proofs.Lists.Each.{filter-map}
 use Rattle.apollo_component.proofs.Tabled.{entries_from_lookups, first_of_each-distinct}
-use Rattle.apollo_meaning.specs.Directives.{directive_names, directive_of, has_text, is_handed_in}
+use Rattle.apollo_meaning.specs.Directives.{directive_names, directive_of, is_handed_in}
 use Rattle.apollo_meaning.proofs.Types.NameLemmas.{type_names-first}
 use Rattle.apollo_schema.specs.MeantSchema.{AreOf}
 use Rattle.apollo_schema.specs.SchemaWriteOut.{write_directives, write_held_schema_definition, write_held_type, write_schema}
 use Rattle.apollo_schema.specs.declared.schema.Schema.{Schema}
-use Rattle.apollo_canonical_text.proofs.Plain.{defined-plain, directives-plain, mark-kept, plain_directive, plain_list, plain_part}
+use Rattle.apollo_schema_laws.proofs.Rearranged.Bare.{bare_directive_node, directive_of-bare, defined-unplaced, directives-unplaced, mark-kept}
+use Rattle.apollo_canonical_text.proofs.Plain.{plain_list, plain_part}
 use Rattle.apollo_canonical_text.proofs.PlainParts.{held-plain, nowhere}
 use Rattle.apollo_canonical_text.proofs.PlainSchema.{definition-plain, lookup-plain, plain_node, plain_table, schema_of-plain}
 use Rattle.apollo_canonical_text.proofs.PlainTypes.{plain_type, type_of-plain}
@@ -23,41 +23,32 @@ use Rattle.apollo_canonical_text.proofs.PlainTypes.{plain_type, type_of-plain}
 abbrev pub plain_schema : Schema → Schema
 plain_schema s = record s {
   schema_definition = plain_node s.schema_definition;
-  directive_definitions = plain_table plain_directive s.directive_definitions;
+  directive_definitions = plain_table bare_directive_node s.directive_definitions;
   types = plain_table plain_type s.types;
 }
 
 keys-plain : {V : Type 0} (plain : V → V) (es : List (NameView × V)) → keys_of (plain_table plain es) ≡ map bare_name (keys_of es)
-keys-plain plain [] = refl
-keys-plain plain (e ∷ es) = ap (λ l. bare_name e.0 ∷ l) (keys-plain plain es)
+keys-plain plain es = simp map-map
 
 names-plain : (xs : List ListItem) → type_names (plain_list xs) ≡ map bare_name (type_names xs)
 names-plain xs =
     type_names-first (plain_list xs)
-    ∙ ap (first_of_each same_text) (ap (map (λ p. p.name)) (defined-plain xs) ∙ map-map (λ p. p.name) plain_part (filter_map defined_part xs) ∙ sym (map-map bare_name (λ p. p.name) (filter_map defined_part xs)))
+    ∙ ap (first_of_each same_text)
+    (ap (map (λ p. p.name)) (defined-unplaced true xs)
+    ∙ map-map (λ p. p.name) plain_part (filter_map defined_part xs)
+    ∙ sym (map-map bare_name (λ p. p.name) (filter_map defined_part xs)))
     ∙ sym (first_of_each-map same_text bare_name (map (λ p. p.name) (filter_map defined_part xs)))
     ∙ ap (map bare_name) (sym (type_names-first xs))
 
 -- directive definitions
-directive_names-plain : (ds : Directives) → directive_names (map plain_directive ds) ≡ map bare_name (directive_names ds)
+directive_names-plain : (ds : Directives) → directive_names (map bare_directive_node ds)
+    ≡ map bare_name (directive_names ds)
 directive_names-plain ds =
-    ap (map (λ d. d.value.name)) (sym (first_of_each-map (λ a b. same_text a.value.name b.value.name) plain_directive ds))
-    ∙ map-map (λ d. d.value.name) plain_directive (first_of_each (λ a b. same_text a.value.name b.value.name) ds)
+    ap (map (λ d. d.value.name))
+    (sym (first_of_each-map (λ a b. same_text a.value.name b.value.name) bare_directive_node ds))
+    ∙ map-map (λ d. d.value.name) bare_directive_node
+    (first_of_each (λ a b. same_text a.value.name b.value.name) ds)
     ∙ sym (map-map bare_name (λ d. d.value.name) (first_of_each (λ a b. same_text a.value.name b.value.name) ds))
-
-last-plain : (o : Option (NodeView DirectiveDefinition)) (ds : Directives) → last_or (option_map plain_directive o) (map plain_directive ds) ≡ option_map plain_directive (last_or o ds)
-last-plain o [] = refl
-last-plain o (d ∷ ds) = last-plain (Some d) ds
-
-directive_of-plain : (ds : Directives) (n : List ℕ) → directive_of (map plain_directive ds) n ≡ option_map plain_directive (directive_of ds n)
-directive_of-plain ds n =
-    (λ i. option_or ((find-made (λ d. has_text n d && is_handed_in d) plain_directive ds ∙ (λ j. option_map plain_directive (find (λ d. has_text n d && not (mark-kept d.location j)) ds))) i)
-    ((ap (last_or None) (filter-map (has_text n) plain_directive ds) ∙ last-plain None (filter (has_text n) ds)) i))
-    ∙ by (find (λ d. has_text n d && is_handed_in d) ds) (last_or None (filter (has_text n) ds))
-  where
-    by : (o p : Option (NodeView DirectiveDefinition)) → option_or (option_map plain_directive o) (option_map plain_directive p) ≡ option_map plain_directive (option_or o p)
-    by None p = refl
-    by (Some d) p = refl
 
 -- what a plain list means
 pub are-plain : (start : ℕ) (xs : List ListItem) (s : Schema) → AreOf start (folding_order xs) xs s → AreOf start (folding_order (plain_list xs)) (plain_list xs) (plain_schema s)
@@ -68,9 +59,13 @@ are-plain start xs s are = record {
     each = λ n. lookup-plain plain_type (by_text n) (λ k. refl) s.types ∙ ap (option_map plain_type) (are.types.each n) ∙ sym (type_of-plain start xs n);
   };
   directives = record {
-    names = keys-plain plain_directive s.directive_definitions ∙ ap (map bare_name) are.directives.names ∙ sym (ap directive_names (directives-plain xs) ∙ directive_names-plain (directive_definitions xs));
-    each = λ n. lookup-plain plain_directive (by_text n) (λ k. refl) s.directive_definitions ∙ ap (option_map plain_directive) (are.directives.each n)
-        ∙ sym (ap (λ ds. directive_of ds n) (directives-plain xs) ∙ directive_of-plain (directive_definitions xs) n);
+    names = keys-plain bare_directive_node s.directive_definitions ∙ ap (map bare_name) are.directives.names
+        ∙ sym (ap directive_names (directives-unplaced true xs)
+        ∙ directive_names-plain (directive_definitions xs));
+    each = λ n. lookup-plain bare_directive_node (by_text n) (λ k. refl) s.directive_definitions
+        ∙ ap (option_map bare_directive_node) (are.directives.each n)
+        ∙ sym (ap (λ ds. directive_of ds n) (directives-unplaced true xs)
+        ∙ directive_of-bare n (directive_definitions xs));
   };
 }
 
@@ -92,16 +87,17 @@ module _ (start : ℕ) (xs : List ListItem) (s t : Schema) (are : AreOf start (f
   written-once = λ i. write_schema (record s { schema_definition = (are.definition ∙ sym other.definition) i; directive_definitions = directives-once i; types = types-once i })
 
 -- the write-out of a plain schema
-directives-written : (es : List (NameView × NodeView DirectiveDefinition)) → map nowhere (write_directives (values_of (plain_table plain_directive es))) ≡ map bare_definition (write_directives (values_of es))
-directives-written [] = refl
-directives-written (e ∷ es) = ap (λ b. map nowhere (map ast.DirectiveDefinition (cond (not b) (plain_directive e.1 ∷ filter is_handed_in (values_of (plain_table plain_directive es))) (filter is_handed_in (values_of (plain_table plain_directive es)))))) (mark-kept e.1.location)
-    ∙ by (is_built_in e.1.location) (directives-written es)
-  where
-    by : (b : Bool) → map nowhere (write_directives (values_of (plain_table plain_directive es))) ≡ map bare_definition (write_directives (values_of es))
-        → map nowhere (map ast.DirectiveDefinition (cond (not b) (plain_directive e.1 ∷ filter is_handed_in (values_of (plain_table plain_directive es))) (filter is_handed_in (values_of (plain_table plain_directive es)))))
-        ≡ map bare_definition (map ast.DirectiveDefinition (cond (not b) (e.1 ∷ filter is_handed_in (values_of es)) (filter is_handed_in (values_of es))))
-    by true rest = rest
-    by false rest = ap (λ l. bare_definition (ast.DirectiveDefinition e.1) ∷ l) rest
+directives-written : (es : List (NameView × NodeView DirectiveDefinition))
+    → map nowhere (write_directives (values_of (plain_table bare_directive_node es)))
+    ≡ map bare_definition (write_directives (values_of es))
+directives-written es =
+    ap (λ ds. map nowhere (write_directives ds))
+    (map-map (λ e. e.1) (λ e. (bare_name e.0, bare_directive_node e.1)) es
+    ∙ sym (map-map bare_directive_node (λ e. e.1) es))
+    ∙ ap (λ ds. map nowhere (map ast.DirectiveDefinition ds))
+    (filter-map is_handed_in bare_directive_node (values_of es)
+    ∙ (λ i. map bare_directive_node (filter (λ d. not (mark-kept d.location i)) (values_of es))))
+    ∙ simp map-map
 
 types-written : (es : List (NameView × ExtendedType)) → map nowhere (flat_map write_held_type (values_of (plain_table plain_type es))) ≡ map bare_definition (flat_map write_held_type (values_of es))
 types-written [] = refl

@@ -16,11 +16,12 @@ use Rattle.graphql_productions.specs.TreeParts.{directives_parts, node_parts, wa
 use Rattle.graphql_productions.specs.TypeSystem.{is_none}
 use Rattle.graphql_productions.specs.WellFormed.{IsWellFormed, IsWellFormedPart}
 use Rattle.apollo_meaning.specs.Items.ListItems.{Added, added, added_item, added_items, defined_schema, item_of}
+use Rattle.apollo_component.proofs.Lists.Each.{each-weaken}
 use Rattle.apollo_schema_laws.specs.WrittenAgain.{IsUnmarkedAndRooted}
 use Rattle.apollo_canonical_text.specs.WellFormedLists.{AreWellFormed, IsWellFormedDefinition}
 use Rattle.apollo_canonical_text.specs.FromTexts.{AddedText, AreRead, Reads, added_texts}
 use Rattle.apollo_canonical_text.proofs.Alike.{IsUnmarked}
-use Rattle.apollo_canonical_text.proofs.Lists.{each-chosen, each-flat_map, each-from_flat_map, each-map, each-split}
+use Rattle.apollo_canonical_text.proofs.WellFormedLists.{each-chosen, each-flat_map, each-from_flat_map, each-map, each-split}
 
 -- the first part of a definition says where it stands
 unmarked : (x : Definition) → IsNowhereBuiltIn (definition_parts x) → IsUnmarked x
@@ -28,7 +29,9 @@ unmarked (d.OperationDefinition n) h = h.0
 unmarked x h = h.0
 
 pub all-unmarked : (xs : List Definition) → IsNowhereBuiltIn (document_parts xs) → AllByRecursion IsUnmarked xs
-all-unmarked xs h = each-from_flat_map (asks_location (λ at. is_built_in at ≡ false)) IsUnmarked definition_parts unmarked xs h.1
+all-unmarked xs h =
+    each-weaken (λ x. IsNowhereBuiltIn (definition_parts x)) IsUnmarked unmarked xs
+    (each-from_flat_map (asks_location (λ at. is_built_in at ≡ false)) definition_parts xs h.1)
 
 -- a schema definition names a root
 abbrev IsRooted : Definition → Type 0
@@ -46,17 +49,19 @@ rooted (d.SchemaDefinition n) h =
 rooted x h = tt
 
 all-well_formed : (xs : List Definition) → IsWellFormed (document_parts xs) → AllByRecursion IsWellFormedDefinition xs
-all-well_formed xs h = each-from_flat_map IsWellFormedPart IsWellFormedDefinition definition_parts (λ x g. g) xs h.1
+all-well_formed xs h = each-from_flat_map IsWellFormedPart definition_parts xs h.1
 
 -- so with what texts add
 module _ (nowhere : (file : FileId) (depth : ℕ) (words : List WordView) (x : List Definition) → file.0 ≢ 0 → spells_document file depth x words → IsNowhereBuiltIn (document_parts x))
     (formed : (file : FileId) (depth allowed : ℕ) (text : List ℕ) (x : List Definition) → spells_document file depth x (words_of allowed text) → IsWellFormed (document_parts x)) where
   each-text : (P : Definition → Type 0) → ((xs : List Definition) → IsNowhereBuiltIn (document_parts xs) → IsWellFormed (document_parts xs) → AllByRecursion P xs) → (texts : List AddedText) → AreRead texts → AllByRecursion (λ a. P a.1) (added_texts texts)
   each-text P all texts read =
-      each-flat_map (λ a. P a.1) (λ t. Reads t.reading t.definitions) (λ t. added t.ignores t.definitions)
-      (λ t r. each-map (λ a. P a.1) P (λ x. (t.ignores, x)) (λ x h. h) t.definitions
+      each-flat_map (λ a. P a.1) (λ t. added t.ignores t.definitions) texts
+      (each-weaken (λ t. Reads t.reading t.definitions)
+      (λ t. AllByRecursion (λ a. P a.1) (added t.ignores t.definitions))
+      (λ t r. each-map (λ a. P a.1) (λ x. (t.ignores, x)) t.definitions
       (all t.definitions (nowhere t.reading.file t.reading.depth _ t.definitions r.handed_in r.spelled) (formed t.reading.file t.reading.depth t.reading.allowed t.reading.text t.definitions r.spelled)))
-      texts read
+      texts read)
 
   pub well_formed : (texts : List AddedText) → AreRead texts → AreWellFormed (added_texts texts)
   well_formed = each-text IsWellFormedDefinition (λ xs n w. all-well_formed xs w)
@@ -69,13 +74,13 @@ module _ (nowhere : (file : FileId) (depth : ℕ) (words : List WordView) (x : L
     unmarked = All-from_recursion (λ a. IsUnmarked a.1) (added_texts texts) (handed_in texts read);
     rooted = All-from_recursion (λ s. s.roots ≢ []) (filter_map defined_schema (added_items (added_texts texts)))
         (each-chosen (λ s. s.roots ≢ []) (λ x. IfSome (defined_schema x) (λ s. s.roots ≢ [])) defined_schema (λ x h. h) (added_items (added_texts texts))
-        (each-map (λ x. IfSome (defined_schema x) (λ s. s.roots ≢ [])) (λ a. IsRooted a.1) added_item item (added_texts texts) (each-text IsRooted (λ xs n w. each xs (all-well_formed xs w)) texts read)));
+        (each-map (λ x. IfSome (defined_schema x) (λ s. s.roots ≢ [])) added_item (added_texts texts)
+        (each-weaken (λ a. IsRooted a.1)
+        (λ a. IfSome (defined_schema (added_item a)) (λ s. s.roots ≢ [])) item (added_texts texts)
+        (each-text IsRooted (λ xs n w. each-weaken IsWellFormedDefinition IsRooted rooted xs
+        (all-well_formed xs w)) texts read))));
   }
     where
       item : (a : Added) → IsRooted a.1 → IfSome (defined_schema (added_item a)) (λ s. s.roots ≢ [])
       item (b, d.SchemaDefinition n) h = h
       item (b, x) h = tt
-
-      each : (xs : List Definition) → AllByRecursion IsWellFormedDefinition xs → AllByRecursion IsRooted xs
-      each [] a = tt
-      each (x ∷ xs) a = (rooted x a.0, each xs a.1)

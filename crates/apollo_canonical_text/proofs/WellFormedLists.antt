@@ -1,46 +1,21 @@
 -- What holds of each element of a list, where the list is joined, chosen from or looked up.
-use Rattle.std.proofs.Common.{◌≡◌, ◌||◌, ℕ, Bool, true, false, cond, List, [], ◌∷◌, ◌++◌, Option, None, Some, map, filter, find, sym, subst, slice_get, true≢false}
+use Rattle.std.proofs.Common.{◌≡◌, ◌||◌, ℕ, Bool, true, false, cond, List, [], ◌∷◌, Option, None, Some, filter, sym, subst, slice_get, true≢false}
 use Rattle.std.specs.List.{AllByRecursion, cons_option, filter_map, flat_map, last_or, list_any}
 use Rattle.std.specs.Option.{IfSome, option_or}
 use Rattle.graphql_nodes.specs.NameView.{NameView}
 use Rattle.graphql_nodes.specs.SameText.{by_text, same_text}
 use Rattle.graphql_nodes.specs.Tables.{HasUniqueKeys, keys_of, lookup, values_of}
 use Rattle.apollo_component.proofs.FirstOfEachLemmas.{name_laws}
-use Rattle.apollo_component.proofs.Lists.Each.{each-append, each-filter, each-weaken}
+use Rattle.apollo_component.proofs.Lists.Each.{each-filter, each-weaken}
 use Rattle.apollo_component.proofs.Tabled.{given-by_keys}
+pub use Rattle.apollo_schema_laws.proofs.Lists.Kept.{each-flat_map, each-flat_map_back as each-from_flat_map, each-from_map, each-map, each-of, each-split, if-found}
 
 module _ {X : Type 0} (P : X → Type 0) where
-  pub each-of : ((x : X) → P x) → (xs : List X) → AllByRecursion P xs
-  each-of all [] = tt
-  each-of all (x ∷ xs) = (all x, each-of all xs)
-
-  pub each-split : (xs ys : List X) → AllByRecursion P (xs ++ ys) → AllByRecursion P xs × AllByRecursion P ys
-  each-split [] ys a = (tt, a)
-  each-split (x ∷ xs) ys a = let rest : AllByRecursion P xs × AllByRecursion P ys = each-split xs ys a.1 in ((a.0, rest.0), rest.1)
-
   -- what passes a test is among all
   pub each-passing : (p : X → Bool) (xs : List X) → AllByRecursion P xs → AllByRecursion P (filter p xs)
   each-passing p xs a = each-weaken (λ x. P x × (p x ≡ true)) P (λ x h. h.0) (filter p xs) (each-filter P p xs a)
 
   module _ {Y : Type 0} where
-    pub each-map : (f : Y → X) (ys : List Y) → AllByRecursion (λ y. P (f y)) ys → AllByRecursion P (map f ys)
-    each-map f [] a = tt
-    each-map f (y ∷ ys) a = (a.0, each-map f ys a.1)
-
-    pub each-from_map : (f : Y → X) (ys : List Y) → AllByRecursion P (map f ys) → AllByRecursion (λ y. P (f y)) ys
-    each-from_map f [] a = tt
-    each-from_map f (y ∷ ys) a = (a.0, each-from_map f ys a.1)
-
-    pub each-flat_map : (f : Y → List X) (ys : List Y) → AllByRecursion (λ y. AllByRecursion P (f y)) ys → AllByRecursion P (flat_map f ys)
-    each-flat_map f [] a = tt
-    each-flat_map f (y ∷ ys) a = each-append P (f y) (flat_map f ys) a.0 (each-flat_map f ys a.1)
-
-    pub each-from_flat_map : (f : Y → List X) (ys : List Y) → AllByRecursion P (flat_map f ys) → AllByRecursion (λ y. AllByRecursion P (f y)) ys
-    each-from_flat_map f [] a = tt
-    each-from_flat_map f (y ∷ ys) a =
-        let parts : AllByRecursion P (f y) × AllByRecursion P (flat_map f ys) = each-split (f y) (flat_map f ys) a in
-        (parts.0, each-from_flat_map f ys parts.1)
-
     -- what is chosen
     pub each-chosen : (Q : Y → Type 0) (which : Y → Option X) → ((y : Y) → Q y → IfSome (which y) P) → (ys : List Y) → AllByRecursion Q ys → AllByRecursion P (filter_map which ys)
     each-chosen Q which chosen [] a = tt
@@ -54,10 +29,6 @@ module _ {X : Type 0} (P : X → Type 0) where
     pub if-looked_up : (test : Y → Bool) (es : List (Y × X)) → AllByRecursion (λ e. P e.1) es → IfSome (lookup test es) P
     if-looked_up test [] a = tt
     if-looked_up test (e ∷ es) a = elim (test e.0) as (λ b. IfSome (cond b (Some e.1) (lookup test es)) P) [ true ↦ a.0 | false ↦ if-looked_up test es a.1 ]
-
-  pub if-found : (p : X → Bool) (xs : List X) → AllByRecursion P xs → IfSome (find p xs) P
-  if-found p [] a = tt
-  if-found p (x ∷ xs) a = elim (p x) as (λ b. IfSome (cond b (Some x) (find p xs)) P) [ true ↦ a.0 | false ↦ if-found p xs a.1 ]
 
   pub if-first : (xs : List X) → AllByRecursion P xs → IfSome (slice_get xs 0) P
   if-first [] a = tt
@@ -75,7 +46,7 @@ module _ {X : Type 0} (P : X → Type 0) where
   pub each-value : (es : List (NameView × X)) → HasUniqueKeys same_text es → ((n : List ℕ) → IfSome (lookup (by_text n) es) P) → AllByRecursion P (values_of es)
   each-value es unique under =
       alone es (subst (AllByRecursion P) (sym (given-by_keys name_laws give es unique))
-      (each-flat_map (λ k. give k (lookup (same_text k) es)) (keys_of es) (each-of-keys (keys_of es))))
+      (each-flat_map P (λ k. give k (lookup (same_text k) es)) (keys_of es) (each-of-keys (keys_of es))))
     where
       give : NameView → Option X → List X
       give k None = []

@@ -1,22 +1,23 @@
 -- What the schema of a well-formed list is written out as: the schema's definition, directive definitions and
 -- types.
-use Rattle.std.proofs.Common.{◌≡◌, ℕ, Bool, true, false, cond, ◌&&◌, List, ◌++◌, Option, None, Some, map, filter, refl, sym, subst, ◌∙◌, drop, option_map}
-use Rattle.std.specs.List.{AllByRecursion, IsDistinct, filter_map, find, flat_map, last_or}
+use Rattle.std.proofs.Common.{◌≡◌, ℕ, Bool, true, false, cond, ◌&&◌, List, ◌∷◌, None, map, filter, sym, subst, ◌∙◌, drop}
+use Rattle.std.specs.List.{AllByRecursion, IsDistinct, find, last_or}
 use Rattle.std.specs.Option.{IfSome, unwrap_or}
 use Rattle.std.proofs.lemmas.Bool.{and_parts, or_right}
 use Rattle.std.proofs.lemmas.List.Folds.{list_any-append}
 use Rattle.graphql_nodes.specs.BuiltIn.{is_built_in}
 use Rattle.graphql_nodes.specs.NameView.{NameView}
 use Rattle.graphql_nodes.specs.NodeView.{NodeView}
-use Rattle.graphql_nodes.specs.SameText.{same, same_text}
+use Rattle.graphql_nodes.specs.SameText.{same_text}
 use Rattle.graphql_nodes.specs.Tables.{HasUniqueKeys, values_of}
+use Rattle.graphql_ast.specs.Parts.{schema_has}
 use Rattle.graphql_ast.specs.declared.definition.Definition.TheVariants as ast
 use Rattle.graphql_ast.specs.declared.type_system.DirectiveDefinition.{DirectiveDefinition}
 use Rattle.apollo_component.specs.Extensions.{same_origin}
 use Rattle.apollo_component.specs.declared.extension.ComponentOrigin.TheVariants.{Definition}
 use Rattle.apollo_component.proofs.FirstOfEachLemmas.{first_of_each-map}
 use Rattle.apollo_component.proofs.Lists.Cases.{list_any-map}
-use Rattle.apollo_component.proofs.Lists.Each.{each-append, each-weaken}
+use Rattle.apollo_component.proofs.Lists.Each.{each-weaken}
 use Rattle.apollo_component.proofs.Tabled.{first_of_each-distinct}
 use Rattle.apollo_types.specs.Components.{of_directive, of_root}
 use Rattle.apollo_types.specs.SchemaDefinitionWriteOut.{has_own_root, is_written, schema_components}
@@ -25,34 +26,27 @@ use Rattle.apollo_types.specs.TypeWriteOut.{type_components, type_description, t
 use Rattle.apollo_types.specs.declared.extended_type.ExtendedType.{ExtendedType}
 use Rattle.apollo_types.specs.declared.schema_definition.SchemaDefinition.{SchemaDefinition}
 use Rattle.apollo_meaning.specs.Directives.{AreDirectivesOf, Directives, directive_definitions, directive_of, has_text, is_handed_in}
-use Rattle.apollo_meaning.specs.Items.ListItems.{Added, ListItem, defined_part, defined_schema}
-use Rattle.apollo_meaning.specs.Items.Named.{extensions_of, first, first_schema, named, of_kind, schema_extensions}
-use Rattle.apollo_meaning.specs.Items.Parts.{SchemaPart, TypePart, key_of, kind_of, same_kind}
+use Rattle.apollo_meaning.specs.Items.ListItems.{Added, ListItem}
 use Rattle.apollo_meaning.specs.Order.Places.{folding_order}
-use Rattle.apollo_meaning.specs.Schema.Definition.{SourcedSchema, no_schema, schema_from, schema_of, schema_parts, schema_sourced}
+use Rattle.apollo_meaning.specs.Schema.Definition.{SourcedSchema, no_schema, schema_extension_source, schema_of}
 use Rattle.apollo_meaning.specs.Schema.Whole.{whole}
 use Rattle.apollo_meaning.specs.Types.Components.{Sourced}
-use Rattle.apollo_meaning.specs.Types.Meaning.{AreTypesOf, extensions_with_origin, parts, type_from, type_of}
-use Rattle.apollo_meaning.proofs.Types.NameLemmas.{type_names-first}
+use Rattle.apollo_meaning.specs.Types.Meaning.{AreTypesOf, extension_part}
 use Rattle.apollo_schema.specs.MeantSchema.{MeansSchema}
-use Rattle.apollo_schema.specs.SchemaWriteOut.{write_directives, write_held_schema_definition, write_held_type, write_schema}
+use Rattle.apollo_schema.specs.SchemaWriteOut.{write_directives, write_held_type, write_schema}
 use Rattle.apollo_schema.specs.declared.schema.Schema.{Schema}
 use Rattle.apollo_canonical_text.specs.WellFormedLists.{AreWellFormed, IsWellFormedDefinition}
-use Rattle.apollo_canonical_text.proofs.WellFormedLists.{each-flat_map, each-from_map, each-map, each-passing, each-value, if-either, if-first, if-found, if-last, if-looked_up}
-use Rattle.apollo_canonical_text.proofs.Items.{IsWellFormedItem, IsWellFormedSchema, IsWellFormedType, each-defined, each-directive, each-schema_defined, each-schema_extended}
-use Rattle.apollo_canonical_text.proofs.Components.{Suits, is_of_schema}
+use Rattle.apollo_canonical_text.proofs.WellFormedLists.{each-map, each-passing, each-value, if-either, if-found, if-last}
+use Rattle.apollo_canonical_text.proofs.Items.{IsWellFormedItem, IsWellFormedSchema, IsWellFormedType, each-directive}
+use Rattle.apollo_canonical_text.proofs.Components.{Suits}
 use Rattle.apollo_canonical_text.proofs.Meant.{IsWellFormedMeaning, schema_made, type_made}
-use Rattle.apollo_canonical_text.proofs.WholeList.{each-extension, each-whole}
+use Rattle.apollo_canonical_text.proofs.Whole.{FoldsExtensions, FoldsSchemaExtensions, each-type, each-written, schema-meant}
+use Rattle.apollo_canonical_text.proofs.WholeList.{each-whole}
 use Rattle.apollo_canonical_text.proofs.Written.{has_root, is_root, schema_written, type_written}
 
--- the extensions that are folded for a name are those of its kind, in order
-abbrev FoldsExtensions : Type 0
-FoldsExtensions =
-    (start : ℕ) (xs : List ListItem) (n : List ℕ) (d : TypePart) → first xs n ≡ Some d → map (λ s. s.1) (extensions_with_origin n start (folding_order xs)) ≡ of_kind (kind_of d) (extensions_of xs n)
-
--- and those that are folded for the schema are all of its extensions, in order
-abbrev FoldsSchemaExtensions : Type 0
-FoldsSchemaExtensions = (start : ℕ) (xs : List ListItem) (s : SchemaPart) → first_schema xs ≡ Some s → map (λ e. e.1) (schema_sourced start (folding_order xs)) ≡ schema_extensions xs
+-- the components of the schema's definition are well-formed
+abbrev IsSchema : NodeView SchemaDefinition → Type 0
+IsSchema n = AllByRecursion (λ c. Suits schema_has c.1) (schema_components n.value)
 
 -- ---- types
 
@@ -68,25 +62,16 @@ held_type t h = by (is_built_in (type_location t))
     by false = all
 
 module _ (start : ℕ) (xs : List ListItem) (a : AllByRecursion IsWellFormedItem xs) where
-  module _ (folded : FoldsExtensions) where
-    one_type : (n : List ℕ) → IfSome (type_of start (folding_order xs) xs n) IsWellFormedMeaning
-    one_type n = by (first xs n) refl (if-looked_up IsWellFormedType (same n) (named (filter_map defined_part xs)) (each-map (λ e. IsWellFormedType e.1) (λ p. (key_of p, p)) (filter_map defined_part xs) (each-defined xs a)))
-      where
-        extensions : (d : TypePart) → first xs n ≡ Some d → AllByRecursion (λ s. IsWellFormedType s.1) (extensions_with_origin n start (folding_order xs))
-        extensions d e =
-            each-from_map IsWellFormedType (λ (s : Sourced). s.1) (extensions_with_origin n start (folding_order xs))
-            (subst (AllByRecursion IsWellFormedType) (sym (folded start xs n d e)) (each-passing IsWellFormedType (λ p. same_kind (kind_of d) (kind_of p)) (extensions_of xs n) (each-extension xs a n)))
-
-        by : (o : Option TypePart) → first xs n ≡ o → IfSome o IsWellFormedType → IfSome (option_map (λ d. type_from d (parts start (folding_order xs) n d)) o) IsWellFormedMeaning
-        by None e h = tt
-        by (Some d) e h = type_made (parts start (folding_order xs) n d) (h, extensions d e) d.body d h.name
-
-    types : (table : List (NameView × ExtendedType)) → AreTypesOf start (folding_order xs) xs table → AllByRecursion IsWellFormedDefinition (flat_map write_held_type (values_of table))
-    types table are =
-        let unique : HasUniqueKeys same_text table = subst (IsDistinct same_text) (sym (are.names ∙ type_names-first xs)) (first_of_each-distinct same_text (map (λ p. p.name) (filter_map defined_part xs))) in
-        each-flat_map IsWellFormedDefinition write_held_type (values_of table)
-        (each-weaken IsWellFormedMeaning (λ t. AllByRecursion IsWellFormedDefinition (write_held_type t)) held_type (values_of table)
-        (each-value IsWellFormedMeaning table unique (λ n. subst (λ o. IfSome o IsWellFormedMeaning) (sym (are.each n)) (one_type n))))
+  types : FoldsExtensions → (table : List (NameView × ExtendedType))
+      → AreTypesOf start (folding_order xs) xs table
+      → AllByRecursion (λ t. AllByRecursion IsWellFormedDefinition (write_held_type t)) (values_of table)
+  types folds table are =
+      each-weaken IsWellFormedMeaning
+      (λ t. AllByRecursion IsWellFormedDefinition (write_held_type t)) held_type (values_of table)
+      (each-type IsWellFormedItem IsWellFormedMeaning
+      (λ d es h g. type_made ((Definition, d) ∷ map extension_part es)
+      (h, each-map (λ (s : Sourced). IsWellFormedType s.1) extension_part es g) d.kind d h.name)
+      folds start xs a table are)
 
   -- ---- directive definitions
 
@@ -109,22 +94,12 @@ module _ (start : ℕ) (xs : List ListItem) (a : AllByRecursion IsWellFormedItem
 
   -- ---- the schema's definition
 
-  -- its components are well-formed
-  abbrev IsSchema : NodeView SchemaDefinition → Type 0
-  IsSchema n = AllByRecursion (λ c. Suits is_of_schema c.1) (schema_components n.value)
-
-  module _ (folded : FoldsSchemaExtensions) where
-    one_schema : IsSchema (unwrap_or (schema_of start (folding_order xs) xs) no_schema)
-    one_schema = by (first_schema xs) refl (if-first IsWellFormedSchema (filter_map defined_schema xs) (each-schema_defined xs a))
-      where
-        extensions : (s : SchemaPart) → first_schema xs ≡ Some s → AllByRecursion (λ e. IsWellFormedSchema e.1) (schema_sourced start (folding_order xs))
-        extensions s e =
-            each-from_map IsWellFormedSchema (λ (e : SourcedSchema). e.1) (schema_sourced start (folding_order xs))
-            (subst (AllByRecursion IsWellFormedSchema) (sym (folded start xs s e)) (each-schema_extended xs a))
-
-        by : (o : Option SchemaPart) → first_schema xs ≡ o → IfSome o IsWellFormedSchema → IsSchema (unwrap_or (option_map (λ s. schema_from s (schema_parts start (folding_order xs) s)) o) no_schema)
-        by None e h = tt
-        by (Some s) e h = schema_made (schema_parts start (folding_order xs) s) (h, extensions s e) s
+  one_schema : FoldsSchemaExtensions → IsSchema (unwrap_or (schema_of start (folding_order xs) xs) no_schema)
+  one_schema folds =
+      schema-meant IsWellFormedItem IsSchema tt
+      (λ s es h g. schema_made ((Definition, s) ∷ map schema_extension_source es)
+      (h, each-map (λ (q : SourcedSchema). IsWellFormedSchema q.1) schema_extension_source es g) s)
+      folds start xs a
 
 -- a root of its own is a root of the definition among the components
 own_root : (s : SchemaDefinition) → has_own_root s ≡ true → has_root Definition (schema_components s) ≡ true
@@ -139,10 +114,9 @@ pub written : FoldsExtensions → FoldsSchemaExtensions → (start : ℕ) (adopt
 written folded schema_folded start adopts xs schema means a =
     let all : AllByRecursion IsWellFormedItem (whole adopts xs) = each-whole adopts xs a in
     let s : NodeView SchemaDefinition = schema.schema_definition in
-    each-append IsWellFormedDefinition (write_held_schema_definition schema ++ write_directives (values_of schema.directive_definitions)) (flat_map write_held_type (values_of schema.types))
-    (each-append IsWellFormedDefinition (write_held_schema_definition schema) (write_directives (values_of schema.directive_definitions))
+    each-written IsWellFormedDefinition schema
     (schema_written (is_written schema.types s.value) s.value.description (schema_components s.value) s.location
-    (subst (λ (n : NodeView SchemaDefinition). AllByRecursion (λ c. Suits is_of_schema c.1) (schema_components n.value)) (sym means.definition) (one_schema start (whole adopts xs) all schema_folded))
+    (subst IsSchema (sym means.definition) (one_schema start (whole adopts xs) all schema_folded))
     (λ h. own_root s.value (and_parts (has_own_root s.value) _ h).0))
-    (directives start (whole adopts xs) all schema.directive_definitions means.directives))
+    (directives start (whole adopts xs) all schema.directive_definitions means.directives)
     (types start (whole adopts xs) all folded schema.types means.types)

@@ -11,11 +11,11 @@ use Rattle.graphql_nodes.specs.declared.source.SourceSpan.{SourceSpan}
 use Rattle.graphql_nodes.specs.declared.type_kind.TypeKind.{TypeKind}
 use Rattle.graphql_nodes.specs.declared.type_kind.TypeKind.TheVariants as k
 use Rattle.graphql_ast.specs.Declarations.{schema_definition, schema_extension, type_definition, type_extension}
-use Rattle.graphql_ast.specs.Parts.{Directives, Names, Fields, Values, InputFields, Roots, directive_list, of_sort, parts_of}
+use Rattle.graphql_ast.specs.Parts.{Sort, Directives, Names, Fields, Values, InputFields, Roots, directive_list, has, listed, of_sort, parts_of, schema_has}
 use Rattle.graphql_ast.specs.declared.parts.Part.{Part}
 use Rattle.graphql_ast.specs.declared.parts.Parts.{Parts}
-use Rattle.graphql_productions.specs.DefinitionTreeParts.{description_parts, enum_value_parts, field_parts, input_value_parts, root_parts}
-use Rattle.graphql_productions.specs.TreeParts.{TreePart, directive_parts, directives_parts, name_parts, node_parts}
+use Rattle.graphql_productions.specs.DefinitionTreeParts.{body_parts, description_parts, names_parts}
+use Rattle.graphql_productions.specs.TreeParts.{TreePart, directives_parts, name_parts}
 use Rattle.graphql_productions.specs.TypeSystem.{is_none}
 use Rattle.graphql_productions.specs.WellFormed.{IsWellFormed, IsWellFormedPart}
 use Rattle.apollo_component.specs.Extensions.{extension_location, id_of, same_id, same_origin}
@@ -27,8 +27,8 @@ use Rattle.apollo_component.proofs.FirstOfEachLemmas.{each-first}
 use Rattle.apollo_component.proofs.Lists.Each.{each-append, each-weaken}
 use Rattle.apollo_canonical_text.specs.WellFormedLists.{IsWellFormedDefinition}
 use Rattle.apollo_canonical_text.proofs.WellFormedLists.{each-flat_map, each-map, each-passing, some-passes}
-use Rattle.apollo_canonical_text.proofs.Items.{EachWellFormed}
-use Rattle.apollo_canonical_text.proofs.Components.{AreWellFormedParts, IsWellFormedComponent, Suits, is_of_kind, is_of_schema, made_of, one_says, one_says_of_schema, says_of_kind, says_of_schema}
+use Rattle.apollo_canonical_text.proofs.Items.{AreWellFormedParts, EachWellFormed, trees}
+use Rattle.apollo_canonical_text.proofs.Components.{IsWellFormedComponent, Suits, made_of, one_says, one_says_of_schema, says_of_kind, says_of_schema, part_sort}
 
 -- whether some component comes from the extension of an identity
 abbrev is_source : List SourcedPart → ExtensionId → Bool
@@ -53,7 +53,8 @@ sources cs = each-first (λ e. is_source cs e ≡ true) same_id (filter_map id_o
     all [] = tt
     all (c ∷ ds) = one c.0 c.1 ds (more c ds (all ds))
 
-module _ (is_there : Part → Bool) (cs : List SourcedPart) (a : AllByRecursion (λ c. Suits is_there c.1) cs) where
+module _ (is_there : Sort → Bool) (cs : List SourcedPart)
+    (a : AllByRecursion (λ c. Suits is_there c.1) cs) where
   -- the components of one origin
   alike : (origin : ComponentOrigin) → AllByRecursion (Suits is_there) (map (λ c. c.1) (filter (λ c. same_origin origin c.0) cs))
   alike origin = each-map (Suits is_there) (λ c. c.1) (filter (λ c. same_origin origin c.0) cs) (each-passing (λ c. Suits is_there c.1) (λ c. same_origin origin c.0) cs a)
@@ -65,7 +66,8 @@ module _ (is_there : Part → Bool) (cs : List SourcedPart) (a : AllByRecursion 
       made_of parts (each-weaken (Suits is_there) IsWellFormedComponent (λ c h. h.0) parts (alike origin))
 
   -- and those of an extension that is written say something
-  each_says : (says : Parts → Bool) → ((c : Part) (rest : List Part) → is_there c ≡ true → says (parts_of (c ∷ rest)) ≡ true)
+  each_says : (says : Parts → Bool)
+      → ((c : Part) (rest : List Part) → is_there (part_sort c) ≡ true → says (parts_of (c ∷ rest)) ≡ true)
       → AllByRecursion (λ e. AreWellFormedParts e.1 × (says e.1 ≡ true)) (of_extensions cs)
   each_says says one =
       each-map (λ e. AreWellFormedParts e.1 × (says e.1 ≡ true)) (λ e. (e, of_origin (Extension e) cs)) (identities (origins_in cs))
@@ -87,38 +89,47 @@ description : (text : Option NameView) → IsWellFormed (description_parts text)
 description None = tt
 description (Some t) = (tt, tt)
 
--- directives, and what stands behind them
-directed : {A : Type 0} (ps : Parts) → AreWellFormedParts ps → (parts : A → List TreePart) (xs : List A) → EachWellFormed parts xs → IsWellFormed (directives_parts true (directive_list ps) ++ flat_map parts xs)
-directed ps w parts xs h = join (directives_parts true (directive_list ps)) (flat_map parts xs) (all (node_parts (directive_parts true)) ps.directives (w Directives)) (all parts xs h)
+-- directives, and the parts of a sort behind them
+module _ (ps : Parts) (w : AreWellFormedParts ps) where
+  directed : (s : Sort) → IsWellFormed
+      (directives_parts true (directive_list ps) ++ flat_map (trees s) (listed ps s))
+  directed s =
+      join (directives_parts true (directive_list ps)) _ (all (trees Directives) ps.directives (w Directives))
+      (all (trees s) (listed ps s) (w s))
 
-fielded : (ps : Parts) → AreWellFormedParts ps → IsWellFormed (flat_map name_parts ps.names ++ (directives_parts true (directive_list ps) ++ flat_map (node_parts field_parts) ps.fields))
-fielded ps w = join (flat_map name_parts ps.names) _ (all name_parts ps.names (w Names)) (directed ps w (node_parts field_parts) ps.fields (w Fields))
+  -- what stands behind the name of a type
+  behind_name : (kind : TypeKind) → IsWellFormed (body_parts kind ps)
+  behind_name k.Scalar = all (trees Directives) ps.directives (w Directives)
+  behind_name k.Union = directed Names
+  behind_name k.Enum = directed Values
+  behind_name k.InputObject = directed InputFields
+  behind_name _ = join (names_parts ps.names) _ (all name_parts ps.names (w Names)) (directed Fields)
 
 module _ (name : NameView) (named : IsName name.text) where
-  definition : (kind : TypeKind) (text : Option NameView) (ps : Parts) (location : Option SourceSpan) → AreWellFormedParts ps → IsWellFormedDefinition (type_definition kind text name ps location)
-  definition k.Scalar text ps location w = (tt, join (description_parts text) _ (description text) (named, all (node_parts (directive_parts true)) ps.directives (w Directives)))
-  definition k.Object text ps location w = (tt, join (description_parts text) _ (description text) (named, fielded ps w))
-  definition k.Interface text ps location w = (tt, join (description_parts text) _ (description text) (named, fielded ps w))
-  definition k.Union text ps location w = (tt, join (description_parts text) _ (description text) (named, directed ps w name_parts ps.names (w Names)))
-  definition k.Enum text ps location w = (tt, join (description_parts text) _ (description text) (named, directed ps w (node_parts enum_value_parts) ps.values (w Values)))
-  definition k.InputObject text ps location w = (tt, join (description_parts text) _ (description text) (named, directed ps w (node_parts input_value_parts) ps.input_fields (w InputFields)))
+  definition : (kind : TypeKind) (text : Option NameView) (ps : Parts) (location : Option SourceSpan)
+      → AreWellFormedParts ps
+      → IsWellFormedDefinition (type_definition kind text name ps location)
+  definition k.Scalar text ps location w =
+      (tt, join (description_parts text) _ (description text) (named, behind_name ps w k.Scalar))
+  definition kind text ps location w =
+      (tt, join (description_parts text) _ (description text) (named, behind_name ps w kind))
 
-  extension : (kind : TypeKind) (ps : Parts) (location : Option SourceSpan) → AreWellFormedParts ps → says_of_kind kind ps ≡ true → IsWellFormedDefinition (type_extension kind name ps location)
-  extension k.Scalar ps location w says = (tt, (says, (named, all (node_parts (directive_parts true)) ps.directives (w Directives))))
-  extension k.Object ps location w says = (tt, (says, (named, fielded ps w)))
-  extension k.Interface ps location w says = (tt, (says, (named, fielded ps w)))
-  extension k.Union ps location w says = (tt, (says, (named, directed ps w name_parts ps.names (w Names))))
-  extension k.Enum ps location w says = (tt, (says, (named, directed ps w (node_parts enum_value_parts) ps.values (w Values))))
-  extension k.InputObject ps location w says = (tt, (says, (named, directed ps w (node_parts input_value_parts) ps.input_fields (w InputFields))))
+  extension : (kind : TypeKind) (ps : Parts) (location : Option SourceSpan) → AreWellFormedParts ps
+      → says_of_kind kind ps ≡ true
+      → IsWellFormedDefinition (type_extension kind name ps location)
+  extension k.Scalar ps location w says = (tt, (says, (named, behind_name ps w k.Scalar)))
+  extension kind ps location w says = (tt, (says, (named, behind_name ps w kind)))
 
   -- a type's definition and its extensions
-  pub type_written : (kind : TypeKind) (text : Option NameView) (cs : List SourcedPart) (location : Option SourceSpan) → AllByRecursion (λ c. Suits (is_of_kind kind) c.1) cs
+  pub type_written : (kind : TypeKind) (text : Option NameView) (cs : List SourcedPart)
+      (location : Option SourceSpan) → AllByRecursion (λ c. Suits (has kind) c.1) cs
       → AllByRecursion IsWellFormedDefinition (written_type kind text name (by_origin cs) location)
   type_written kind text cs location a = (
-    definition kind text (of_origin Definition cs) location (of_one (is_of_kind kind) cs a Definition),
+    definition kind text (of_origin Definition cs) location (of_one (has kind) cs a Definition),
     each-map IsWellFormedDefinition (λ e. type_extension kind name e.1 (extension_location e.0)) (of_extensions cs)
         (each-weaken (λ e. AreWellFormedParts e.1 × (says_of_kind kind e.1 ≡ true)) (λ e. IsWellFormedDefinition (type_extension kind name e.1 (extension_location e.0)))
-        (λ e h. extension kind e.1 (extension_location e.0) h.0 h.1) (of_extensions cs) (each_says (is_of_kind kind) cs a (says_of_kind kind) (one_says kind))),
+        (λ e h. extension kind e.1 (extension_location e.0) h.0 h.1) (of_extensions cs)
+        (each_says (has kind) cs a (says_of_kind kind) (one_says kind))),
   )
 
 -- whether a component is a root
@@ -149,27 +160,33 @@ root_among origin (c ∷ cs) h = by (same_origin origin c.0) h (root_among origi
     by false h rest = rest (later (is_root c.1) h)
 
 -- the schema's definition, where it is written, and its extensions
-pub schema_written : (is_written : Bool) (text : Option NameView) (cs : List SourcedPart) (location : Option SourceSpan) → AllByRecursion (λ c. Suits is_of_schema c.1) cs → (is_written ≡ true → has_root Definition cs ≡ true)
+pub schema_written : (is_written : Bool) (text : Option NameView) (cs : List SourcedPart)
+    (location : Option SourceSpan) → AllByRecursion (λ c. Suits schema_has c.1) cs
+    → (is_written ≡ true → has_root Definition cs ≡ true)
     → AllByRecursion IsWellFormedDefinition (written_schema is_written text (by_origin cs) location)
 schema_written is_written text cs location a rooted =
     each-append IsWellFormedDefinition (if is_written then schema_definition text (of_origin Definition cs) location ∷ [] else []) _ (by is_written rooted)
     (each-map IsWellFormedDefinition (λ e. schema_extension e.1 (extension_location e.0)) (of_extensions cs)
-    (each-weaken (λ e. AreWellFormedParts e.1 × (says_of_schema e.1 ≡ true)) (λ e. IsWellFormedDefinition (schema_extension e.1 (extension_location e.0))) (λ e h. (tt, (h.1, directed e.1 h.0 (node_parts root_parts) e.1.roots (h.0 Roots))))
-    (of_extensions cs) (each_says is_of_schema cs a says_of_schema one_says_of_schema)))
+    (each-weaken (λ e. AreWellFormedParts e.1 × (says_of_schema e.1 ≡ true))
+    (λ e. IsWellFormedDefinition (schema_extension e.1 (extension_location e.0)))
+    (λ e h. (tt, (h.1, directed e.1 h.0 Roots)))
+    (of_extensions cs) (each_says schema_has cs a says_of_schema one_says_of_schema)))
   where
     ps : Parts
     ps = of_origin Definition cs
 
     own : AreWellFormedParts ps
-    own = of_one is_of_schema cs a Definition
+    own = of_one schema_has cs a Definition
 
     by : (b : Bool) → (b ≡ true → has_root Definition cs ≡ true) → AllByRecursion IsWellFormedDefinition (if b then schema_definition text ps location ∷ [] else [])
     by false rooted = tt
     by true rooted = (
       (
         tt,
-        join (description_parts text) _ (description text) (join (directives_parts true (directive_list ps)) _ (all (node_parts (directive_parts true)) ps.directives (own Directives))
-            (root_among Definition cs (rooted refl), all (node_parts root_parts) ps.roots (own Roots))),
+        join (description_parts text) _ (description text)
+            (join (directives_parts true (directive_list ps)) _
+            (all (trees Directives) ps.directives (own Directives))
+            (root_among Definition cs (rooted refl), all (trees Roots) ps.roots (own Roots))),
       ),
       tt,
     )

@@ -42,7 +42,7 @@ AreRead = AllByRecursion (λ t. Reads t.reading t.definitions)
 abbrev pub added_texts : List AddedText → List Added
 added_texts = flat_map (λ t. added t.ignores t.definitions)
 
--- a schema that is built of texts, with extensions numbered from some number and any setting of adoption; it
+-- a schema that is built of texts, with extensions numbered from some number and any setting of adoption. It
 -- is whole or what could be built of texts with faults
 pub record IsBuiltOfTexts (schema : Schema) : Type 0 where
   pub texts : List AddedText
@@ -57,14 +57,14 @@ pub record IsBuiltOfTexts (schema : Schema) : Type 0 where
 abbrev pub schema_text : Schema → List ℕ
 schema_text schema = definitions_text (write_schema schema)
 
--- a reading of the schema's text in which nothing is refused for its size: it may nest as deep as the
+-- a reading of the schema's text in which nothing is refused for its size. The text may nest as deep as the
 -- write-out does, and have as many tokens as it has bytes
 pub record IsReadingOf (schema : Schema) (r : Reading) : Type 0 where
   pub text : r.text ≡ schema_text schema
   pub deep : document_nesting (write_schema schema) ≤ r.depth
   pub long : length r.text ≤ r.allowed
 
--- definitions that are added after the built-in ones, with adoption: they have no fault and mean a schema
+-- definitions that are added after the built-in ones, with adoption. They have no fault and mean a schema
 -- that is equal to this one and has its text, however extensions are numbered
 pub record BuildAgain (schema : Schema) (definitions : List Definition) : Type 0 where
   pub faultless : faults_of true (with_built_ins (added false definitions)) ≡ []

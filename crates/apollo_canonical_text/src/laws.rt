@@ -26,10 +26,12 @@ fn laws_below()
 }
 
 /// From text to text. Texts that are read make a schema, under any options, whole or what could be built of
-/// them with faults. The text of its write-out, where something is written, is read again, in any file but
-/// that of the built-in definitions. Whatever it is read as has no fault, and means an equal schema with the
-/// same text: so the text of a schema is its canonical form. GraphQL specification of October 2021, sections
-/// 2 and 3.
+/// them with faults. The text of its write-out is read again, in any file but that of the built-in
+/// definitions. Whatever it is read as has no fault, and means an equal schema with the same text. So the
+/// text of a schema is its canonical form. GraphQL specification of October 2021, sections 2 and 3.
+///
+/// Premise: something is written, as many signs may be open as it nests, and as many tokens are allowed as
+/// its text has bytes. The empty text is no document.
 pub fn canonical_text()
     ensures read { (schema : Schema) → IsBuiltOfTexts schema → write_schema schema ≢ [] → (r : Reading)
         → r.file.0 ≢ 0 → IsReadingOf schema r → (definitions : List Definition) × Reads r definitions }

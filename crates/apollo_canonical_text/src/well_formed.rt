@@ -30,7 +30,7 @@ pub fn built_in_definitions_are_well_formed()
     ensures { AllByRecursion IsWellFormedDefinition built_in_definitions }
 {}
 
-/// Well-formed goes through the schema: where each definition of a list is well-formed, so is each definition
+/// Well-formed goes through the schema. Where each definition of a list is well-formed, so is each definition
 /// that the schema of the list is written out as. It holds with any setting of adoption and of ignored
 /// redefinitions. It holds for the schema that the list means, whole or what could be built of a list with
 /// faults. So names are names, numbers are numbers, and no variable stands in a constant. A schema definition

@@ -1,20 +1,7 @@
 -- What is wrong with extensions that join a type, one after another.
-use Rattle.apollo_meaning.proofs.Prelude.{◌≡◌, ℕ, ◌+◌, ◌<◌, true, false, get_or, take, List, [], ◌∷◌, ◌++◌, length, map, refl, sym, ap, ◌∙◌, append_assoc, arith, append-nil, map-append, filter-append, TypeKind, Definition, each_after, each_after-append, each_after-start, TypePart, kind_of, same_kind, extended_parts, of_kind, Sourced, extension_part, numbered, Fault, joining_faults, codes}
-use Rattle.std.proofs.lemmas.Bool.{false_from_ne_true}
-use Rattle.graphql_nodes.specs.KindTexts.{kind_text, kind_extension_text}
+use Rattle.apollo_meaning.proofs.Prelude.{◌≡◌, ℕ, ◌+◌, ◌<◌, get_or, take, List, [], ◌∷◌, ◌++◌, length, map, refl, sym, ap, ◌∙◌, append_assoc, append-nil, map-append, filter-append, Definition, each_after, each_after-append, each_after-start, TypePart, kind_of, extended_parts, of_kind, Sourced, extension_part, numbered, Fault, joining_faults}
 use Rattle.apollo_meaning.specs.Faults.TypeFaults.{joining_fault}
 use Rattle.apollo_meaning.proofs.Order.FoldingLemmas.{extended_parts-turn}
-
-same_kind-true : (a b : TypeKind) → same_kind a b ≡ true → a ≡ b
-same_kind-true a b h = grind arith
-
--- two kinds that aren't one
-pub same_kind-false : (a b : TypeKind) → (a ≡ b → ⊥) → same_kind a b ≡ false
-same_kind-false a b apart = false_from_ne_true (same_kind a b) (λ h. apart (same_kind-true a b h))
-
--- what a message calls an extension
-pub extension_text : (k : TypeKind) → kind_extension_text k ≡ kind_text k ++ codes " extension"
-extension_text k = grind arith
 
 module _ (d : TypePart) where
   -- more extensions join the parts and the extensions before them

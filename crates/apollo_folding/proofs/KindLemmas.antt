@@ -1,16 +1,17 @@
 -- What follows where a node of one kind is what parts make.
-use Rattle.apollo_meaning.proofs.Prelude.{◌≡◌, true, TypeKind, List, ◌++◌, sym, ap, ◌∙◌, NodeView, ExtendedType, TypePart, TypeBody, Sourced, type_from, type_kind, kind_of, same_kind}
+use Rattle.apollo_meaning.proofs.Prelude.{◌≡◌, true, TypeKind, List, ◌++◌, sym, ap, ◌∙◌, NodeView, ExtendedType, TypePart, Sourced, type_from, type_kind, kind_of, same_kind}
 use Rattle.apollo_meaning.proofs.Order.FoldingLemmas.{same_kind-refl, type_kind-from}
 use Rattle.apollo_folding.specs.KindParts.{IsOf}
 
 -- the value is that of the parts
-pub IsOf-value : {T : Type 0} {make : NodeView T → ExtendedType} {of : TypePart → List Sourced → T} {b : TypeBody} {head : TypePart} {done : List Sourced} {n : NodeView T}
-    → IsOf make of b head done n → n.value ≡ of head done
+pub IsOf-value : {T : Type 0} {make : NodeView T → ExtendedType} {of : TypePart → List Sourced → T}
+    {kind : TypeKind} {head : TypePart} {done : List Sourced} {n : NodeView T}
+    → IsOf make of kind head done n → n.value ≡ of head done
 IsOf-value {T} is = ap (λ (n : NodeView T). n.value) is.node
 
 -- a type that grew by more parts is that of the parts and of those
 pub IsOf-grown : {T : Type 0} {make : NodeView T → ExtendedType} {of : TypePart → List Sourced → T} {head : TypePart} {done : List Sourced} {n : NodeView T}
-    → IsOf make of head.body head done n → (grown : NodeView T) (more : List Sourced)
+    → IsOf make of head.kind head done n → (grown : NodeView T) (more : List Sourced)
     → grown.location ≡ n.location
     → (n.value ≡ of head done → grown.value ≡ of head (done ++ more))
     → make grown ≡ type_from head (done ++ more)

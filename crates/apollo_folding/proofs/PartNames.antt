@@ -1,31 +1,49 @@
--- The names of what parts have in a collection, joined.
-use Rattle.apollo_meaning.proofs.Prelude.{◌≡◌, List, [], ◌∷◌, ◌++◌, map, refl, ◌∙◌, flat_map, keys_of, map-append, map-map, NameView, ComponentName, TypePart, Sourced, component_name, interfaces_of, fields_of, interface_names, field_names}
-use Rattle.std.proofs.lemmas.List.{map-id}
-use Rattle.apollo_meaning.specs.Types.Components.{body_interfaces, body_fields, body_members, body_values, body_input_fields, members_of, values_of, input_fields_of, field_entry, value_entry, input_field_entry}
-use Rattle.apollo_meaning.specs.Faults.TypeFaults.{member_names, value_names, input_field_names}
+-- Components that are dropped from what was made of parts are those that are dropped where a part joins them.
+use Rattle.apollo_meaning.proofs.Prelude.{◌≡◌, List, [], ◌∷◌, ◌++◌, map, refl, sym, ap, ◌∙◌, append_assoc, append-nil, flat_map, keys_of, map-append, NameView, TypePart, Sourced, Fault, collisions}
+use Rattle.apollo_meaning.specs.declared.collision.Collection.{Collection}
+use Rattle.graphql_ast.specs.Parts.{Sort, Names, Fields, Values, InputFields}
+use Rattle.apollo_meaning.specs.Items.Parts.{held_parts}
+pub use Rattle.apollo_meaning.specs.Types.Components.{names_of, fields_of, values_of, input_fields_of}
+use Rattle.apollo_meaning.specs.Faults.TypeFaults.{held_sort, entries_of, names_in, dropped_from}
+use Rattle.apollo_meaning.proofs.Faults.KeptLemmas.{names-of-names, keys-of-nodes}
 
--- where the names of each part's components are those of the part, the names of all are those of the parts
-module _ {X : Type 0} (of : Sourced → List X) (name : X → NameView) (of_part : TypePart → List NameView) (one : (s : Sourced) → map name (of s) ≡ of_part s.1) where
-  joined_names : (done : List Sourced) → map name (flat_map of done) ≡ flat_map of_part (map (λ s. s.1) done)
-  joined_names [] = refl
-  joined_names (s ∷ done) = map-append name (of s) (flat_map of done) ∙ (λ i. one s i ++ joined_names done i)
+-- where what is made of each part has the names of a sort, what is made of all has those of all
+joined : {X : Type 0} (s : Sort) (made : Sourced → List X) (name : X → NameView)
+    → ((p : Sourced) → map name (made p) ≡ map (λ e. e.0) (entries_of s p.1))
+    → (done : List Sourced) → map name (flat_map made done) ≡ names_in s (map (λ p. p.1) done)
+joined s made name one [] = refl
+joined s made name one (p ∷ done) =
+    map-append name (made p) (flat_map made done) ∙ (λ i. one p i ++ joined s made name one done i)
 
-pub interfaces-joined : (done : List Sourced) → map (λ k. k.name) (flat_map interfaces_of done) ≡ interface_names (map (λ s. s.1) done)
-interfaces-joined = joined_names interfaces_of (λ k. k.name) (λ p. body_interfaces p.body)
-    (λ s. map-map (λ (k : ComponentName). k.name) (component_name s.0) (body_interfaces s.1.body) ∙ map-id (body_interfaces s.1.body))
+module _ (done : List Sourced) where
+  pub names-joined : map (λ k. k.name) (flat_map names_of done) ≡ names_in Names (map (λ s. s.1) done)
+  names-joined = joined Names names_of (λ k. k.name)
+      (λ s. names-of-names s.0 [] (held_parts s.1).names) done
 
-pub members-joined : (done : List Sourced) → map (λ k. k.name) (flat_map members_of done) ≡ member_names (map (λ s. s.1) done)
-members-joined = joined_names members_of (λ k. k.name) (λ p. body_members p.body)
-    (λ s. map-map (λ (k : ComponentName). k.name) (component_name s.0) (body_members s.1.body) ∙ map-id (body_members s.1.body))
+  pub fields-joined : keys_of (flat_map fields_of done) ≡ names_in Fields (map (λ s. s.1) done)
+  fields-joined = joined Fields fields_of (λ e. e.0)
+      (λ s. keys-of-nodes (λ f. f.name) s.0 [] (held_parts s.1).fields) done
 
-pub fields-joined : (done : List Sourced) → keys_of (flat_map fields_of done) ≡ field_names (map (λ s. s.1) done)
-fields-joined = joined_names fields_of (λ e. e.0) (λ p. map (λ f. f.value.name) (body_fields p.body))
-    (λ s. map-map (λ e. e.0) (field_entry s.0) (body_fields s.1.body))
+  pub values-joined : keys_of (flat_map values_of done) ≡ names_in Values (map (λ s. s.1) done)
+  values-joined = joined Values values_of (λ e. e.0)
+      (λ s. keys-of-nodes (λ v. v.value) s.0 [] (held_parts s.1).values) done
 
-pub values-joined : (done : List Sourced) → keys_of (flat_map values_of done) ≡ value_names (map (λ s. s.1) done)
-values-joined = joined_names values_of (λ e. e.0) (λ p. map (λ v. v.value.value) (body_values p.body))
-    (λ s. map-map (λ e. e.0) (value_entry s.0) (body_values s.1.body))
+  pub input_fields-joined : keys_of (flat_map input_fields_of done)
+      ≡ names_in InputFields (map (λ s. s.1) done)
+  input_fields-joined = joined InputFields input_fields_of (λ e. e.0)
+      (λ s. keys-of-nodes (λ f. f.name) s.0 [] (held_parts s.1).input_fields) done
 
-pub input_fields-joined : (done : List Sourced) → keys_of (flat_map input_fields_of done) ≡ input_field_names (map (λ s. s.1) done)
-input_fields-joined = joined_names input_fields_of (λ e. e.0) (λ p. map (λ f. f.value.name) (body_input_fields p.body))
-    (λ s. map-map (λ e. e.0) (input_field_entry s.0) (body_input_fields s.1.body))
+-- what is found in a collection with the names of these parts, before other faults and as the last
+module _ (c : Collection) (done : List Sourced) (p : TypePart) (before after : List Fault)
+    (names : List NameView) (are : names ≡ names_in (held_sort c) (map (λ s. s.1) done))
+    (found : after ≡ before ++ collisions c p.name names (entries_of (held_sort c) p)) where
+  abbrev dropped : List Fault
+  dropped = dropped_from (map (λ s. s.1) done) p c
+
+  pub found-before : (rest : List Fault) → after ++ rest ≡ before ++ (dropped ++ rest)
+  found-before rest =
+      let all = λ (names : List NameView). before ++ collisions c p.name names (entries_of (held_sort c) p) in
+      ap (λ l. l ++ rest) (found ∙ ap all are) ∙ append_assoc before dropped rest
+
+  pub found-last : after ≡ before ++ (dropped ++ [])
+  found-last = sym (append-nil after) ∙ found-before []

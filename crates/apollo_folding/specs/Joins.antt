@@ -1,5 +1,5 @@
--- What a step does to what was made of parts, and to the faults: each word speaks of all parts that it may
--- be made of. GraphQL specification of October 2021, sections 3.3.2 and 3.4.3.
+-- What a step does to what was made of parts, and to the faults. Each word speaks of all parts that the
+-- former may be made of. GraphQL specification of October 2021, sections 3.3.2 and 3.4.3.
 use Rattle.std.specs.Prelude.{◌≡◌, ℕ, length, List, [], ◌∷◌, ◌++◌, map}
 use Rattle.graphql_nodes.specs.NodeView.{NodeView}
 use Rattle.graphql_nodes.specs.declared.type_kind.TypeKind.{TypeKind}

@@ -64,8 +64,8 @@ fn adopt_first(
     Ok(())
 }
 
-/// The empty definitions of the names under which extensions wait, in order: of the kind of the first of
-/// these, with its name and at its location (section 3.4.3). The error is out of memory.
+/// The empty definitions of the names under which extensions wait, in order. Each is of the kind of the first
+/// of these, with its name and at its location (section 3.4.3). The error is out of memory.
 pub fn adopted_definitions(
     alloc: Global,
     waiting: &Table<Name, Items<Definition>>,

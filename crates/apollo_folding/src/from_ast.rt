@@ -82,7 +82,7 @@ fn kind_mismatch(ty: &ExtendedType, part: &TypeDeclarationRef<'_>) -> Result<Fau
     Ok((part.name.location(), error))
 }
 
-/// Folds an extension in under the source's next identity, if it has the type's kind (section 3.4.3): what is
+/// Folds an extension in under the source's next identity, if it has the type's kind (section 3.4.3). What is
 /// there already is left out, and its faults added at the end. One of another kind is a fault, and leaves the
 /// type and the source as they were.
 ///

@@ -1,8 +1,8 @@
-//! The steps of a build: a definition made into a type, an extension folded into one, what waits, what is
-//! adopted, and what is left over. GraphQL specification of October 2021, section 3.
+//! The steps of a build: a definition made into a type, an extension folded into one, what waits, is adopted,
+//! or is left over. GraphQL specification of October 2021, section 3.
 //!
-//! After a refusal nothing is said of what a step was to change, that is of types, tables, faults and the
-//! source of numbers: drop them. What is read stays.
+//! After a refusal nothing is said of what a step was to change: types, tables, faults and the source of
+//! numbers. Drop them. What is read stays.
 //!
 //! Proved: each step of a build does what the meaning says of it, with its faults.
 #![tactic(auto)]

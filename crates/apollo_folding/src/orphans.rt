@@ -40,8 +40,8 @@ fn note_orphans_of(extensions: &[Definition], faults: &mut Items<Fault>) -> Resu
     Ok(())
 }
 
-/// Adds the fault of each extension of a type that still waits (section 3.4.3) at the end: name by name, and
-/// of one name in order. The error is out of memory.
+/// Adds the fault of each extension of a type that still waits (section 3.4.3) at the end. They come name by
+/// name, and of one name in order. The error is out of memory.
 pub fn note_orphans(
     waiting: &Table<Name, Items<Definition>>,
     faults: &mut Items<Fault>,

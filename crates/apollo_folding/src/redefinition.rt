@@ -43,7 +43,7 @@ fn built_in_redefinition(
 }
 
 /// Adds the fault of a further definition of a type's name at the end, unless the type is built-in and such
-/// definitions are ignored: then nothing is added. The error is out of memory.
+/// definitions are ignored. Then nothing is added. The error is out of memory.
 pub fn note_redefinition(
     previous: &ExtendedType,
     further: &TypeDeclarationRef<'_>,

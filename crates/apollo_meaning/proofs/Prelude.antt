@@ -40,11 +40,11 @@ pub use Rattle.apollo_types.specs.declared.extended_type.ExtendedType.{ExtendedT
 pub use Rattle.apollo_types.specs.declared.extended_type.ExtendedType.TheVariants.{Scalar, Object, Interface, Union, Enum, InputObject}
 pub use Rattle.apollo_types.specs.declared.schema_definition.SchemaDefinition.{SchemaDefinition}
 pub use Rattle.apollo_types.specs.TypeKinds.{is_object}
-pub use Rattle.apollo_meaning.specs.Items.Parts.{TypePart, key_of, TypeBody, ScalarBody, ObjectBody, InterfaceBody, UnionBody, EnumBody, InputObjectBody, SchemaPart, Root, roots_in, kind_of, same_kind, schema_extension_part, schema_definition_part}
+pub use Rattle.apollo_meaning.specs.Items.Parts.{TypePart, key_of, held_parts, SchemaPart, Root, roots_in, kind_of, same_kind, schema_extension_part, schema_definition_part}
 pub use Rattle.apollo_meaning.specs.Items.ListItems.{ListItem, extended_part, Defined, Extended, SchemaDefined, SchemaExtended, Other, items_of, extended_parts, items_held, extended_schema, Folding, defined_part, defined_schema, item_of, Added, added_item, added_items, OfType, OfSchema, added}
 pub use Rattle.apollo_meaning.specs.Items.Named.{first, extensions_of, schema_extensions, first_schema, of_kind}
 pub use Rattle.apollo_meaning.specs.Faults.Collisions.{Fault, Entry, collision, collision_at, collisions}
-pub use Rattle.apollo_meaning.specs.Faults.TypeFaults.{orphan, name_entries, field_entries, body_faults, part_faults, extension_faults, further_definition, interface_names, field_names}
+pub use Rattle.apollo_meaning.specs.Faults.TypeFaults.{orphan, name_entries, names_in, entries_of, part_faults, extension_faults, further_definition}
 pub use Rattle.apollo_meaning.specs.Faults.RootFaults.{schema_orphan, schema_faults, further_schema}
 pub use Rattle.apollo_meaning.specs.Completion.Adoption.{extended_names, orphans_of, schema_orphans, adopted_part, adopted_by, adopted, with_adopted}
 pub use Rattle.apollo_meaning.specs.Completion.ImpliedSchema.{implied_schema, completed, schema_for}
@@ -54,7 +54,7 @@ pub use Rattle.apollo_meaning.specs.declared.collision.Collection.{Collection}
 pub use Rattle.apollo_meaning.specs.Steps.Joining.{schema_joining_faults, joining_faults, schema_begun_faults, schema_numbered, schema_begun}
 pub use Rattle.apollo_meaning.specs.Directives.{directive_definitions, Directives, AreDirectivesOf}
 pub use Rattle.apollo_meaning.specs.Faults.OtherFaults.{other_faults}
-pub use Rattle.apollo_meaning.specs.Types.Components.{component, component_name, same_component_name, distinct_names, Sourced, interfaces_of, fields_of, distinct_entries}
+pub use Rattle.apollo_meaning.specs.Types.Components.{component, component_name, same_component_name, distinct_names, Sourced, names_of, fields_of, distinct_entries}
 pub use Rattle.apollo_meaning.specs.Types.Meaning.{extensions_with_origin, type_of_kind, type_from, extension_part, numbered, type_names, parts, AreTypesOf}
 pub use Rattle.apollo_meaning.specs.Schema.Whole.{whole}
 pub use Rattle.apollo_meaning.specs.Schema.Definition.{SourcedSchema, schema_from, schema_of, schema_definition_of}

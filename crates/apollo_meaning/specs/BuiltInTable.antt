@@ -1,10 +1,10 @@
 -- The definitions that every schema has: GraphQL specification of October 2021, sections 3.5 (scalars), 3.13
 -- (directives) and 4.2 (schema introspection).
 --
--- **Built-in definitions.** 17: the scalars `Int`, `Float`, `String`, `Boolean`, `ID`; the directives
--- `skip`, `include`, `deprecated`, `specifiedBy`; the introspection types `__Schema`, `__Type`,
--- `__TypeKind`, `__Field`, `__InputValue`, `__EnumValue`, `__Directive`, `__DirectiveLocation`. They
--- have no descriptions, and every node and name in them is in file number 0.
+-- **Built-in definitions.** There are 17. The scalars are `Int`, `Float`, `String`, `Boolean` and `ID`. The
+-- directives are `skip`, `include`, `deprecated` and `specifiedBy`. The introspection types are `__Schema`,
+-- `__Type`, `__TypeKind`, `__Field`, `__InputValue`, `__EnumValue`, `__Directive` and `__DirectiveLocation`.
+-- All these have no descriptions, and every node and name in them is in file number 0.
 use Prim.Native.String.{String}
 use Rattle.std.specs.Prelude.{List, [], ◌∷◌, ◌++◌, None, Some, false, map, codes}
 use Rattle.graphql_nodes.specs.NodeView.{NodeView}

@@ -8,7 +8,7 @@ use thiserror::Error;
 /// What is wrong with a definition, an extension or a component that a build doesn't use: GraphQL
 /// specification of October 2021, section 3. A name of the kept thing has the location of that.
 ///
-/// Of a type the first definition is kept, and of its components the first of each name: those of the
+/// Of a type the first definition is kept, and of its components the first of each name. Those of the
 /// definition come first, and then those of the extensions of its kind, in order. Of the schema the first
 /// definition is kept, and of its roots the first of each operation.
 ///
@@ -26,8 +26,8 @@ pub enum BuildError {
     SchemaDefinitionCollision {
         previous_location: Option<SourceSpan>,
     },
-    /// A definition of a directive where another one of its name stands before, which is not built-in: at its
-    /// name, with the location of the name of the first such one (section 3.13).
+    /// A definition of a directive where another one of its name stands before, which is not built-in. It is
+    /// at its name, with the location of the name of the first such one (section 3.13).
     #[error("the directive `@{name}` is defined multiple times in the schema")]
     DirectiveDefinitionCollision {
         previous_location: Option<SourceSpan>,
@@ -71,7 +71,7 @@ pub enum BuildError {
         previous_location: Option<SourceSpan>,
         operation_type: StaticText,
     },
-    /// An interface that an object type lists already: at its name, with the name that is kept, and the
+    /// An interface that an object type lists already. It is at its name, with the name that is kept, and the
     /// type's name as it stands beside the further one (section 3.6). So it is with the six errors below.
     #[error("object type `{type_name}` implements interface `{name_at_previous_location}` more than once")]
     DuplicateImplementsInterfaceInObject {

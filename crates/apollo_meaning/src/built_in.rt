@@ -253,8 +253,8 @@ fn add_introspection_types(
 }
 
 /// The definitions that every schema has, in this order: the scalars `Int`, `Float`, `String`, `Boolean` and
-/// `ID` (section 3.5); the directives `@skip`, `@include`, `@deprecated` and `@specifiedBy` (section 3.13);
-/// and the types of introspection (section 4.2).
+/// `ID` (section 3.5). Then the directives `@skip`, `@include`, `@deprecated` and `@specifiedBy` (section
+/// 3.13), and the types of introspection (section 4.2).
 ///
 /// Each node and name is in file number 0, [`FileId::BUILT_IN`](graphql_nodes::source::FileId::BUILT_IN).
 /// None has a description. The error is out of memory.

@@ -19,8 +19,8 @@ pub enum Collection {
 }
 
 impl Collection {
-    /// The fault of a component whose name is kept already, in a definition or extension of this type name:
-    /// that of its collection, with copies of both names. The error is out of memory.
+    /// The fault of a component whose name is kept already, in a definition or extension of this type name.
+    /// It is that of its collection, with copies of both names. The error is out of memory.
     pub fn collision(self, kept: &Name, type_name: &Name) -> Result<BuildError, AllocError>
         ensures { IfOk result (λ error. error ≡ collision self kept.now type_name.now) }
     {

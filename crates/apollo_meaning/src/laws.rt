@@ -62,7 +62,7 @@ use crate::build_error::BuildError;
 use crate::collision::Collection;
 
 /// The extensions that are folded for a name are those of its kind, in the order of the list, whatever stands
-/// between them: GraphQL specification of October 2021, section 3.4.3.
+/// between them. GraphQL specification of October 2021, section 3.4.3.
 pub fn folded_extensions()
     ensures { (start : ℕ) (xs : List ListItem) (n : List ℕ) (d : TypePart) → first xs n ≡ Some d
         → map (λ s. s.1) (extensions_with_origin n start (folding_order xs))
@@ -70,7 +70,7 @@ pub fn folded_extensions()
 {}
 
 /// The extensions that are folded for the schema, once it has a definition, are all of its extensions, in the
-/// order of the list: GraphQL specification of October 2021, section 3.3.2.
+/// order of the list. GraphQL specification of October 2021, section 3.3.2.
 pub fn folded_schema_extensions()
     ensures { (start : ℕ) (xs : List ListItem) (s : SchemaPart) → first_schema xs ≡ Some s
         → map (λ e. e.1) (schema_sourced start (folding_order xs)) ≡ schema_extensions xs }
@@ -112,7 +112,7 @@ pub fn type_names_are_the_first_of_each_text()
 {}
 
 /// The definition that the type of a name has in a completed list, case by case: the first one of the list.
-/// Where there is none and extensions are adopted, it is an empty one of the kind: with the name and at the
+/// Where there is none and extensions are adopted, it is an empty one of the kind. It has the name and the
 /// location of the name's first extension. Else there is none. GraphQL specification of October 2021,
 /// sections 3.4 and 3.4.3.
 pub fn definitions_by_cases()
@@ -147,7 +147,7 @@ pub fn schema_definitions_by_cases()
         → first_schema (completed false xs) ≡ None }
 {}
 
-/// Of a joined list, the first definition of a name is that of the front, or else that of the rest: GraphQL
+/// Of a joined list, the first definition of a name is that of the front, or else that of the rest. GraphQL
 /// specification of October 2021, section 3.3.
 pub fn joined_lists_define_first_in_front()
     ensures { (xs ys : List ListItem) (n : List ℕ)
@@ -155,7 +155,7 @@ pub fn joined_lists_define_first_in_front()
 {}
 
 /// Each extension of a type whose name is defined is met at one moment of the list, and each other one at
-/// none; and so are those of the schema.
+/// none. So are those of the schema.
 pub fn each_extension_is_met_once()
     ensures types { (xs : List ListItem)
         → All (λ e. times_met types xs e ≡ once_if_defined types xs e) (extension_places types xs) }
@@ -177,8 +177,8 @@ pub fn adoption_leaves_no_orphan_names()
     ensures { (xs : List ListItem) → orphan_names (with_adopted true xs) ≡ [] }
 {}
 
-/// The definitions on a list with an extension on either side of the definition: the locations of the
-/// extensions in folding order, and the write-out of the type that the name means, computed.
+/// The definitions on a list with an extension on either side of the definition, computed. They are the
+/// locations of the extensions in folding order, and the write-out of the type that the name means.
 pub fn extensions_around()
     ensures order { map folding_location (folding_order (whole false (added false extensions_around)))
         ≡ line 1 ∷ line 5 ∷ [] }
@@ -228,7 +228,7 @@ pub fn later_components_are_at_fault()
         ≡ collisions c ty [] es ++ collisions c ty (map (λ e. e.0) es) more }
 {}
 
-/// The parts of a whole type, its definition and then its extensions, join one after another: the components
+/// The parts of a whole type, its definition and then its extensions, join one after another. The components
 /// that are dropped are those that are the same as an earlier one in the joined list of all, in order. Each
 /// fault has the type's name as the part has it that the component stands in. So it is for each type of a
 /// list, with its name's first definition and the extensions of that one's kind. GraphQL specification of
@@ -258,9 +258,9 @@ pub fn later_roots_are_at_fault()
         → found_of_schema xs s.1 ≡ root_faults [] (roots_in (s.1 ∷ schema_extensions xs)) }
 {}
 
-/// The faults of a list, item by item: first those that its items find, each in view of those before it, and
-/// then its orphans; then what the implied schema definition finds, and at last the orphans of the schema.
-/// GraphQL specification of October 2021, section 3.
+/// The faults of a list, item by item. First come those that its items find, each in view of those before it,
+/// and then its orphans. Then comes what the implied schema definition finds, and at last the orphans of the
+/// schema. GraphQL specification of October 2021, section 3.
 pub fn faults_item_by_item()
     ensures { (adopts : Bool) (xs : List ListItem) → let ys : List ListItem = with_adopted adopts xs in
         faults_in adopts xs
@@ -282,10 +282,10 @@ pub fn built_in_definitions_are_faultless()
     ensures adopting { faults_of true (added false built_in_definitions) ≡ [] }
 {}
 
-/// A list of extensions alone where they are adopted, computed: each name that is extended gets a definition,
+/// A list of extensions alone where they are adopted, computed. Each name that is extended gets a definition,
 /// in order of first extension, and at last the schema does. So the extensions of types are folded first,
 /// those of the schema last. The schema definition has the directive and the query root of the first of
-/// those; the query root of the second is dropped, and is the only fault. GraphQL specification of October
+/// those. The query root of the second is dropped, and is the only fault. GraphQL specification of October
 /// 2021, sections 3.3.1, 3.3.2 and 3.4.3.
 pub fn extensions_alone_adopted()
     ensures names { filter_map type_name_of (adopted (added_items (added false extensions_alone)))
@@ -297,7 +297,7 @@ pub fn extensions_alone_adopted()
     ensures faults { faults_of true (added false extensions_alone) ≡ adopted_faults }
 {}
 
-/// The list of [`extensions_alone_adopted`] where extensions are not adopted, computed: nothing is folded,
+/// The list of [`extensions_alone_adopted`] where extensions are not adopted, computed. Nothing is folded,
 /// there is no schema definition, and each extension is a fault, those of types first and those of the schema
 /// last. GraphQL specification of October 2021, sections 3.3.2 and 3.4.3.
 pub fn extensions_alone_orphaned()
@@ -307,7 +307,7 @@ pub fn extensions_alone_orphaned()
     ensures faults { faults_of false (added false extensions_alone) ≡ orphan_faults }
 {}
 
-/// An object type `Query` alone, computed: it is the query root of a schema definition that nothing wrote,
+/// An object type `Query` alone, computed. It is the query root of a schema definition that nothing wrote,
 /// with adoption and without, and nothing is at fault. GraphQL specification of October 2021, section 3.3.1.
 pub fn query_type_alone()
     ensures definition { schema_of 0 (folding_order (whole false (added false query_type_alone)))
@@ -318,7 +318,7 @@ pub fn query_type_alone()
     ensures adopting_faults { faults_of true (added false query_type_alone) ≡ [] }
 {}
 
-/// A list with extensions of the schema before its definition, computed: the definition's roots are taken
+/// A list with extensions of the schema before its definition, computed. The definition's roots are taken
 /// first, then those of the extensions, and the root that is dropped is an extension's. GraphQL specification
 /// of October 2021, sections 3.3.1 and 3.3.2.
 pub fn schema_extensions_that_wait()
@@ -329,7 +329,7 @@ pub fn schema_extensions_that_wait()
     ensures faults { faults_of false (added false schema_extensions_that_wait) ≡ dropped_root_fault }
 {}
 
-/// A further definition of a built-in scalar type, computed: it is passed over without a fault where it was
+/// A further definition of a built-in scalar type, computed. It is passed over without a fault where it was
 /// added with redefinitions of built-in types ignored, and is a fault where it was not. GraphQL specification
 /// of October 2021, section 3.5.
 pub fn built_in_scalar_redefined()
@@ -338,8 +338,8 @@ pub fn built_in_scalar_redefined()
         ≡ redefinition_fault }
 {}
 
-/// A built-in directive that is defined again, twice, computed: its name stands where it stood and means the
-/// first of these two; the second one is a fault, and each other name means its one definition. GraphQL
+/// A built-in directive that is defined again, twice, computed. Its name stands where it stood and means the
+/// first of these two. The second one is a fault, and each other name means its one definition. GraphQL
 /// specification of October 2021, section 3.13.
 pub fn directives_replaced()
     ensures names { map (λ name. name.text)

@@ -1,13 +1,14 @@
 -- What a builder stands for: GraphQL specification of October 2021, section 3.
 --
--- **A builder as a value.** Contracts see a builder as a value (`Building`): the number of its first
--- extension (`start`), its two options (`adopts` and `ignores`) and how it stands (`standing`). It is
--- `Open` with the list of what was added, each definition with its setting and the built-in ones first,
--- and with the source files of the documents. Once a call was refused it is `Failed`, with the source of
--- numbers that is left. So a call is an equation: `building_from start` is a builder to which no document
--- was added, `with_document document builder` one with a document more, and `refused builder` what a
--- refused call leaves. Adoption is settled at the end: the setting at `build` counts, for the whole list.
--- Whether further definitions of built-in types are ignored counts when a definition is added.
+-- **A builder as a value.** Contracts see a builder as a value (`Building`). It has the number of its first
+-- extension (`start`), its two options (`adopts` and `ignores`) and how it stands (`standing`). It is `Open`
+-- with the list of what was added, the built-in definitions first, and with the source files of the
+-- documents. Each definition of the list is there with its setting. Once a call was refused it is `Failed`,
+-- with the source of numbers that is left. So a call is an equation. `building_from start` is a builder to
+-- which no document was added, and `with_document document builder` one with a document more.
+-- `refused builder` is what a refused call leaves. Adoption is settled at the end: the setting at `build`
+-- counts, for the whole list. Whether further definitions of built-in types are ignored counts when a
+-- definition is added.
 --
 -- `StandsFor start list builder` says that the builder is open with this list, and that `start` is its
 -- first number; `HasFailed builder` that a call was refused. `source_left` and `source_after` are the
@@ -27,7 +28,7 @@ use Rattle.apollo_meaning.specs.Order.SpentIds.{SpendsIds, SpendsIdsSoFar, folds
 use Rattle.apollo_meaning.specs.Schema.Whole.{folds}
 
 -- what was added, the built-in definitions first, with the source files of the documents, until a call was
--- refused; then the source of numbers that is left
+-- refused. Then the source of numbers that is left
 pub data Standing : Type 0 where
   Open : (list : List Added) → (sources : Files) → Standing
   Failed : (source : ExtensionSource) → Standing

@@ -1,6 +1,6 @@
--- What `==` compares of what lookups answer, without locations and origins: of implementers the sets of
--- names, and of the error of a field the name and the type. GraphQL specification of October 2021, sections
--- 3.6 and 3.7.
+-- What `==` compares of what lookups answer, without locations and origins. Of implementers these are the
+-- sets of names, and of the error of a field the name and the type. GraphQL specification of October 2021,
+-- sections 3.6 and 3.7.
 use Rattle.std.specs.Prelude.{ℕ, Bool, List, Option, None, Some}
 use Rattle.graphql_nodes.specs.Comparing.{bare_name, members_by_text}
 use Rattle.graphql_nodes.specs.NameView.{NameView}

@@ -3,9 +3,9 @@
 -- sources are left out.
 --
 -- **Equal schemas.** Two schemas are equal (`AreEqualSchemas`) if what is compared of them is the same
--- (`bare_schema`): the schema definition, and the types and directive definitions as *bare tables*. So under
--- each name both have no type, or types of one kind. These have the same name, description and directives in
--- order, and the same fields, values, interfaces or members under each name.
+-- (`bare_schema`). That is the schema definition, and the types and directive definitions as *bare tables*.
+-- So under each name both have no type, or types of one kind. These have the same name, description and
+-- directives in order, and the same fields, values, interfaces or members under each name.
 use Rattle.std.specs.Prelude.{◌≡◌, ℕ, List, Option}
 use Rattle.graphql_nodes.specs.Comparing.{entries_by_text}
 use Rattle.graphql_ast.specs.BareTypeSystem.{bare_directive_definition}

@@ -3,13 +3,13 @@
 --
 -- **Type of a name.** The one that stands under the name's text, whatever name the type has itself.
 --
--- **Field.** The field f of a name T (`field_at` of `apollo_schema`): the type of T has one if it is an
--- object or an interface that declares f, and that is the field; or else if one of its meta-fields is
--- called f.
+-- **Field.** A name T has a field f (`field_at` of `apollo_schema`) in two cases. The type of T is an object
+-- or an interface that declares f, and that is the field. Or else one of its meta-fields is called f, and
+-- that is the field.
 --
 -- **Subtype.** A type **declares** an interface if it is an object or an interface and lists the interface's
--- name. A name t is a subtype of a name a (`is_subtype`) in two cases: the type of a is an interface which
--- the type of t declares; or the type of a is a union that lists t, whether t has a type or not. Nothing is a
+-- name. A name t is a subtype of a name a (`is_subtype`) in two cases. The type of a is an interface which
+-- the type of t declares. Or the type of a is a union that lists t, whether t has a type or not. Nothing is a
 -- subtype through something else, and of itself only what lists its own name.
 use Rattle.std.specs.Prelude.{◌≡◌, Bool, false, List, [], ◌∷◌, ◌++◌, Option, None, Some, if◌then◌else◌}
 use Rattle.std.specs.List.{find}
@@ -101,8 +101,8 @@ abbrev pub is_query_root : Schema → NameView → Bool
 is_query_root s t =
     option_map_or (λ root. same_text t root.name) (root_of s.schema_definition.value Query) false
 
--- the fields that the type of this name has without declaring them: an object, interface or union has
--- `__typename`, and the root type of queries has two, whatever its kind
+-- the fields that the type of this name has without declaring them. An object, interface or union has
+-- `__typename`. The root type of queries has two others, whatever its kind
 abbrev pub meta_fields : Schema → NameView → ExtendedType → List (Component FieldDefinition)
 meta_fields s t type =
     (if is_composite type then typename_field ∷ [] else []) ++ (if is_query_root s t
@@ -140,7 +140,7 @@ declared_interfaces _ = []
 abbrev pub declares : NameView → ExtendedType → Bool
 declares i type = is_listed i (declared_interfaces type)
 
--- the type of a name is a subtype of an interface if it declares it; and a name is one of a union if that
+-- the type of a name is a subtype of an interface if it declares it. A name is a subtype of a union if that
 -- lists it
 abbrev pub is_subtype_of : Option ExtendedType → Types → NameView → NameView → Bool
 is_subtype_of (Some (Interface n)) types a t = option_map_or (declares a) (type_at types t) false

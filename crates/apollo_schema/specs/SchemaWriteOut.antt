@@ -1,9 +1,9 @@
 -- What a schema is written out as: GraphQL specification of October 2021, section 3.3.
 --
--- **Write-out of a schema.** `write_schema`: the write-out of its schema definition; then its directive
--- definitions that aren't built-in, in the order of the schema; then the write-out of each of its types,
--- in the order of the schema. Of a type whose node is built-in the definition is left out, and its
--- extensions are written.
+-- **Write-out of a schema.** `write_schema`: first comes the write-out of its schema definition. Then come
+-- its directive definitions that aren't built-in, in the order of the schema. Last comes the write-out of
+-- each of its types, in the order of the schema. Of a type whose node is built-in the definition is left out,
+-- and its extensions are written.
 use Rattle.std.specs.Prelude.{List, ◌++◌, flat_map, map, filter, drop, if◌then◌else◌}
 use Rattle.graphql_nodes.specs.NodeView.{NodeView}
 use Rattle.graphql_nodes.specs.Tables.{values_of}

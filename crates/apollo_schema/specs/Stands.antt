@@ -37,14 +37,14 @@ pub record Stands (start : ℕ) (xs : List ListItem) (t : Tables) : Type 0 where
   -- the number of the next extension that is folded
   pub next : t.ids ≡ source_at (start + length (folded xs))
 
--- these tables are those of a list that ends with these items, which are implied; they hold what was found
+-- these tables are those of a list that ends with these items, which are implied. They hold what was found
 -- and what is left without a definition
 pub record Ends (start : ℕ) (implied xs : List ListItem) (t : Tables) : Type 0 where
   pub definition : t.schema_definition ≡ schema_of start (folded (xs ++ implied)) (xs ++ implied)
   pub types : AreTypesOf start (folded (xs ++ implied)) (xs ++ implied) t.types
   pub directives : AreDirectivesOf (directive_definitions (xs ++ implied)) t.directive_definitions
-  -- what was found before; the extensions of types without a definition; what is found at the implied items;
-  -- and the extensions of the schema without a definition
+  -- what was found before, and the extensions of types without a definition. Then what is found at the
+  -- implied items, and the extensions of the schema without a definition
   pub faults : t.faults
       ≡ found xs ++ (map orphan (flat_map (orphans_of xs) (extended_names xs))
       ++ (each_after found_at xs implied ++ map schema_orphan (schema_orphans (xs ++ implied))))
@@ -65,8 +65,8 @@ abbrev pub standing_of : List Added → State → Standing
 standing_of more (state.Open tables) = Open (with_built_ins more) tables.sources
 standing_of more (state.Failed source) = Failed source
 
--- what holds of what a builder with this first number holds: its tables are those of what was added, the
--- built-in definitions first; or a call was refused, and the source is not below the first number
+-- what holds of what a builder with this first number holds. Its tables are those of what was added, the
+-- built-in definitions first. Or a call was refused, and the source is not below the first number
 abbrev pub HoldsFor : ℕ → List Added → State → Type 0
 HoldsFor start more (state.Open tables) = Stands start (added_items (with_built_ins more)) tables
 HoldsFor start more (state.Failed source) = start ≤ next_number source

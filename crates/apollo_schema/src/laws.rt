@@ -1,4 +1,4 @@
-//! Laws of the definitions, for those who build on them; and what `==` answers at schemas, at what lookups
+//! Laws of the definitions, for those who build on them. Also what `==` answers at schemas, at what lookups
 //! answer and at the errors of builders.
 ghost use Rattle.std.specs.Prelude.{◌≡◌, ◌⊎◌, ◌↔◌, ℕ, Bool, List, All, IsTrue, IsSome};
 ghost use Rattle.apollo_meaning.specs.Completion.OrphanNames.{orphan_names};
@@ -25,15 +25,15 @@ use graphql_nodes::collections::table::Table;
 use graphql_nodes::name::Name;
 
 /// Two schemas are equal exactly where their definitions are and they have equal types and equal directive
-/// definitions under each name, in any order: locations, origins and sources are left out. GraphQL
+/// definitions under each name, in any order. Locations, origins and sources are left out. GraphQL
 /// specification of October 2021, section 3.
 pub fn equality_of_schemas()
     ensures { (a b : Schema) → IsTrue (⟦<Schema as PartialEq>⟧.eq a b) ↔ AreEqualSchemas a b }
 {}
 
 /// Implementers are equal exactly where they have the same names of object types and the same of interface
-/// types, in any order; tables of them, as `implementers_map` answers, where they have equal implementers
-/// under each name, in any order; and errors of fields where both say that there is no type, or name one key
+/// types, in any order. Tables of them, as `implementers_map` answers, are where they have equal implementers
+/// under each name, in any order. Errors of fields are where both say that there is no type, or name one key
 /// and equal types. Locations and origins are left out. GraphQL specification of October 2021, sections 3.6
 /// and 3.7.
 pub fn equality_of_lookups<'schema>()
@@ -77,7 +77,7 @@ pub fn implementers()
 {}
 
 /// A type of a schema, whatever made it, is a subtype of an interface exactly where it is among the
-/// interface's implementers: its table has no two types of one name. Contracts see a table as the list of its
+/// interface's implementers. Its table has no two types of one name. Contracts see a table as the list of its
 /// entries, which doesn't say so, but the table itself does.
 pub fn implementers_in_a_schema(schema: &Schema)
     ensures { (i t : NameView) → IsSome (interface_node (type_at schema.now.types i))
@@ -98,7 +98,7 @@ pub fn a_list_means_one_schema()
 {}
 
 /// Every list of definitions means a schema, faulty lists too, whether extensions are adopted or not, and
-/// with its extensions numbered from any number: so what is said of the schemas that a list means is said of
+/// with its extensions numbered from any number. So what is said of the schemas that a list means is said of
 /// one. GraphQL specification of October 2021, section 3.3.
 pub fn every_list_means_a_schema()
     ensures { (start : ℕ) (adopts : Bool) (xs : List Added)
@@ -118,8 +118,8 @@ pub fn every_builder_stands_for_a_list_or_has_failed()
         → ((xs : List Added) × StandsFor builder.start xs builder) ⊎ HasFailed builder }
 {}
 
-/// Each name that is extended and not defined is the name of the first extension of it, as that writes it,
-/// and only extensions have it. GraphQL specification of October 2021, section 3.4.3.
+/// Each name that is extended and not defined is that of its first extension, as that writes it, and only
+/// extensions have it. GraphQL specification of October 2021, section 3.4.3.
 pub fn orphan_names_are_extended_and_not_defined()
     ensures { (xs : List Added) → All (IsOrphanName (added_items xs)) (orphan_names (added_items xs)) }
 {}

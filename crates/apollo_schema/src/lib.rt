@@ -2,6 +2,8 @@
 //!
 //! Proved: `build` answers exactly the schema that the list means, and its faults; what each lookup finds;
 //! `==` decides whether schemas are equal.
+//!
+//! No clause: `MetaFields::new`, as each value of the type holds the three; the lookups answer them.
 #![tactic(auto)]
 
 pub mod build_failure;

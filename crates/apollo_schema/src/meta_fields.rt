@@ -99,7 +99,6 @@ fn type_by_name(alloc: Global) -> Result<Component<FieldDefinition>, AllocError>
 
 impl MetaFields {
     /// The three definitions. The error is out of memory.
-    /// No clause: each value of the type holds the three.
     pub fn new(alloc: Global) -> Result<MetaFields, AllocError> {
         let typename = non_null(alloc, "String")?;
         let schema = non_null(alloc, "__Schema")?;

@@ -112,7 +112,7 @@ impl Schema {
     /// directive definitions, in order. Then comes each type, in order, as its definition and its extensions.
     ///
     /// The schema definition is left out where it would be implied, or has no root of its own, as
-    /// [`SchemaDefinition::to_ast`] says: its description and its own directives are not written then. Its
+    /// [`SchemaDefinition::to_ast`] says. Its description and its own directives are not written then. Its
     /// extensions are always there. Built-in definitions of types and directives are left out, but not the
     /// extensions of those types. The error is out of memory.
     pub fn to_ast(&self, alloc: Global) -> Result<Vec<Definition>, AllocError>

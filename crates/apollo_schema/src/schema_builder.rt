@@ -125,10 +125,10 @@ impl SchemaBuilder {
         })
     }
 
-    /// The builder, which adopts at `build` what is extended only: each type that has extensions and no
-    /// definition is taken as defined, empty, at its first extension; and the schema is taken as defined,
-    /// without a location, with the default roots unless an extension names a root (sections 3.3.2 and
-    /// 3.4.3). All else stays: what was added, the other option, and whether a call was refused.
+    /// The builder, which adopts at `build` what is extended only. Each type that has extensions and no
+    /// definition is taken as defined, empty, at its first extension. The schema is taken as defined, without
+    /// a location, with the default roots unless an extension names a root (sections 3.3.2 and 3.4.3). All
+    /// else stays: what was added, the other option, and whether a call was refused.
     pub fn adopt_orphan_extensions(self) -> SchemaBuilder
         ensures { result ≡ record self { adopts = true } }
     {
@@ -191,12 +191,12 @@ impl SchemaBuilder {
     /// extensions are folded in after those roots. With adoption there are no default roots where an
     /// extension names a root. The schema's sources are those of the documents, merged.
     ///
-    /// `Faults`, with what could be built, sources included, comes exactly where what was added has faults:
-    /// first those found as definitions are added, in that order; then extensions of types without a
-    /// definition; then what is found at an implied definition of the schema, and extensions of the schema
-    /// without one. `Memory` is out of memory; `ExtensionIds` comes only where the extensions folded pass the
-    /// largest number, and a schema, with faults or without, only where they don't; `Failed` comes exactly
-    /// after a refusal. With these three errors all that was added is dropped.
+    /// `Faults`, with what could be built, sources included, comes exactly where what was added has faults.
+    /// First come those found as definitions are added, in that order, then extensions of types without a
+    /// definition. Then comes what is found at an implied definition of the schema, and extensions of the
+    /// schema without one. `Memory` is out of memory. `ExtensionIds` comes only where the extensions folded
+    /// pass the largest number, and a schema, with faults or without, only where they don't. `Failed` comes
+    /// exactly after a refusal. With these three errors all that was added is dropped.
     pub fn build(self) -> Result<Schema, BuildFailure>
         ensures built { IfOk result (IsBuiltOf self) }
         ensures faults { IfErr result (λ failure. IfFaults failure (IsFoundIn self)) }
@@ -209,8 +209,8 @@ impl SchemaBuilder {
     }
 
     /// What [`build`](SchemaBuilder::build) answers, and the source of numbers, never below the builder's
-    /// first number: after a schema, or faults, it is at that number plus the extensions that were folded;
-    /// after `Memory` or `ExtensionIds` it stands where it stood before the call; with `Failed` it is the one
+    /// first number. After a schema, or faults, it is at that number plus the extensions that were folded.
+    /// After `Memory` or `ExtensionIds` it stands where it stood before the call. With `Failed` it is the one
     /// that was left.
     pub fn build_with_source(self) -> (Result<Schema, BuildFailure>, ExtensionSource)
         ensures built { IfOk result.0 (IsBuiltOf self) }
@@ -236,7 +236,7 @@ impl SchemaBuilder {
     }
 
     /// The names that are extended and not defined so far, in order of first extension, each as its first
-    /// extension has it: none is the name of a type that is defined so far, and extensions of types alone
+    /// extension has it. None is the name of a type that is defined so far, and extensions of types alone
     /// wait under each (the law
     /// [`orphan_names_are_extended_and_not_defined`](crate::laws::orphan_names_are_extended_and_not_defined)).
     /// After a refusal there is none.

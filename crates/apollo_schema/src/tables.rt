@@ -48,7 +48,7 @@ use graphql_nodes::source::{SourceMap, merge_sources};
 use std::alloc::{AllocError, Global};
 use std::mem;
 
-/// What a builder holds until it fails. An extension before its definition waits under its name; a name that
+/// What a builder holds until it fails. An extension before its definition waits under its name. A name that
 /// is defined keeps an empty list, so that taking its extensions out moves no other.
 pub struct Tables {
     alloc: Global,

@@ -1,10 +1,10 @@
 mod Definitions
 mod Items
-mod Lists
+pub mod Lists
 pub mod Permutations
 pub mod Rearranged
 mod Rebuild
 mod Sections
 pub mod Subjects
-mod Types
+pub mod Types
 mod Words

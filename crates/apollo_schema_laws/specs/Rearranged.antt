@@ -1,18 +1,19 @@
 -- Lists of the same definitions in another order: GraphQL specification of October 2021, sections 3 and
 -- 3.4.3.
 --
--- **Group.** One of these sublists of a list: the definitions of a type's name, the extensions of a
--- type's name, the directive definitions of a name, the schema definitions, the schema extensions
--- (`Group`; `is_in` says whether an item is in a group). An executable definition is in none.
+-- **Group.** A group (`Group`) is a sublist of a list, of one of five kinds. Three are of a name: the
+-- definitions of a type's name, the extensions of a type's name, and the directive definitions of a name. Two
+-- are of the schema: its definitions and its extensions. `is_in` says whether an item is in a group. An
+-- executable definition is in none.
 --
--- **Rearranged.** Two lists are rearranged (`AreRearranged`) under two conditions: one is a permutation of
--- the other; and they have the same sublist of each group, in the same order. It is said of what definitions
+-- **Rearranged.** Two lists are rearranged (`AreRearranged`) under two conditions. One is a permutation of
+-- the other. And they have the same sublist of each group, in the same order. It is said of what definitions
 -- say: items, with what they hold and where. So two definitions that say the same may stand for one another.
 -- So definitions of different names may change places, a definition and the extensions of its own name, and
 -- types and the schema.
 --
 -- `type_meant`, `directive_meant` and `schema_meant` are what `==` compares of what a list means, if it means
--- one: of the type of a name, of the directive definition of a name and of the schema definition.
+-- one. They are of the type of a name, of the directive definition of a name and of the schema definition.
 -- `MeanEqualSchemas adopts xs ys` says that any schemas that the two lists mean are equal, wherever their
 -- numbers start. `StandFor xs ys b c` says that one builder stands for the first list and the other for the
 -- second. It says that both adopt or neither does. `BuildEqualSchemas` and `BuildSameFaults` say what is said
@@ -33,8 +34,8 @@ use Rattle.apollo_meaning.specs.Types.Meaning.{type_of}
 use Rattle.apollo_types.specs.BareTypes.{BareSchemaDefinition, BareType, bare_extended_type}
 use Rattle.apollo_types.specs.BareTypes.{bare_schema_definition}
 
--- definitions among which the order counts: those of a type's name, the extensions of a type's name, the
--- directive definitions of a name, the definitions of the schema, and its extensions
+-- definitions among which the order counts. They are those of a type's name, the extensions of a type's name,
+-- or the directive definitions of a name. Or they are the definitions of the schema, or its extensions
 pub data Group : Type 0 where
   -- the definitions of the type of this name
   DefinitionsOf : List ℕ → Group

@@ -1,18 +1,24 @@
 -- The faults of a list by their sorts: GraphQL specification of October 2021, sections 2.2, 3, 3.3, 3.4.3,
 -- 3.5 to 3.10 and 3.13.
 --
--- **Reported.** The **sort** of a fault is what it is that is dropped (`sort_of`): an operation or a
--- fragment; a further definition of the schema, of a directive or of a type; an extension of a type or of the
--- schema that has no definition; an extension of the type of a name that is of another kind; a component that
--- is given to the type of a name a second time; a root that is given a second time. `reported sort adopts
--- list` are the faults of a list that are of this sort, in order of discovery. `reported_sorts` are the sorts
--- that it has faults of.
+-- **Reported.** The **sort** of a fault is what it is that is dropped (`sort_of`):
+--
+-- - an operation or a fragment
+-- - a further definition of the schema, of a directive or of a type
+-- - an extension of a type or of the schema that has no definition
+-- - an extension of the type of a name that is of another kind
+-- - a component that is given to the type of a name a second time
+-- - a root that is given a second time
+--
+-- `reported sort adopts list` are the faults of a list that are of this sort, in order of discovery.
+-- `reported_sorts` are the sorts that it has faults of.
 --
 -- What is dropped as a whole is said by places of the whole list:
 --
 -- - a further definition (`further_schemas`, `further_types`) stands after the first one of its key, and
---   is seen with that one; a further definition of a directive (`further_directives`) stands after the
---   first one of its name that was handed in, not marked built-in
+--   is seen with that one
+-- - a further definition of a directive (`further_directives`) stands after the first one of its name that
+--   was handed in, not marked built-in
 -- - a further definition of a type is passed over (`is_passed_over`) where it may be ignored and the
 --   first one is built-in
 -- - an extension has no definition (`undefined_places`) if its key has none; those of types stand by
@@ -28,19 +34,25 @@ use Rattle.apollo_meaning.specs.Faults.Collisions.{Fault}
 use Rattle.apollo_meaning.specs.Faults.ListFaults.{faults_of}
 use Rattle.apollo_meaning.specs.Items.ListItems.{Added}
 
--- what it is that is dropped: an operation or a fragment; a further definition of the schema, of a directive
--- or of a type; an extension of a type or of the schema that has no definition; an extension of the type of
--- this name that is of another kind; a component that is given a second time to the type of this name; a root
--- that is given a second time
+-- what it is that is dropped
 pub data Sort : Type 0 where
+  -- an operation or a fragment
   Executable : Sort
+  -- a further definition of the schema
   FurtherSchema : Sort
+  -- a further definition of a directive
   FurtherDirective : Sort
+  -- a further definition of a type
   FurtherType : Sort
+  -- an extension of a type that has no definition
   OrphanOfType : Sort
+  -- an extension of the schema that has no definition
   OrphanOfSchema : Sort
+  -- an extension of the type of this name that is of another kind
   OtherKind : List ℕ → Sort
+  -- a component that is given a second time to the type of this name
   RepeatedComponent : List ℕ → Sort
+  -- a root that is given a second time
   RepeatedRoot : Sort
 
 -- the sort of an error

@@ -1,12 +1,13 @@
 -- The components of types, sort by sort, and types that have what another is written out as: GraphQL
 -- specification of October 2021, sections 3.4.3 and 3.5 to 3.10.
-use Rattle.std.specs.Prelude.{◌≡◌, List, [], map, Option}
+use Rattle.std.specs.Prelude.{◌≡◌, Bool, true, false, List, [], map, Option}
 use Rattle.std.specs.List.{IsDistinct}
 use Rattle.graphql_nodes.specs.NameView.{NameView}
 use Rattle.graphql_nodes.specs.NodeView.{NodeView}
 use Rattle.graphql_nodes.specs.SameText.{same_text}
 use Rattle.graphql_nodes.specs.Tables.{values_of}
 use Rattle.graphql_nodes.specs.declared.source.SourceSpan.{SourceSpan}
+use Rattle.graphql_ast.specs.Parts.{Sort, Directives, Names, Fields, Values, InputFields, Roots, Item}
 use Rattle.graphql_ast.specs.declared.parts.Parts.{Parts}
 use Rattle.apollo_component.specs.Extensions.{extension_location, same_id}
 use Rattle.apollo_component.specs.WriteOut.{by_origin}
@@ -16,10 +17,10 @@ use Rattle.apollo_component.specs.declared.extension.ComponentOrigin.{ComponentO
 use Rattle.apollo_component.specs.declared.extension.ExtensionId.{ExtensionId}
 use Rattle.apollo_component.specs.declared.parts_by_origin.PartsByOrigin.{PartsByOrigin}
 use Rattle.apollo_types.specs.TypeWriteOut.{type_kind, type_name, type_location, type_description}
-use Rattle.apollo_types.specs.TypeWriteOut.{type_components}
+use Rattle.apollo_types.specs.TypeWriteOut.{type_components, type_directives}
 use Rattle.apollo_types.specs.declared.extended_type.ExtendedType.{ExtendedType}
-use Rattle.apollo_types.specs.declared.extended_type.ExtendedType.TheVariants.{Scalar, Object, Interface}
-use Rattle.apollo_types.specs.declared.extended_type.ExtendedType.TheVariants.{Union, Enum, InputObject}
+use Rattle.apollo_types.specs.declared.extended_type.ExtendedType.TheVariants.{Object, Interface, Union}
+use Rattle.apollo_types.specs.declared.extended_type.ExtendedType.TheVariants.{Enum, InputObject}
 use Rattle.apollo_schema_laws.specs.Sections.{Sections, sections_of}
 
 -- a component's node, with its origin
@@ -30,45 +31,17 @@ node_with_origin c = (c.origin, c.node)
 abbrev pub name_with_origin : ComponentName → ComponentOrigin × NameView
 name_with_origin c = (c.origin, c.name)
 
--- no components of any sort
-abbrev pub no_components : Sections
-no_components = record {
-  directives = [];
-  names = [];
-  fields = [];
-  values = [];
-  input_fields = [];
-  roots = [];
-}
-
--- the components of a type
+-- the components of a type, sort by sort
 abbrev pub type_sections : ExtendedType → Sections
-type_sections (Scalar n) = record no_components { directives = map node_with_origin n.value.directives.0 }
-type_sections (Object n) = record no_components {
-  directives = map node_with_origin n.value.directives.0;
-  names = map name_with_origin n.value.implements_interfaces;
-  fields = map node_with_origin (values_of n.value.fields);
-}
-type_sections (Interface n) = record no_components {
-  directives = map node_with_origin n.value.directives.0;
-  names = map name_with_origin n.value.implements_interfaces;
-  fields = map node_with_origin (values_of n.value.fields);
-}
-type_sections (Union n) =
-    record no_components {
-      directives = map node_with_origin n.value.directives.0;
-      names = map name_with_origin n.value.members;
-    }
-type_sections (Enum n) =
-    record no_components {
-      directives = map node_with_origin n.value.directives.0;
-      values = map node_with_origin (values_of n.value.values);
-    }
-type_sections (InputObject n) =
-    record no_components {
-      directives = map node_with_origin n.value.directives.0;
-      input_fields = map node_with_origin (values_of n.value.fields);
-    }
+type_sections t Directives = map node_with_origin (type_directives t).0
+type_sections (Object n) Names = map name_with_origin n.value.implements_interfaces
+type_sections (Object n) Fields = map node_with_origin (values_of n.value.fields)
+type_sections (Interface n) Names = map name_with_origin n.value.implements_interfaces
+type_sections (Interface n) Fields = map node_with_origin (values_of n.value.fields)
+type_sections (Union n) Names = map name_with_origin n.value.members
+type_sections (Enum n) Values = map node_with_origin (values_of n.value.values)
+type_sections (InputObject n) InputFields = map node_with_origin (values_of n.value.fields)
+type_sections _ _ = []
 
 -- the parts of extensions, each where it stands
 abbrev pub placed : List (ExtensionId × Parts) → List (Option SourceSpan × Parts)
@@ -92,9 +65,25 @@ pub record HasWhatIsWritten (t u : ExtendedType) : Type 0 where
   -- it has these parts and nothing else
   pub sections : type_sections u ≡ sections_of parts
 
+-- the name of one of a sort
+abbrev pub name_of : (s : Sort) → Item s → NameView
+name_of Directives d = d.value.name
+name_of Names n = n
+name_of Fields f = f.value.name
+name_of Values v = v.value.value
+name_of InputFields f = f.value.name
+name_of Roots r = r.value.1
+
+-- whether a type has each name of a sort once: not of directives
+abbrev pub is_keyed : Sort → Bool
+is_keyed Directives = false
+is_keyed Roots = false
+is_keyed _ = true
+
+-- no two of these have one name, if they are of such a sort
+abbrev pub HaveDistinctNames : (s : Sort) → List (ComponentOrigin × Item s) → Type 0
+HaveDistinctNames s xs = is_keyed s ≡ true → IsDistinct same_text (map (λ x. name_of s x.1) xs)
+
 -- no two names, fields, enum values or input fields have one name
-pub record HasEachNameOnce (s : Sections) : Type 0 where
-  pub names : IsDistinct same_text (map (λ n. n.1) s.names)
-  pub fields : IsDistinct same_text (map (λ f. f.1.value.name) s.fields)
-  pub values : IsDistinct same_text (map (λ v. v.1.value.value) s.values)
-  pub input_fields : IsDistinct same_text (map (λ f. f.1.value.name) s.input_fields)
+abbrev pub HasEachNameOnce : Sections → Type 0
+HasEachNameOnce sections = (s : Sort) → HaveDistinctNames s (sections s)

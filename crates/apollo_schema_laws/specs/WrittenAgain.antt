@@ -1,11 +1,10 @@
 -- Lists that the law of the write-out speaks of: GraphQL specification of October 2021, sections 3 and 3.3.
 --
--- **Written again.** `written_again ignores schema` is the list with the built-in definitions and then
--- the write-out. `IsMeantByList` says that a schema is meant by such a list as the laws take: the
--- built-in definitions with others behind them, of which none is marked built-in and each schema
--- definition names a root (`IsUnmarkedAndRooted`). **Sections** are the components of a type sort by
--- sort; **written** ones are those of the definition and of each extension under which the write-out
--- puts them.
+-- **Written again.** `written_again ignores schema` is the list with the built-in definitions and then the
+-- write-out. `IsMeantByList` says that a schema is meant by such a list as the laws take. That is the
+-- built-in definitions with others behind them. Of those others none is marked built-in, and each schema
+-- definition names a root (`IsUnmarkedAndRooted`). **Sections** are the components of a type sort by sort.
+-- The **written** ones are those of the definition and of each extension under which the write-out puts them.
 use Rattle.std.specs.Prelude.{◌≡◌, ◌≢◌, ℕ, Bool, false, List, [], filter_map, All}
 use Rattle.graphql_nodes.specs.BuiltIn.{is_built_in}
 use Rattle.graphql_ast.specs.Definitions.{definition_location}

@@ -25,8 +25,10 @@ use apollo_schema::laws::a_list_means_one_schema;
 /// and the order of its extensions. Let them keep the order of the directive definitions of each name, of the
 /// schema definitions and of the schema extensions. They mean equal schemas, whatever numbers their
 /// extensions get, and have the same faults, with their locations, in some order. So do builders that stand
-/// for them and both adopt or both don't, and where one has no fault, none are found of the other. GraphQL
-/// specification of October 2021, section 3.
+/// for them, and where one has no fault, none are found of the other. GraphQL specification of October 2021,
+/// section 3.
+///
+/// Premise: both lists are added under the same options.
 pub fn rearranged()
     ensures schemas { (adopts : Bool) (xs ys : List Added) → AreRearranged (added_items xs) (added_items ys)
         → MeanEqualSchemas adopts xs ys }
@@ -74,8 +76,9 @@ pub fn documents_one_by_one()
 
 /// Take two lists whose definitions are equal one by one, whatever their locations, and whose directive
 /// definitions are marked built-in alike. They mean equal schemas, whatever numbers their extensions get.
-/// Builders that stand for them, and both adopt or both don't, are built to equal schemas. GraphQL
-/// specification of October 2021, section 3.
+/// Builders that stand for them are built to equal schemas. GraphQL specification of October 2021, section 3.
+///
+/// Premise: both lists adopt, or neither does.
 pub fn equal_lists()
     ensures schemas { (adopts : Bool) (xs ys : List Added) → AreEqualLists xs ys
         → MeanEqualSchemas adopts xs ys }

@@ -48,8 +48,9 @@ pub fn joined_lists_are_rearranged()
         → AreRearranged (xs ++ us) (ys ++ vs) }
 {}
 
-/// Two neighbours change places where no group has both: definitions of different names, a definition and an
-/// extension, what is of a type and what is of the schema. GraphQL specification of October 2021, section 3.
+/// Two neighbours change places where no group has both. Such are definitions of different names, a
+/// definition and an extension, what is of a type and what is of the schema. GraphQL specification of October
+/// 2021, section 3.
 pub fn neighbours_change_places()
     ensures { (before after : List ListItem) (x y : ListItem)
         → ((g : Group) → is_in g x ≡ true → is_in g y ≡ false)
@@ -104,7 +105,7 @@ pub fn rearranged_faults_are_the_same()
 {}
 
 /// Each error of a build is of exactly one sort. So the faults of a list are what is reported of each sort
-/// that it has a fault of, in another order: none is lost, and none is reported twice.
+/// that it has a fault of, in another order. None is lost, and none is reported twice.
 pub fn each_fault_is_of_one_sort()
     ensures own { (e : BuildError) → is_of_sort (sort_of e) e ≡ true }
     ensures alone { (s : Sort) (e : BuildError) → is_of_sort s e ≡ true → s ≡ sort_of e }
@@ -114,7 +115,7 @@ pub fn each_fault_is_of_one_sort()
 {}
 
 /// Those faults of a list that say that a definition is not of the type system are those of its operations
-/// and fragments: one for each, in order. GraphQL specification of October 2021, sections 2.2 and 3.
+/// and fragments. There is one for each, in order. GraphQL specification of October 2021, sections 2.2 and 3.
 pub fn reported_executables_are_the_operations_and_fragments()
     ensures { (adopts : Bool) (xs : List Added)
         → reported Executable adopts xs ≡ filter_map (λ a. executable_fault a.1) xs }
@@ -139,9 +140,9 @@ pub fn reported_collisions_are_the_further_definitions()
 {}
 
 /// Take those faults of a list that say that an extension has no definition. They are those of the extensions
-/// of names, and of the schema, that have none in the whole list: one for each, those of types by name in
-/// order of first extension. Where extensions are adopted there are none. GraphQL specification of October
-/// 2021, sections 3.3.2 and 3.4.3.
+/// of names, and of the schema, that have none in the whole list. There is one for each, those of types by
+/// name in order of first extension. Where extensions are adopted there are none. GraphQL specification of
+/// October 2021, sections 3.3.2 and 3.4.3.
 pub fn reported_orphans_are_the_extensions_without_a_definition()
     ensures types { (adopts : Bool) (xs : List Added)
         → reported OrphanOfType adopts xs ≡ map (λ e. orphan e.1) (orphans_by_name (whole adopts xs)) }
@@ -166,9 +167,9 @@ pub fn reported_mismatches_are_the_extensions_of_another_kind()
 {}
 
 /// Take those faults of a list that say that a type of this name is given a component a second time. They are
-/// those of the components that are dropped from the type: from the name's first definition and from the
-/// extensions that are folded into it; each as often, and in the same order. Of a name without a definition
-/// there are none. GraphQL specification of October 2021, sections 3.4.3 and 3.6 to 3.10.
+/// those of the components that are dropped from the type. They are of the name's first definition and of the
+/// extensions that are folded into it. Each comes as often, and in the same order. Of a name without a
+/// definition there are none. GraphQL specification of October 2021, sections 3.4.3 and 3.6 to 3.10.
 pub fn reported_collisions_are_the_dropped_components()
     ensures dropped { (adopts : Bool) (xs : List Added) (d : Placed TypePart)
         → first_place types (whole adopts xs) (key_of d.1) ≡ Some d
@@ -179,9 +180,9 @@ pub fn reported_collisions_are_the_dropped_components()
 {}
 
 /// Take those faults of a list that say that the schema is given a root a second time. They are those of the
-/// roots that are dropped from the schema: from its first definition and from its extensions; each as often,
-/// and in the same order. Without a definition of the schema there are none. GraphQL specification of October
-/// 2021, sections 3.3.1 and 3.3.2.
+/// roots that are dropped from the schema: from its first definition and from its extensions. Each comes as
+/// often, and in the same order. Without a definition of the schema there are none. GraphQL specification of
+/// October 2021, sections 3.3.1 and 3.3.2.
 pub fn reported_repeated_roots_are_the_dropped_roots()
     ensures dropped { (adopts : Bool) (xs : List Added) (s : Placed SchemaPart)
         → first_place schemas (whole adopts xs) [] ≡ Some s
@@ -190,9 +191,9 @@ pub fn reported_repeated_roots_are_the_dropped_roots()
         → first_place schemas (whole adopts xs) [] ≡ None → reported RepeatedRoot adopts xs ≡ [] }
 {}
 
-/// The faults of the list `faulty_list` by their sorts, computed: the sort of each, in order; and those that
-/// are reported of three things: a further definition of the type `T`; an extension of `T` that is of another
-/// kind; and one of `U`, which has no definition.
+/// The faults of the list `faulty_list` by their sorts, computed. First the sort of each, in order. Then
+/// those that are reported of three things. They are a further definition of the type `T`, an extension of
+/// `T` of another kind, and one of `U`, which has no definition.
 pub fn faults_by_sort()
     ensures sorts { map (λ f. sort_of f.1) (faults_of false (added false faulty_list)) ≡ its_sorts }
     ensures further { reported FurtherType false (added false faulty_list) ≡ its_further_definition }
@@ -200,8 +201,8 @@ pub fn faults_by_sort()
     ensures orphan { reported OrphanOfType false (added false faulty_list) ≡ its_orphan }
 {}
 
-/// What is dropped from the same list as a whole, by places from 0 on, computed: the further definition of
-/// `T`, at place 3; the extension of `T` of another kind, at place 1; that of `U`, at place 5. No further
+/// What is dropped from the same list as a whole, by places from 0 on, computed. It is the further definition
+/// of `T`, at place 3, the extension of `T` of another kind, at 1, and that of `U`, at 5. No further
 /// definition is passed over, also where it may be ignored, as `T` is not built-in; of a built-in type one
 /// is.
 pub fn dropped_by_places()

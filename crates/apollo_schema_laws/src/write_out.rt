@@ -18,6 +18,7 @@ ghost use Rattle.apollo_schema.specs.MeantSchema.{MeansSchema};
 ghost use Rattle.apollo_schema.specs.SchemaWriteOut.{write_schema};
 ghost use Rattle.apollo_schema.specs.declared.schema.Schema.{Schema};
 ghost use Rattle.graphql_ast.specs.BareDocuments.{bare_definition};
+ghost use Rattle.graphql_ast.specs.Parts.{Directives};
 ghost use Rattle.graphql_ast.specs.declared.definition.Definition.{Definition};
 ghost use Rattle.apollo_schema_laws.specs.Sections.{Sections, section_directives, HasDefinitionOf};
 ghost use Rattle.apollo_schema_laws.specs.Sections.{HasDistinctIdentities, HasExtensionsOf};
@@ -27,7 +28,7 @@ ghost use Rattle.apollo_schema_laws.specs.WrittenAgain.{IsMeantByList, IsWriteOu
 
 use crate::rearranged_builds::equal_lists;
 
-/// What is written out stays as it is when it is read and written out again: the components of any sections,
+/// What is written out stays as it is when it is read and written out again. The components of any sections,
 /// put under their origins, make the parts of a definition and of its extensions. Whatever distinct
 /// identities these extensions get, the components that the parts make are put under those identities as the
 /// same parts, in the same order. GraphQL specification of October 2021, sections 3.3 and 3.4.3.
@@ -36,7 +37,7 @@ pub fn written_parts_are_written_again()
         → by_origin (in_sections (sections_of p)) ≡ p }
 {}
 
-/// No component is lost in what is written out, and none is added: the parts of the definition and of the
+/// No component is lost in what is written out, and none is added. The parts of the definition and of the
 /// extensions that the components of any sections make have, of each sort, the components of that section.
 /// GraphQL specification of October 2021, sections 3.3 and 3.5 to 3.10.
 pub fn written_parts_have_all_components()
@@ -45,11 +46,11 @@ pub fn written_parts_have_all_components()
 {}
 
 /// Directives keep their order, where they stand in that of the definition and its extensions, as those of
-/// each type of a list do: so written parts have them, the definition's first and then those of each
+/// each type of a list do. So written parts have them, the definition's first and then those of each
 /// extension. GraphQL specification of October 2021, sections 2.12, 3.3.2 and 3.4.3.
 pub fn written_parts_keep_directives_in_order()
     ensures { (s : Sections) (q p : PartsByOrigin) → HasDistinctIdentities q
-        → s.directives ≡ (sections_of q).directives
+        → s Directives ≡ sections_of q Directives
         → HasDefinitionOf s p → HasExtensionsOf s p
         → section_directives (sections_of p) ≡ section_directives s }
 {}
@@ -63,7 +64,7 @@ pub fn written_types_are_written_again()
         → HasSameComponents (type_sections t) (type_sections u) }
 {}
 
-/// Each type that a list means has each name once; and a type that has what such a type is written out as has
+/// Each type that a list means has each name once. A type that has what such a type is written out as has
 /// each name once too, so nothing of it repeats. GraphQL specification of October 2021, sections 3.6 to 3.10.
 pub fn written_types_have_each_name_once()
     ensures meant { (start : ℕ) (xs : List ListItem) (n : List ℕ) (t : ExtendedType)
@@ -73,7 +74,7 @@ pub fn written_types_have_each_name_once()
 {}
 
 /// What the worked list with extensions on either side of a definition is written out as, read as a list and
-/// computed: the type that it means is written out as the same definitions, and nothing is at fault. Their
+/// computed. The type that it means is written out as the same definitions, and nothing is at fault. Their
 /// extensions stand in another order than they stood in the worked list. GraphQL specification of October
 /// 2021, section 3.4.3.
 pub fn worked_write_out_is_written_again()
@@ -87,9 +88,12 @@ pub fn worked_write_out_is_written_again()
 /// ignored redefinitions. Take the schema that it means, whole or what could be built of a list with faults.
 /// The write-out, added as one document after the built-in definitions, with adoption, has no faults. Each
 /// schema that the write-out means, with extensions numbered from anywhere, is equal to the first, and is
-/// written out as the first is. There is such a schema. This holds where the list begins with the built-in
-/// definitions, nothing after them is marked built-in, and each schema definition names a root. GraphQL
-/// specification of October 2021, sections 3 and 3.3.
+/// written out as the first is. There is such a schema. GraphQL specification of October 2021, sections 3
+/// and 3.3.
+///
+/// Premise: the list begins with the built-in definitions, nothing after them is marked built-in, and each
+/// schema definition names a root. Only what has a location in file number 0 is marked so. A schema
+/// definition without a root isn't written, and what is written may imply other roots.
 pub fn canonical()
     ensures faults { (schema : Schema) → IsMeantByList schema → (ignores : Bool)
         → faults_of true (written_again ignores schema) ≡ [] }
@@ -106,6 +110,8 @@ pub fn canonical()
 /// To write out twice is to write out once. Take the write-out of a schema of a list as [`canonical`] takes
 /// it. What that is written out as, read with adoption after the built-in definitions, is that write-out.
 /// GraphQL specification of October 2021, sections 3 and 3.3.
+///
+/// Premise: that of [`canonical`].
 pub fn written_twice_is_written_once()
     ensures { (schema : Schema) → IsMeantByList schema
         → (ignores : Bool) (again : ℕ) (twice : List Definition)
@@ -118,6 +124,8 @@ pub fn written_twice_is_written_once()
 /// Schemas of lists as [`canonical`] takes them are equal where their write-outs are equal, definition by
 /// definition, whatever the locations. It holds under whatever settings of both options. GraphQL
 /// specification of October 2021, sections 3 and 3.3.
+///
+/// Premise: that of [`canonical`], of both lists.
 pub fn equal_write_outs_have_equal_schemas()
     ensures { (schema other : Schema) → IsMeantByList schema → IsMeantByList other
         → map bare_definition (write_schema schema) ≡ map bare_definition (write_schema other)
@@ -142,7 +150,7 @@ pub fn a_write_out_folds_no_more()
 {}
 
 /// A write-out may fold fewer extensions than its list. Computed: the worked list with faults folds two,
-/// whose components are all dropped; and the type that it means is written out as a definition alone. GraphQL
+/// whose components are all dropped. And the type that it means is written out as a definition alone. GraphQL
 /// specification of October 2021, section 3.4.3.
 pub fn worked_extensions_are_not_written()
     ensures folds { folds false (added false faulty_list) ≡ 2 }

@@ -10,7 +10,7 @@ ghost use Rattle.apollo_meaning.specs.Items.Parts.{TypePart};
 ghost use Rattle.apollo_meaning.specs.Types.Components.{Sourced};
 ghost use Rattle.apollo_meaning.specs.Types.Meaning.{type_from};
 ghost use Rattle.apollo_meaning.specs.Faults.TypeFaults.{part_faults};
-ghost use Rattle.apollo_folding.specs.DeclaredParts.{part_as, part_seen};
+ghost use Rattle.apollo_folding.specs.DeclaredParts.{part_as};
 ghost use Rattle.apollo_folding.specs.Joins.{Extends, FindsJoining, JoinsOne, FindsOne};
 ghost use Rattle.apollo_folding.specs.KindParts.{IsOf};
 ghost use Rattle.apollo_folding.specs.Refusals.{RefusedAs, SpentWith, after};
@@ -72,10 +72,10 @@ pub trait Kind: Clone + Drop {
     /// Each of these types is of the kind.
     ghost alike: { (node : NodeView Self) → kind ≡ type_kind (wrapped node) };
 
-    /// A node of this kind that parts make has the value that they make, and their head's location; and under
+    /// A node of this kind that parts make has the value that they make, and their head's location. Under
     /// that head any parts make a node of this kind.
     ghost makes: { (head : TypePart) (done : List Sourced) (node : NodeView Self)
-        → wrapped node ≡ type_from head done → IsOf wrapped made head.body head done node };
+        → wrapped node ≡ type_from head done → IsOf wrapped made head.kind head done node };
 }
 
 /// The type of a definition of this kind alone, at the definition's location. Components that are there
@@ -95,8 +95,8 @@ pub fn type_of_definition<K: Kind>(
     Node::new_opt_location(alloc, ty, head.location)
 }
 
-/// Folds an extension of this kind into a type of it, under the source's next identity. Components that are
-/// there already are left out, and their faults added at the end.
+/// Folds an extension, read as one of this kind, into a type of it, under the source's next identity.
+/// Components that are there already are left out, and their faults added at the end.
 ///
 /// `Memory` is out of memory, and `ExtensionIds` that the source has no number left.
 pub(crate) fn extend_node<K: Kind>(
@@ -105,10 +105,9 @@ pub(crate) fn extend_node<K: Kind>(
     ids: &mut ExtensionSource,
     faults: &mut Items<Fault>,
 ) -> Result<(), BuilderError>
-    requires { extension.now.kind ≡ K.kind }
-    ensures folded { let part = part_seen extension.now in
+    ensures folded { let part = part_as K.kind extension.now in
         OnOk result (Extends (K.wrapped node.old) ids.old (part ∷ []) (K.wrapped node.new)) }
-    ensures faults { let part = part_seen extension.now in
+    ensures faults { let part = part_as K.kind extension.now in
         OnOk result (FindsJoining (K.wrapped node.old) (part ∷ []) faults.old faults.new) }
     ensures next { OnOk result (ids.new ≡ after ids.old 1) }
     ensures refused { IfErr result (λ error. RefusedAs error (SpentWith ids.old 1)) }

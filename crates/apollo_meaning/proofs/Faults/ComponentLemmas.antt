@@ -1,15 +1,16 @@
 -- What is at fault among the components of a type, definition and extensions joined, is what `first_of_each`
 -- drops.
-use Rattle.apollo_meaning.proofs.Prelude.{◌≡◌, ℕ, Bool, true, false, cond, ◌&&◌, List, [], ◌∷◌, ◌++◌, map, Option, Some, None, filter, refl, sym, ap, ◌∙◌, true≢false, append_assoc, find, flat_map, option_map, option_map_or, IsEquivalence, on_equiv, flat_map-append, append-nil, map-append, filter-append, map-map, NameView, same_text, first_of_each, each_after, each_after-append, Collection, TypePart, TypeBody, ScalarBody, ObjectBody, InterfaceBody, UnionBody, EnumBody, InputObjectBody, Fault, Entry, collision, collision_at, collisions, name_entries, field_entries, body_faults, part_faults}
+use Rattle.apollo_meaning.proofs.Prelude.{◌≡◌, ℕ, Bool, true, false, cond, ◌&&◌, List, [], ◌∷◌, ◌++◌, map, Option, Some, None, filter, refl, sym, ap, ◌∙◌, true≢false, append_assoc, find, flat_map, option_map, option_map_or, IsEquivalence, on_equiv, flat_map-append, append-nil, map-append, filter-append, NameView, same_text, first_of_each, each_after, each_after-append, Collection, if◌then◌else◌, TypeKind, TypePart, Fault, Entry, collision, collision_at, collisions, part_faults}
 use Rattle.std.specs.Prelude.{nat_eq}
+use Rattle.graphql_nodes.specs.declared.type_kind.TypeKind.TheVariants as kinds
+use Rattle.graphql_ast.specs.Parts.{Sort, Names, Fields, Values, InputFields}
 use Rattle.std.proofs.lemmas.Cmp.{nat_eq_equiv}
 use Rattle.apollo_component.specs.FirstOfEach.{later_of_each}
 use Rattle.apollo_component.proofs.LaterLemmas.{saying, said, said-later}
 use Rattle.apollo_meaning.specs.declared.collision.Collection.TheVariants as c
-use Rattle.apollo_meaning.specs.Types.Components.{body_interfaces, body_members, body_fields, body_values, body_input_fields}
 use Rattle.apollo_meaning.specs.Faults.Collisions.{same_name}
-use Rattle.apollo_meaning.specs.Faults.TypeFaults.{value_entries, input_field_entries}
-use Rattle.apollo_meaning.specs.Faults.TypeComponents.{TypeComponent, component_in, body_components, components_of, what_is_held, same_component, dropped_from_type, joined_faults}
+use Rattle.apollo_meaning.specs.Faults.TypeFaults.{collections_of, dropped_from, entries_of, names_in, held_sort}
+use Rattle.apollo_meaning.specs.Faults.TypeComponents.{TypeComponent, component_in, part_components, components_of, what_is_held, same_component, dropped_from_type, joined_faults}
 use Rattle.apollo_meaning.proofs.Faults.DroppedLemmas.{same_name_laws}
 
 -- two equivalences at once
@@ -38,46 +39,46 @@ pub faults_among-append : (before xs ys : List TypeComponent) → faults_among b
 faults_among-append = each_after-append (saying same_component repeated)
 
 -- the names of the components that a collection of this number would hold
-abbrev names_in : ℕ → List TypeComponent → List NameView
-names_in n xs = map (λ x. x.entry.0) (filter (λ x. nat_eq n (what_is_held x.collection)) xs)
+abbrev names_among : ℕ → List TypeComponent → List NameView
+names_among n xs = map (λ x. x.entry.0) (filter (λ x. nat_eq n (what_is_held x.collection)) xs)
 
-names_in-append : (n : ℕ) (xs ys : List TypeComponent) → names_in n (xs ++ ys) ≡ names_in n xs ++ names_in n ys
-names_in-append n xs ys =
+names_among-append : (n : ℕ) (xs ys : List TypeComponent) → names_among n (xs ++ ys) ≡ names_among n xs ++ names_among n ys
+names_among-append n xs ys =
     let test : TypeComponent → Bool = λ x. nat_eq n (what_is_held x.collection) in
     ap (map (λ (x : TypeComponent). x.entry.0)) (filter-append test xs ys) ∙ map-append (λ (x : TypeComponent). x.entry.0) (filter test xs) (filter test ys)
 
 module _ (n : ℕ) (d : Collection) (ty : NameView) where
-  names-own : nat_eq n (what_is_held d) ≡ true → (es : List Entry) → names_in n (map (component_in d ty) es) ≡ map (λ e. e.0) es
+  names-own : nat_eq n (what_is_held d) ≡ true → (es : List Entry) → names_among n (map (component_in d ty) es) ≡ map (λ e. e.0) es
   names-own is [] = refl
   names-own is (e ∷ es) = rw is (ap (λ l. e.0 ∷ l) (names-own is es))
 
-  names-other : nat_eq n (what_is_held d) ≡ false → (es : List Entry) → names_in n (map (component_in d ty) es) ≡ []
+  names-other : nat_eq n (what_is_held d) ≡ false → (es : List Entry) → names_among n (map (component_in d ty) es) ≡ []
   names-other apart [] = refl
   names-other apart (e ∷ es) = rw apart (names-other apart es)
 
   -- after components of another collection the names are as before
-  names-past : nat_eq n (what_is_held d) ≡ false → (before : List TypeComponent) (es : List Entry) → names_in n (before ++ map (component_in d ty) es) ≡ names_in n before
+  names-past : nat_eq n (what_is_held d) ≡ false → (before : List TypeComponent) (es : List Entry) → names_among n (before ++ map (component_in d ty) es) ≡ names_among n before
   names-past apart before es =
-      names_in-append n before (map (component_in d ty) es) ∙ ap (λ l. names_in n before ++ l) (names-other apart es) ∙ append-nil (names_in n before)
+      names_among-append n before (map (component_in d ty) es) ∙ ap (λ l. names_among n before ++ l) (names-other apart es) ∙ append-nil (names_among n before)
 
 module _ (d : Collection) (ty : NameView) where
-  find-in : (e : Entry) (before : List TypeComponent) → find (same_text e.0) (names_in (what_is_held d) before) ≡ option_map (λ x. x.entry.0) (find (same_component (component_in d ty e)) before)
+  find-in : (e : Entry) (before : List TypeComponent) → find (same_text e.0) (names_among (what_is_held d) before) ≡ option_map (λ x. x.entry.0) (find (same_component (component_in d ty e)) before)
   find-in e [] = refl
   find-in e (x ∷ before) = by (nat_eq (what_is_held d) (what_is_held x.collection)) (find-in e before)
     where
-      on : (t : Bool) → find (same_text e.0) (names_in (what_is_held d) before) ≡ option_map (λ x. x.entry.0) (find (same_component (component_in d ty e)) before)
-          → cond t (Some x.entry.0) (find (same_text e.0) (names_in (what_is_held d) before)) ≡ option_map (λ (x : TypeComponent). x.entry.0) (cond t (Some x) (find (same_component (component_in d ty e)) before))
+      on : (t : Bool) → find (same_text e.0) (names_among (what_is_held d) before) ≡ option_map (λ x. x.entry.0) (find (same_component (component_in d ty e)) before)
+          → cond t (Some x.entry.0) (find (same_text e.0) (names_among (what_is_held d) before)) ≡ option_map (λ (x : TypeComponent). x.entry.0) (cond t (Some x) (find (same_component (component_in d ty e)) before))
       on true rest = refl
       on false rest = rest
 
-      by : (t : Bool) → find (same_text e.0) (names_in (what_is_held d) before) ≡ option_map (λ x. x.entry.0) (find (same_component (component_in d ty e)) before)
+      by : (t : Bool) → find (same_text e.0) (names_among (what_is_held d) before) ≡ option_map (λ x. x.entry.0) (find (same_component (component_in d ty e)) before)
           → find (same_text e.0) (map (λ (x : TypeComponent). x.entry.0) (cond t (x ∷ filter (λ x. nat_eq (what_is_held d) (what_is_held x.collection)) before) (filter (λ x. nat_eq (what_is_held d) (what_is_held x.collection)) before)))
           ≡ option_map (λ (x : TypeComponent). x.entry.0) (cond (t && same_text e.0 x.entry.0) (Some x) (find (same_component (component_in d ty e)) before))
       by true rest = on (same_text e.0 x.entry.0) rest
       by false rest = rest
 
   collision-in : (before : List TypeComponent) (e : Entry)
-      → collision_at d ty (names_in (what_is_held d) before) e ≡ option_map_or (λ k. repeated k (component_in d ty e) ∷ []) (find (same_component (component_in d ty e)) before) []
+      → collision_at d ty (names_among (what_is_held d) before) e ≡ option_map_or (λ k. repeated k (component_in d ty e) ∷ []) (find (same_component (component_in d ty e)) before) []
   collision-in before e = ap (λ o. option_map_or (λ kept. (e.1, collision d kept ty) ∷ []) o []) (find-in e before) ∙ by (find (same_component (component_in d ty e)) before)
     where
       by : (o : Option TypeComponent) → option_map_or (λ kept. (e.1, collision d kept ty) ∷ []) (option_map (λ (x : TypeComponent). x.entry.0) o) [] ≡ option_map_or (λ k. repeated k (component_in d ty e) ∷ []) o []
@@ -85,14 +86,14 @@ module _ (d : Collection) (ty : NameView) where
       by (Some k) = refl
 
   -- the names of these components, after others
-  names-more : (before : List TypeComponent) (es : List Entry) → names_in (what_is_held d) before ++ map (λ e. e.0) es ≡ names_in (what_is_held d) (before ++ map (component_in d ty) es)
+  names-more : (before : List TypeComponent) (es : List Entry) → names_among (what_is_held d) before ++ map (λ e. e.0) es ≡ names_among (what_is_held d) (before ++ map (component_in d ty) es)
   names-more before es =
-      sym (names_in-append (what_is_held d) before (map (component_in d ty) es)
-      ∙ ap (λ l. names_in (what_is_held d) before ++ l) (names-own (what_is_held d) d ty (nat_eq_equiv.refl (what_is_held d)) es))
+      sym (names_among-append (what_is_held d) before (map (component_in d ty) es)
+      ∙ ap (λ l. names_among (what_is_held d) before ++ l) (names-own (what_is_held d) d ty (nat_eq_equiv.refl (what_is_held d)) es))
 
   -- what is said of entries after these is said of them as components
   said-in : (before : List TypeComponent) (done es : List Entry)
-      → each_after (λ done. collision_at d ty (names_in (what_is_held d) before ++ map (λ e. e.0) done)) done es ≡ faults_among (before ++ map (component_in d ty) done) (map (component_in d ty) es)
+      → each_after (λ done. collision_at d ty (names_among (what_is_held d) before ++ map (λ e. e.0) done)) done es ≡ faults_among (before ++ map (component_in d ty) done) (map (component_in d ty) es)
   said-in before done [] = refl
   said-in before done (e ∷ es) =
       let here = ap (λ l. collision_at d ty l e) (names-more before done) ∙ collision-in (before ++ map (component_in d ty) done) e in
@@ -101,125 +102,140 @@ module _ (d : Collection) (ty : NameView) where
       let rest = said-in before (done ++ e ∷ []) es ∙ ap (λ l. faults_among l (map (component_in d ty) es)) more in
       λ i. here i ++ rest i
 
-  collisions-in : (before : List TypeComponent) (es : List Entry) → collisions d ty (names_in (what_is_held d) before) es ≡ faults_among before (map (component_in d ty) es)
+  collisions-in : (before : List TypeComponent) (es : List Entry) → collisions d ty (names_among (what_is_held d) before) es ≡ faults_among before (map (component_in d ty) es)
   collisions-in before es = said-in before [] es ∙ ap (λ l. faults_among l (map (component_in d ty) es)) (append-nil before)
 
 -- components of one collection, and then of another, where these are before them
 two-in : (d f : Collection) (ty : NameView) (before : List TypeComponent) (ds fs : List Entry) → nat_eq (what_is_held f) (what_is_held d) ≡ false
-    → collisions d ty (names_in (what_is_held d) before) ds ++ collisions f ty (names_in (what_is_held f) before) fs
+    → collisions d ty (names_among (what_is_held d) before) ds ++ collisions f ty (names_among (what_is_held f) before) fs
     ≡ faults_among before (map (component_in d ty) ds ++ map (component_in f ty) fs)
 two-in d f ty before ds fs apart =
-    let second : collisions f ty (names_in (what_is_held f) before) fs ≡ faults_among (before ++ map (component_in d ty) ds) (map (component_in f ty) fs) =
+    let second : collisions f ty (names_among (what_is_held f) before) fs ≡ faults_among (before ++ map (component_in d ty) ds) (map (component_in f ty) fs) =
     ap (λ l. collisions f ty l fs) (sym (names-past (what_is_held f) d ty apart before ds)) ∙ collisions-in f ty (before ++ map (component_in d ty) ds) fs in
     (λ i. collisions-in d ty before ds i ++ second i) ∙ sym (faults_among-append before (map (component_in d ty) ds) (map (component_in f ty) fs))
 
--- the names in a body, by what is held
-names-of-names : (ns : List NameView) → map (λ (e : Entry). e.0) (name_entries ns) ≡ ns
-names-of-names [] = refl
-names-of-names (n ∷ ns) = ap (λ l. n ∷ l) (names-of-names ns)
+-- the names of a part's components, by what is held: of these collections those that hold it
+module _ (n : ℕ) (p : TypePart) where
+  abbrev names-at : Collection → List NameView
+  names-at d = if nat_eq n (what_is_held d) then map (λ (e : Entry). e.0) (entries_of (held_sort d) p) else []
 
--- of two collections, the first, and the second
-module _ (n : ℕ) (d f : Collection) (ty : NameView) (ds fs : List Entry) where
-  names-first : nat_eq n (what_is_held d) ≡ true → nat_eq n (what_is_held f) ≡ false → names_in n (map (component_in d ty) ds ++ map (component_in f ty) fs) ≡ map (λ e. e.0) ds
-  names-first is apart = names-past n f ty apart (map (component_in d ty) ds) fs ∙ names-own n d ty is ds
+  abbrev components-at : Collection → List TypeComponent
+  components-at d = map (component_in d p.name) (entries_of (held_sort d) p)
 
-  names-second : nat_eq n (what_is_held d) ≡ false → nat_eq n (what_is_held f) ≡ true → names_in n (map (component_in d ty) ds ++ map (component_in f ty) fs) ≡ map (λ e. e.0) fs
-  names-second apart is =
-      names_in-append n (map (component_in d ty) ds) (map (component_in f ty) fs) ∙ (λ i. names-other n d ty apart ds i ++ names-own n f ty is fs i)
+  names-components : (ds : List Collection) → names_among n (flat_map components-at ds) ≡ flat_map names-at ds
+  names-components [] = refl
+  names-components (d ∷ ds) =
+      names_among-append n (components-at d) (flat_map components-at ds)
+      ∙ (λ i. by (nat_eq n (what_is_held d)) refl i ++ names-components ds i)
+    where
+      by : (b : Bool) → nat_eq n (what_is_held d) ≡ b → names_among n (components-at d) ≡ names-at d
+      by true is = names-own n d p.name is (entries_of (held_sort d) p)
+          ∙ ap (λ b. if b then map (λ (e : Entry). e.0) (entries_of (held_sort d) p) else []) (sym is)
+      by false is = names-other n d p.name is (entries_of (held_sort d) p)
+          ∙ ap (λ b. if b then map (λ (e : Entry). e.0) (entries_of (held_sort d) p) else []) (sym is)
 
-  names-neither : nat_eq n (what_is_held d) ≡ false → nat_eq n (what_is_held f) ≡ false → names_in n (map (component_in d ty) ds ++ map (component_in f ty) fs) ≡ []
-  names-neither one two = names-past n f ty two (map (component_in d ty) ds) fs ∙ names-other n d ty one ds
+-- a part of this kind
+module _ (p : TypePart) where
+  abbrev as_kind : TypeKind → TypePart
+  as_kind kind = record p { kind = kind }
 
-interfaces-in : (p : TypePart) → names_in 0 (body_components p.body p.name) ≡ body_interfaces p.body
-interfaces-in p = by p.body
-  where
-    by : (b : TypeBody) → names_in 0 (body_components b p.name) ≡ body_interfaces b
-    by ScalarBody = refl
-    by (ObjectBody is fs) = names-first 0 c.ObjectInterfaces c.ObjectFields p.name (name_entries is) (field_entries fs) refl refl ∙ names-of-names is
-    by (InterfaceBody is fs) = names-first 0 c.InterfaceInterfaces c.InterfaceFields p.name (name_entries is) (field_entries fs) refl refl ∙ names-of-names is
-    by (UnionBody ns) = names-other 0 c.UnionMembers p.name refl (name_entries ns)
-    by (EnumBody vs) = names-other 0 c.EnumValues p.name refl (value_entries vs)
-    by (InputObjectBody fs) = names-other 0 c.InputFields p.name refl (input_field_entries fs)
+  -- its names by what is held are those of the sort
+  abbrev AreHeld : ℕ → Sort → TypeKind → Type 0
+  AreHeld n s kind = flat_map (names-at n (as_kind kind)) (collections_of kind) ≡ map (λ e. e.0) (entries_of s (as_kind kind))
 
-fields-in : (p : TypePart) → names_in 1 (body_components p.body p.name) ≡ map (λ f. f.value.name) (body_fields p.body)
-fields-in p = by p.body
-  where
-    by : (b : TypeBody) → names_in 1 (body_components b p.name) ≡ map (λ f. f.value.name) (body_fields b)
-    by ScalarBody = refl
-    by (ObjectBody is fs) = names-second 1 c.ObjectInterfaces c.ObjectFields p.name (name_entries is) (field_entries fs) refl refl ∙ map-map (λ (e : Entry). e.0) (λ f. (f.value.name, f.location)) fs
-    by (InterfaceBody is fs) = names-second 1 c.InterfaceInterfaces c.InterfaceFields p.name (name_entries is) (field_entries fs) refl refl ∙ map-map (λ (e : Entry). e.0) (λ f. (f.value.name, f.location)) fs
-    by (UnionBody ns) = names-other 1 c.UnionMembers p.name refl (name_entries ns)
-    by (EnumBody vs) = names-other 1 c.EnumValues p.name refl (value_entries vs)
-    by (InputObjectBody fs) = names-other 1 c.InputFields p.name refl (input_field_entries fs)
+  names-held : (kind : TypeKind) → AreHeld 0 Names kind
+  names-held kinds.Scalar = refl
+  names-held kinds.Object = append-nil (map (λ e. e.0) (entries_of Names (as_kind kinds.Object)))
+  names-held kinds.Interface = append-nil (map (λ e. e.0) (entries_of Names (as_kind kinds.Interface)))
+  names-held kinds.Union = append-nil (map (λ e. e.0) (entries_of Names (as_kind kinds.Union)))
+  names-held kinds.Enum = refl
+  names-held kinds.InputObject = refl
 
-values-in : (p : TypePart) → names_in 2 (body_components p.body p.name) ≡ map (λ v. v.value.value) (body_values p.body)
-values-in p = by p.body
-  where
-    by : (b : TypeBody) → names_in 2 (body_components b p.name) ≡ map (λ v. v.value.value) (body_values b)
-    by ScalarBody = refl
-    by (ObjectBody is fs) = names-neither 2 c.ObjectInterfaces c.ObjectFields p.name (name_entries is) (field_entries fs) refl refl
-    by (InterfaceBody is fs) = names-neither 2 c.InterfaceInterfaces c.InterfaceFields p.name (name_entries is) (field_entries fs) refl refl
-    by (UnionBody ns) = names-other 2 c.UnionMembers p.name refl (name_entries ns)
-    by (EnumBody vs) = names-own 2 c.EnumValues p.name refl (value_entries vs) ∙ map-map (λ (e : Entry). e.0) (λ v. (v.value.value, v.location)) vs
-    by (InputObjectBody fs) = names-other 2 c.InputFields p.name refl (input_field_entries fs)
+  fields-held : (kind : TypeKind) → AreHeld 1 Fields kind
+  fields-held kinds.Scalar = refl
+  fields-held kinds.Object = append-nil (map (λ e. e.0) (entries_of Fields (as_kind kinds.Object)))
+  fields-held kinds.Interface = append-nil (map (λ e. e.0) (entries_of Fields (as_kind kinds.Interface)))
+  fields-held kinds.Union = refl
+  fields-held kinds.Enum = refl
+  fields-held kinds.InputObject = refl
 
-members-in : (p : TypePart) → names_in 3 (body_components p.body p.name) ≡ body_members p.body
-members-in p = by p.body
-  where
-    by : (b : TypeBody) → names_in 3 (body_components b p.name) ≡ body_members b
-    by ScalarBody = refl
-    by (ObjectBody is fs) = names-neither 3 c.ObjectInterfaces c.ObjectFields p.name (name_entries is) (field_entries fs) refl refl
-    by (InterfaceBody is fs) = names-neither 3 c.InterfaceInterfaces c.InterfaceFields p.name (name_entries is) (field_entries fs) refl refl
-    by (UnionBody ns) = names-own 3 c.UnionMembers p.name refl (name_entries ns) ∙ names-of-names ns
-    by (EnumBody vs) = names-other 3 c.EnumValues p.name refl (value_entries vs)
-    by (InputObjectBody fs) = names-other 3 c.InputFields p.name refl (input_field_entries fs)
+  values-held : (kind : TypeKind) → AreHeld 2 Values kind
+  values-held kinds.Scalar = refl
+  values-held kinds.Object = refl
+  values-held kinds.Interface = refl
+  values-held kinds.Union = refl
+  values-held kinds.Enum = append-nil (map (λ e. e.0) (entries_of Values (as_kind kinds.Enum)))
+  values-held kinds.InputObject = refl
 
-input_fields-in : (p : TypePart) → names_in 4 (body_components p.body p.name) ≡ map (λ f. f.value.name) (body_input_fields p.body)
-input_fields-in p = by p.body
-  where
-    by : (b : TypeBody) → names_in 4 (body_components b p.name) ≡ map (λ f. f.value.name) (body_input_fields b)
-    by ScalarBody = refl
-    by (ObjectBody is fs) = names-neither 4 c.ObjectInterfaces c.ObjectFields p.name (name_entries is) (field_entries fs) refl refl
-    by (InterfaceBody is fs) = names-neither 4 c.InterfaceInterfaces c.InterfaceFields p.name (name_entries is) (field_entries fs) refl refl
-    by (UnionBody ns) = names-other 4 c.UnionMembers p.name refl (name_entries ns)
-    by (EnumBody vs) = names-other 4 c.EnumValues p.name refl (value_entries vs)
-    by (InputObjectBody fs) = names-own 4 c.InputFields p.name refl (input_field_entries fs) ∙ map-map (λ (e : Entry). e.0) (λ f. (f.value.name, f.location)) fs
+  input_fields-held : (kind : TypeKind) → AreHeld 3 InputFields kind
+  input_fields-held kinds.Scalar = refl
+  input_fields-held kinds.Object = refl
+  input_fields-held kinds.Interface = refl
+  input_fields-held kinds.Union = refl
+  input_fields-held kinds.Enum = refl
+  input_fields-held kinds.InputObject = append-nil (map (λ e. e.0) (entries_of InputFields (as_kind kinds.InputObject)))
+
+  all-held : (d : Collection) → AreHeld (what_is_held d) (held_sort d) p.kind
+  all-held c.ObjectInterfaces = names-held p.kind
+  all-held c.InterfaceInterfaces = names-held p.kind
+  all-held c.UnionMembers = names-held p.kind
+  all-held c.ObjectFields = fields-held p.kind
+  all-held c.InterfaceFields = fields-held p.kind
+  all-held c.EnumValues = values-held p.kind
+  all-held c.InputFields = input_fields-held p.kind
 
 -- and in parts
-parts-in : (n : ℕ) (names : TypePart → List NameView) → ((p : TypePart) → names_in n (body_components p.body p.name) ≡ names p)
-    → (ps : List TypePart) → flat_map names ps ≡ names_in n (components_of ps)
-parts-in n names each [] = refl
-parts-in n names each (p ∷ ps) = sym (names_in-append n (body_components p.body p.name) (components_of ps) ∙ (λ i. each p i ++ sym (parts-in n names each ps) i))
+parts-in : (d : Collection) (ps : List TypePart)
+    → names_in (held_sort d) ps ≡ names_among (what_is_held d) (components_of ps)
+parts-in d [] = refl
+parts-in d (p ∷ ps) = sym (names_among-append (what_is_held d) (part_components p) (components_of ps)
+    ∙ (λ i. (names-components (what_is_held d) p (collections_of p.kind) ∙ all-held p d) i ++ sym (parts-in d ps) i))
 
--- a body that joins parts
-pub body-in : (b : TypeBody) (ty : NameView) (parts : List TypePart) → body_faults b ty parts ≡ faults_among (components_of parts) (body_components b ty)
-body-in ScalarBody ty parts = refl
-body-in (ObjectBody is fs) ty parts =
-    (λ i. collisions c.ObjectInterfaces ty (parts-in 0 (λ p. body_interfaces p.body) interfaces-in parts i) (name_entries is)
-    ++ collisions c.ObjectFields ty (parts-in 1 (λ p. map (λ f. f.value.name) (body_fields p.body)) fields-in parts i) (field_entries fs))
-    ∙ two-in c.ObjectInterfaces c.ObjectFields ty (components_of parts) (name_entries is) (field_entries fs) refl
-body-in (InterfaceBody is fs) ty parts =
-    (λ i. collisions c.InterfaceInterfaces ty (parts-in 0 (λ p. body_interfaces p.body) interfaces-in parts i) (name_entries is)
-    ++ collisions c.InterfaceFields ty (parts-in 1 (λ p. map (λ f. f.value.name) (body_fields p.body)) fields-in parts i) (field_entries fs))
-    ∙ two-in c.InterfaceInterfaces c.InterfaceFields ty (components_of parts) (name_entries is) (field_entries fs) refl
-body-in (UnionBody ns) ty parts =
-    ap (λ l. collisions c.UnionMembers ty l (name_entries ns)) (parts-in 3 (λ p. body_members p.body) members-in parts) ∙ collisions-in c.UnionMembers ty (components_of parts) (name_entries ns)
-body-in (EnumBody vs) ty parts =
-    ap (λ l. collisions c.EnumValues ty l (value_entries vs)) (parts-in 2 (λ p. map (λ v. v.value.value) (body_values p.body)) values-in parts)
-    ∙ collisions-in c.EnumValues ty (components_of parts) (value_entries vs)
-body-in (InputObjectBody fs) ty parts =
-    ap (λ l. collisions c.InputFields ty l (input_field_entries fs)) (parts-in 4 (λ p. map (λ f. f.value.name) (body_input_fields p.body)) input_fields-in parts)
-    ∙ collisions-in c.InputFields ty (components_of parts) (input_field_entries fs)
+-- a part that joins parts
+module _ (parts : List TypePart) (p : TypePart) where
+  abbrev before : List TypeComponent
+  before = components_of parts
+
+  one-in : (d : Collection) → dropped_from parts p d
+      ≡ collisions d p.name (names_among (what_is_held d) before) (entries_of (held_sort d) p)
+  one-in d = ap (λ l. collisions d p.name l (entries_of (held_sort d) p)) (parts-in d parts)
+
+  -- of one collection, and of two
+  alone : (d : Collection) → dropped_from parts p d ++ [] ≡ faults_among before (components-at 0 p d ++ [])
+  alone d = append-nil (dropped_from parts p d) ∙ one-in d
+      ∙ collisions-in d p.name before (entries_of (held_sort d) p)
+      ∙ ap (faults_among before) (sym (append-nil (components-at 0 p d)))
+
+  together : (d f : Collection) → nat_eq (what_is_held f) (what_is_held d) ≡ false
+      → dropped_from parts p d ++ (dropped_from parts p f ++ [])
+      ≡ faults_among before (components-at 0 p d ++ (components-at 0 p f ++ []))
+  together d f apart =
+      (λ i. one-in d i ++ (append-nil (dropped_from parts p f) ∙ one-in f) i)
+      ∙ two-in d f p.name before (entries_of (held_sort d) p) (entries_of (held_sort f) p) apart
+      ∙ ap (λ l. faults_among before (components-at 0 p d ++ l)) (sym (append-nil (components-at 0 p f)))
+
+pub part-in : (parts : List TypePart) (p : TypePart)
+    → part_faults parts p ≡ faults_among (components_of parts) (part_components p)
+part-in parts p = by p.kind
+  where
+    by : (kind : TypeKind) → flat_map (dropped_from parts p) (collections_of kind)
+        ≡ faults_among (components_of parts) (flat_map (components-at 0 p) (collections_of kind))
+    by kinds.Scalar = refl
+    by kinds.Object = together parts p c.ObjectInterfaces c.ObjectFields refl
+    by kinds.Interface = together parts p c.InterfaceInterfaces c.InterfaceFields refl
+    by kinds.Union = alone parts p c.UnionMembers
+    by kinds.Enum = alone parts p c.EnumValues
+    by kinds.InputObject = alone parts p c.InputFields
 
 -- parts one after another, where these are before them
 pub parts-joined : (before ps : List TypePart) → each_after part_faults before ps ≡ faults_among (components_of before) (components_of ps)
 parts-joined before [] = refl
 parts-joined before (p ∷ ps) =
-    let these = body_components p.body p.name in
+    let these = part_components p in
     let one_more : components_of (before ++ p ∷ []) ≡ components_of before ++ these = rw (flat_map-append, append-nil these) refl in
     let rest : each_after part_faults (before ++ p ∷ []) ps ≡ faults_among (components_of before ++ these) (components_of ps) =
     parts-joined (before ++ p ∷ []) ps ∙ ap (λ l. faults_among l (components_of ps)) one_more in
-    (λ i. body-in p.body p.name before i ++ rest i) ∙ sym (faults_among-append (components_of before) these (components_of ps))
+    (λ i. part-in before p i ++ rest i) ∙ sym (faults_among-append (components_of before) these (components_of ps))
 
 pub joined-dropped : (ps : List TypePart)
     → joined_faults ps ≡ map (dropped_from_type (first_of_each same_component (components_of ps))) (later_of_each same_component (components_of ps))

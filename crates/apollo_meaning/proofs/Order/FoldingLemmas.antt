@@ -1,7 +1,6 @@
 -- Extensions that are folded one after another.
-use Rattle.apollo_meaning.proofs.Prelude.{◌≡◌, ℕ, ◌+◌, ◌<◌, ◌≤◌, get_or, take, drop, Bool, List, [], ◌∷◌, ◌++◌, length, map, true, sym, ap, ◌∙◌, append_assoc, length-append, arith, filter_map, map-append, take_more, take-append-drop, filter-append, filter_map-append, TypeKind, Definition, enumerate_from-append, TypePart, TypeBody, kind_of, same_kind, item_of, items_of, extended_part, extended_parts, of_kind, Sourced, type_of_kind, type_from, extension_part, numbered, type_kind}
+use Rattle.apollo_meaning.proofs.Prelude.{◌≡◌, ℕ, ◌+◌, ◌<◌, ◌≤◌, get_or, take, drop, Bool, List, [], ◌∷◌, ◌++◌, length, map, true, sym, ap, ◌∙◌, append_assoc, length-append, arith, filter_map, map-append, take_more, take-append-drop, filter-append, filter_map-append, TypeKind, Definition, enumerate_from-append, TypePart, kind_of, same_kind, item_of, items_of, extended_part, extended_parts, of_kind, Sourced, type_of_kind, type_from, extension_part, numbered, type_kind}
 use Rattle.apollo_component.specs.declared.extension.ComponentOrigin.TheVariants as origins
-use Rattle.apollo_meaning.specs.Items.Parts.{body_kind}
 use Rattle.apollo_types.specs.TypeWriteOut.{type_description, type_name, type_location}
 
 -- more extensions have the next numbers
@@ -42,39 +41,39 @@ same_kind-refl k = grind arith
 
 -- the type of parts has the kind of the head
 pub type_kind-from : (head : TypePart) (done : List Sourced) → type_kind (type_from head done) ≡ kind_of head
-type_kind-from head done = by head.body
+type_kind-from head done = by head.kind
   where
-    by : (b : TypeBody) → type_kind (type_of_kind b head done) ≡ body_kind b
-    by b = grind arith
+    by : (k : TypeKind) → type_kind (type_of_kind k head done) ≡ k
+    by k = grind arith
 
 -- and its description
 pub type_description-from : (head : TypePart) (done : List Sourced) → type_description (type_from head done) ≡ head.description
-type_description-from head done = by head.body
+type_description-from head done = by head.kind
   where
-    by : (b : TypeBody) → type_description (type_of_kind b head done) ≡ head.description
-    by b = grind arith
+    by : (k : TypeKind) → type_description (type_of_kind k head done) ≡ head.description
+    by k = grind arith
 
 -- and its name
 pub type_name-from : (head : TypePart) (done : List Sourced) → type_name (type_from head done) ≡ head.name
-type_name-from head done = by head.body
+type_name-from head done = by head.kind
   where
-    by : (b : TypeBody) → type_name (type_of_kind b head done) ≡ head.name
-    by b = grind arith
+    by : (k : TypeKind) → type_name (type_of_kind k head done) ≡ head.name
+    by k = grind arith
 
 -- and its location
 pub type_location-from : (head : TypePart) (done : List Sourced) → type_location (type_from head done) ≡ head.location
-type_location-from head done = by head.body
+type_location-from head done = by head.kind
   where
-    by : (b : TypeBody) → type_location (type_of_kind b head done) ≡ head.location
-    by b = grind arith
+    by : (k : TypeKind) → type_location (type_of_kind k head done) ≡ head.location
+    by k = grind arith
 
 -- whether a definition is ignorable changes no type
 pub type_from-ignorable : (p : TypePart) (b : Bool) (es : List Sourced)
     → type_from (record p { ignorable = b }) ((origins.Definition, record p { ignorable = b }) ∷ es) ≡ type_from p ((origins.Definition, p) ∷ es)
-type_from-ignorable p b es = by p.body
+type_from-ignorable p b es = by p.kind
   where
     q : TypePart
     q = record p { ignorable = b }
 
-    by : (body : TypeBody) → type_of_kind body q ((origins.Definition, q) ∷ es) ≡ type_of_kind body p ((origins.Definition, p) ∷ es)
-    by body = grind arith
+    by : (k : TypeKind) → type_of_kind k q ((origins.Definition, q) ∷ es) ≡ type_of_kind k p ((origins.Definition, p) ∷ es)
+    by k = grind arith

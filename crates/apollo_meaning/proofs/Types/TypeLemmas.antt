@@ -76,8 +76,8 @@ first-front n xs ys none = by (first xs n) (sym (first-append xs ys n) ∙ none)
     by None h = refl
     by (Some p) h = h
 
--- what is folded at the first definition of a name, at a later one, at an extension without definition and at
--- one of a defined name
+-- what is folded at the first definition of a name, and at a later one; at an extension without definition,
+-- and at one with
 module _ (xs : List ListItem) (p : TypePart) where
   pub types_folded_at-new : first xs (key_of p) ≡ None → types_folded_at xs (Defined p) ≡ of_kind (kind_of p) (extensions_of xs (key_of p))
   types_folded_at-new none = rw none

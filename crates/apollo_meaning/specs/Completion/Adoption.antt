@@ -13,8 +13,8 @@ use Rattle.std.specs.List.{filter_map, flat_map}
 use Rattle.std.specs.Option.{option_map_or}
 use Rattle.graphql_nodes.specs.SameText.{same}
 use Rattle.apollo_component.specs.FirstOfEach.{first_of_each}
-use Rattle.apollo_meaning.specs.Items.Parts.{TypePart, SchemaPart, TypeBody, ScalarBody, ObjectBody}
-use Rattle.apollo_meaning.specs.Items.Parts.{InterfaceBody, UnionBody, EnumBody, InputObjectBody, key_of}
+use Rattle.graphql_ast.specs.Parts.{no_parts}
+use Rattle.apollo_meaning.specs.Items.Parts.{TypePart, SchemaPart, key_of}
 use Rattle.apollo_meaning.specs.Items.ListItems.{ListItem, Defined, extended_part}
 use Rattle.apollo_meaning.specs.Items.Named.{first, extensions_of, first_schema, schema_extensions}
 
@@ -30,26 +30,10 @@ orphans_of xs n = option_map_or (λ _. []) (first xs n) (extensions_of xs n)
 abbrev pub schema_orphans : List ListItem → List SchemaPart
 schema_orphans xs = option_map_or (λ _. []) (first_schema xs) (schema_extensions xs)
 
--- the same kind, without interfaces, fields, members and values
-abbrev pub empty_body : TypeBody → TypeBody
-empty_body ScalarBody = ScalarBody
-empty_body (ObjectBody interfaces fields) = ObjectBody [] []
-empty_body (InterfaceBody interfaces fields) = InterfaceBody [] []
-empty_body (UnionBody members) = UnionBody []
-empty_body (EnumBody values) = EnumBody []
-empty_body (InputObjectBody fields) = InputObjectBody []
-
 -- the empty definition that adoption gives a name: of the kind, with the name and at the location of its
 -- first extension
 abbrev pub adopted_part : TypePart → TypePart
-adopted_part e = record {
-  name = e.name;
-  location = e.location;
-  description = None;
-  directives = [];
-  body = empty_body e.body;
-  ignorable = false;
-}
+adopted_part e = record e { description = None; parts = no_parts; ignorable = false }
 
 -- the adopted definition for these extensions of one name; nothing where there is no extension
 abbrev pub adopted_by : List TypePart → List ListItem

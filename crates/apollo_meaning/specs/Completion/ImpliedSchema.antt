@@ -1,9 +1,9 @@
 -- The definition of the schema that is implied where none stands: GraphQL specification of October 2021,
 -- section 3.3.1.
 --
--- **Implicit roots.** For query, mutation and subscription, in this order: the root of the default name
--- (`Query`, `Mutation`, `Subscription`), if this name means an object type. An adopted type counts. Such a
--- root has no location.
+-- **Implicit roots.** There may be one for query, mutation and subscription, in this order. It is the root of
+-- the default name (`Query`, `Mutation`, `Subscription`), if this name means an object type. An adopted type
+-- counts. Such a root has no location.
 --
 -- **Implied schema definition.** None, if the list has a schema definition. Else it has no location, no
 -- description and no directives, and
@@ -12,7 +12,7 @@
 -- - with adoption it is there always. If an extension of the schema names a root it has none of its own,
 --   and else it has the implicit roots.
 --
--- So the extensions of the schema are folded in after the roots of the implied definition; where none is
+-- So the extensions of the schema are folded in after the roots of the implied definition. Where none is
 -- implied they are left without a definition.
 use Rattle.std.specs.Prelude.{ℕ, Bool, false, List, [], ◌∷◌, ◌++◌, None, if◌then◌else◌}
 use Rattle.std.specs.List.{flat_map}

@@ -1,12 +1,12 @@
 -- Named components that a name before them keeps out: GraphQL specification of October 2021, sections 3.6 to
 -- 3.10.
 --
--- **Collision.** Interfaces, fields, members, values of a type (`collisions`): a component is at fault if one
--- of the same name is before it, in the same part or in an earlier one. The parts are the first definition,
--- which counts as the earliest wherever it stands, and then the extensions of its kind, by place. The fault
--- is at the component: for an interface or member at its name, for a field or value at its node. It has the
--- kept name: the first of this text, with its location. It has the type's name as the definition or extension
--- of the faulty component writes it.
+-- **Collision.** It may arise among interfaces, fields, members or values of a type (`collisions`). A
+-- component is at fault if one of the same name is before it, in the same part or in an earlier one. The
+-- parts are the first definition, which counts as the earliest wherever it stands, and then the extensions of
+-- its kind, by place. The fault is at the component: for an interface or member at its name, for a field or
+-- value at its node. It has the kept name: the first of this text, with its location. It has the type's name
+-- as the definition or extension of the faulty component writes it.
 --
 -- | component | fault |
 -- |---|---|
@@ -39,8 +39,8 @@ use Rattle.apollo_meaning.specs.declared.build_error.BuildError.TheVariants as e
 abbrev pub Fault : Type 0
 Fault = Option SourceSpan × BuildError
 
--- what is wrong with a second component of a name in a collection: the name that is kept, and the name of the
--- type where the second one stands
+-- what is wrong with a second component of a name in a collection. It has the name that is kept, and the name
+-- of the type where the second one stands
 abbrev pub collision : Collection → NameView → NameView → BuildError
 collision ObjectInterfaces kept ty = errors.DuplicateImplementsInterfaceInObject kept ty
 collision InterfaceInterfaces kept ty = errors.DuplicateImplementsInterfaceInInterface kept ty

@@ -2,14 +2,15 @@
 -- section 3.
 --
 -- **Faults of a list.** The faults of a list (`faults_of`), with adoption or without, are exactly what the
--- modules of `Faults` say; nothing else is at fault.
+-- modules of `Faults` say. Nothing else is at fault.
 --
 -- **Order of discovery.** Three phases:
 --
 -- 1. What is found at the moments of the list with what is adopted, by moment. At a moment come first the
 --    faults of the definition that stands there. Then come those of the extensions that are met at this
---    moment, by place: a kind mismatch, the collisions of the extension's components, or its repeated roots.
---    Of one definition or extension the interfaces come before the fields, each in order.
+--    moment, by place. Such a fault is a kind mismatch, a collision of one of the extension's components, or
+--    a repeated root of it. Of one definition or extension the interfaces come before the fields, each in
+--    order.
 -- 2. The orphans, by name, names in the order of first extension, and of one name by place.
 -- 3. What is found at the implied schema definition: the repeated roots of the schema's extensions, by
 --    place. Where there is no schema definition, the orphans of the schema, by place.
@@ -19,8 +20,8 @@ use Rattle.std.specs.List.{flat_map, range_with_len}
 use Rattle.std.specs.Option.{option_map_or}
 use Rattle.graphql_nodes.specs.SameText.{same}
 use Rattle.apollo_meaning.specs.Items.Parts.{TypePart, SchemaPart, key_of}
-use Rattle.apollo_meaning.specs.Items.ListItems.{ListItem, Defined, SchemaDefined, Other, Extended}
-use Rattle.apollo_meaning.specs.Items.ListItems.{SchemaExtended, Added, added_items}
+use Rattle.apollo_meaning.specs.Items.ListItems.{ListItem, Defined, SchemaDefined, Other}
+use Rattle.apollo_meaning.specs.Items.ListItems.{Added, added_items}
 use Rattle.apollo_meaning.specs.Items.Named.{extensions_of, schema_extensions}
 use Rattle.apollo_meaning.specs.Faults.Collisions.{Fault}
 use Rattle.apollo_meaning.specs.Faults.TypeFaults.{part_faults, extension_faults, further_definition, orphan}
@@ -32,18 +33,17 @@ use Rattle.apollo_meaning.specs.Order.Places.{is_folded, met_when}
 use Rattle.apollo_meaning.specs.Completion.ImpliedSchema.{implied_schema}
 use Rattle.apollo_meaning.specs.Faults.OtherFaults.{other_faults}
 
--- what is wrong with the definition at a place: the first one of its name, or of the schema, may repeat
+-- what is wrong with the definition at a place. The first one of its name, or of the schema, may repeat
 -- components, and a further one is dropped. An extension is looked at with the first definition.
 abbrev pub own_faults : List ListItem → ℕ → ListItem → List Fault
 own_faults xs i (Defined d) =
     option_map_or (λ f. if f.0 == i then part_faults [] d
     else further_definition f.1 d) (first_place types xs (key_of d)) []
-own_faults xs i (Extended e) = []
 own_faults xs i (SchemaDefined s) =
     option_map_or (λ f. if f.0 == i then schema_faults [] s
     else further_schema f.1 s ∷ []) (first_place schemas xs []) []
-own_faults xs i (SchemaExtended e) = []
 own_faults xs i (Other d) = other_faults (directive_definitions (take i xs)) d
+own_faults xs i _ = []
 
 -- what is wrong with an extension, seen with the first definition of its name and the extensions before it
 abbrev pub faults_of_extension : List ListItem → Placed TypePart → List Fault
@@ -57,8 +57,8 @@ faults_of_schema_extension xs e =
     option_map_or (λ f. schema_faults (f.1 ∷ schema_extensions (take e.0 xs)) e.1) (first_place schemas xs [])
     []
 
--- the components that are dropped from a type of a list with this first definition: from that, and from the
--- extensions that are folded into it
+-- the components that are dropped from a type of a list with this first definition. They are dropped from
+-- that, and from the extensions that are folded into it
 abbrev pub found_of_type : List ListItem → TypePart → List Fault
 found_of_type xs d =
     part_faults [] d
@@ -82,9 +82,9 @@ found_when xs i =
 abbrev pub found_from : ℕ → ℕ → List ListItem → List Fault
 found_from i n xs = flat_map (found_when xs) (range_with_len i n)
 
--- the faults of these items and an implied schema definition after them, in three phases: what is found
--- moment by moment; the extensions whose name has no definition, by name; what is found at the implied schema
--- definition, and the extensions of the schema that have none
+-- the faults of these items and an implied schema definition after them, in three phases. First comes what is
+-- found moment by moment. Then come the extensions whose name has no definition, by name. Last come what is
+-- found at the implied schema definition, and the extensions of the schema that have none
 abbrev pub faults_with : List ListItem → List ListItem → List Fault
 faults_with xs implied =
     found_from 0 (length xs) xs

@@ -1,8 +1,8 @@
 -- What is wrong with the definitions and extensions of the schema: GraphQL specification of October 2021,
 -- sections 3.3.1 and 3.3.2.
 --
--- **Repeated root.** `root_fault`: a root is at fault if one of the same operation is before it: in the same
--- part of the schema or in an earlier one. The order of parts is that which collisions have.
+-- **Repeated root.** `root_fault`: a root is at fault if one of the same operation is before it. That one is
+-- in the same part of the schema or in an earlier one. The order of parts is that which collisions have.
 -- `DuplicateRootOperation`, at the root's node, with the text of the operation (as `query`) and the location
 -- of the kept name.
 --

@@ -1,16 +1,14 @@
 -- The components of a type, those of its definition and of its extensions joined: GraphQL specification of
 -- October 2021, section 3.4.3, and the type validation of sections 3.6 to 3.10.
-use Rattle.std.specs.Prelude.{ℕ, Bool, List, [], ◌++◌, map, ◌&&◌, nat_eq}
+use Rattle.std.specs.Prelude.{ℕ, Bool, List, [], map, ◌&&◌, nat_eq}
 use Rattle.std.specs.List.{flat_map}
 use Rattle.graphql_nodes.specs.NameView.{NameView}
 use Rattle.apollo_component.specs.EachAfter.{each_after}
 use Rattle.apollo_component.specs.FirstOfEach.{kept_for}
-use Rattle.apollo_meaning.specs.Items.Parts.{TypePart, TypeBody, ScalarBody, ObjectBody, InterfaceBody}
-use Rattle.apollo_meaning.specs.Items.Parts.{UnionBody, EnumBody, InputObjectBody}
+use Rattle.apollo_meaning.specs.Items.Parts.{TypePart}
 use Rattle.apollo_meaning.specs.declared.collision.Collection.{Collection}
 use Rattle.apollo_meaning.specs.Faults.Collisions.{Fault, Entry, collision, same_name}
-use Rattle.apollo_meaning.specs.Faults.TypeFaults.{part_faults, name_entries, field_entries, value_entries}
-use Rattle.apollo_meaning.specs.Faults.TypeFaults.{input_field_entries}
+use Rattle.apollo_meaning.specs.Faults.TypeFaults.{part_faults, collections_of, held_sort, entries_of}
 use Rattle.apollo_meaning.specs.declared.collision.Collection.TheVariants as c
 
 -- a component of a type: its collection, its name and location, and the type's name as the part has it where
@@ -27,33 +25,25 @@ pub record TypeComponent : Type 0 where
 abbrev pub component_in : Collection → NameView → Entry → TypeComponent
 component_in c ty e = record { collection = c; entry = e; type_name = ty }
 
--- the components of a body in a part of this type name, interfaces first
-abbrev pub body_components : TypeBody → NameView → List TypeComponent
-body_components ScalarBody ty = []
-body_components (ObjectBody interfaces fields) ty =
-    map (component_in c.ObjectInterfaces ty) (name_entries interfaces)
-    ++ map (component_in c.ObjectFields ty) (field_entries fields)
-body_components (InterfaceBody interfaces fields) ty =
-    map (component_in c.InterfaceInterfaces ty) (name_entries interfaces)
-    ++ map (component_in c.InterfaceFields ty) (field_entries fields)
-body_components (UnionBody members) ty = map (component_in c.UnionMembers ty) (name_entries members)
-body_components (EnumBody values) ty = map (component_in c.EnumValues ty) (value_entries values)
-body_components (InputObjectBody fields) ty = map (component_in c.InputFields ty) (input_field_entries fields)
+-- the components of a part, interfaces first
+abbrev pub part_components : TypePart → List TypeComponent
+part_components p =
+    flat_map (λ c. map (component_in c p.name) (entries_of (held_sort c) p)) (collections_of p.kind)
 
 -- the components of these parts, joined
 abbrev pub components_of : List TypePart → List TypeComponent
-components_of = flat_map (λ p. body_components p.body p.name)
+components_of = flat_map part_components
 
--- a number for what a collection holds, whatever the kind of the type: interfaces, fields, values, members,
+-- a number for what a collection holds, whatever the kind of the type: interfaces or members, fields, values,
 -- input fields
 abbrev pub what_is_held : Collection → ℕ
 what_is_held c.ObjectInterfaces = 0
 what_is_held c.InterfaceInterfaces = 0
+what_is_held c.UnionMembers = 0
 what_is_held c.ObjectFields = 1
 what_is_held c.InterfaceFields = 1
 what_is_held c.EnumValues = 2
-what_is_held c.UnionMembers = 3
-what_is_held c.InputFields = 4
+what_is_held c.InputFields = 3
 
 -- components are the same if both are interfaces, or both fields, and so on, and by the texts of their names
 abbrev pub same_component : TypeComponent → TypeComponent → Bool

@@ -22,77 +22,62 @@ use Rattle.graphql_nodes.specs.NameView.{NameView}
 use Rattle.graphql_nodes.specs.NodeView.{NodeView}
 use Rattle.graphql_nodes.specs.BuiltIn.{is_built_in}
 use Rattle.graphql_nodes.specs.KindTexts.{kind_text}
-use Rattle.graphql_ast.specs.declared.type_system.FieldDefinition.{FieldDefinition}
-use Rattle.graphql_ast.specs.declared.type_system.EnumValueDefinition.{EnumValueDefinition}
-use Rattle.graphql_ast.specs.declared.type_system.InputValueDefinition.{InputValueDefinition}
-use Rattle.apollo_meaning.specs.Items.Parts.{TypePart, TypeBody, ScalarBody, ObjectBody, InterfaceBody}
-use Rattle.apollo_meaning.specs.Items.Parts.{UnionBody, EnumBody, InputObjectBody, kind_of, same_kind}
+use Rattle.graphql_nodes.specs.declared.type_kind.TypeKind.{TypeKind}
+use Rattle.graphql_ast.specs.Parts.{Sort, Names, Fields, Values, InputFields}
+use Rattle.apollo_meaning.specs.Items.Parts.{TypePart, held_parts, kind_of, same_kind}
 use Rattle.apollo_meaning.specs.Faults.Collisions.{Fault, Entry, collisions}
 use Rattle.apollo_meaning.specs.Items.Named.{of_kind}
-use Rattle.apollo_meaning.specs.Types.Components.{body_interfaces, body_members, body_fields, body_values}
-use Rattle.apollo_meaning.specs.Types.Components.{body_input_fields}
 use Rattle.apollo_meaning.specs.declared.build_error.BuildError.TheVariants as errors
+use Rattle.apollo_meaning.specs.declared.collision.Collection.{Collection}
 use Rattle.apollo_meaning.specs.declared.collision.Collection.TheVariants as c
 use Rattle.graphql_nodes.specs.declared.type_kind.TypeKind.TheVariants as kinds
 
--- the interfaces that these parts list, joined
-abbrev pub interface_names : List TypePart → List NameView
-interface_names = flat_map (λ p. body_interfaces p.body)
+-- the collections that definitions and extensions of a kind have, interfaces first
+abbrev pub collections_of : TypeKind → List Collection
+collections_of kinds.Scalar = []
+collections_of kinds.Object = c.ObjectInterfaces ∷ c.ObjectFields ∷ []
+collections_of kinds.Interface = c.InterfaceInterfaces ∷ c.InterfaceFields ∷ []
+collections_of kinds.Union = c.UnionMembers ∷ []
+collections_of kinds.Enum = c.EnumValues ∷ []
+collections_of kinds.InputObject = c.InputFields ∷ []
 
--- the union members that these parts list, joined
-abbrev pub member_names : List TypePart → List NameView
-member_names = flat_map (λ p. body_members p.body)
+-- the sort of parts that a collection holds
+abbrev pub held_sort : Collection → Sort
+held_sort c.ObjectInterfaces = Names
+held_sort c.InterfaceInterfaces = Names
+held_sort c.UnionMembers = Names
+held_sort c.ObjectFields = Fields
+held_sort c.InterfaceFields = Fields
+held_sort c.EnumValues = Values
+held_sort c.InputFields = InputFields
 
--- the names of the fields of these parts, joined
-abbrev pub field_names : List TypePart → List NameView
-field_names = flat_map (λ p. map (λ f. f.value.name) (body_fields p.body))
-
--- the enum values of these parts, joined
-abbrev pub value_names : List TypePart → List NameView
-value_names = flat_map (λ p. map (λ v. v.value.value) (body_values p.body))
-
--- the names of the input fields of these parts, joined
-abbrev pub input_field_names : List TypePart → List NameView
-input_field_names = flat_map (λ p. map (λ f. f.value.name) (body_input_fields p.body))
+-- names, each with its location
+abbrev pub name_entries : List NameView → List Entry
+name_entries = map (λ n. (n, n.location))
 
 -- nodes, each by its name and its location
 abbrev pub named_entries : {A : Type 0} → (A → NameView) → List (NodeView A) → List Entry
 named_entries name = map (λ n. (name n.value, n.location))
 
--- interfaces or union members, each by its name and the location of the name
-abbrev pub name_entries : List NameView → List Entry
-name_entries = map (λ n. (n, n.location))
+-- what a part of a type holds of a sort, each by its name and its location; directives and roots have none
+abbrev pub entries_of : Sort → TypePart → List Entry
+entries_of Names p = name_entries (held_parts p).names
+entries_of Fields p = named_entries (λ f. f.name) (held_parts p).fields
+entries_of Values p = named_entries (λ v. v.value) (held_parts p).values
+entries_of InputFields p = named_entries (λ f. f.name) (held_parts p).input_fields
+entries_of _ p = []
 
--- fields, each by its name and its location
-abbrev pub field_entries : List (NodeView FieldDefinition) → List Entry
-field_entries = named_entries (λ f. f.name)
+-- the names of what these parts hold of a sort, joined
+abbrev pub names_in : Sort → List TypePart → List NameView
+names_in s = flat_map (λ p. map (λ e. e.0) (entries_of s p))
 
--- enum values, each by its name and its location
-abbrev pub value_entries : List (NodeView EnumValueDefinition) → List Entry
-value_entries = named_entries (λ v. v.value)
-
--- input fields, each by its name and its location
-abbrev pub input_field_entries : List (NodeView InputValueDefinition) → List Entry
-input_field_entries = named_entries (λ f. f.name)
-
--- components that are dropped, interfaces first, where a part of this body and type name joins these parts
-abbrev pub body_faults : TypeBody → NameView → List TypePart → List Fault
-body_faults ScalarBody ty parts = []
-body_faults (ObjectBody interfaces fields) ty parts =
-    collisions c.ObjectInterfaces ty (interface_names parts) (name_entries interfaces)
-    ++ collisions c.ObjectFields ty (field_names parts) (field_entries fields)
-body_faults (InterfaceBody interfaces fields) ty parts =
-    collisions c.InterfaceInterfaces ty (interface_names parts) (name_entries interfaces)
-    ++ collisions c.InterfaceFields ty (field_names parts) (field_entries fields)
-body_faults (UnionBody members) ty parts =
-    collisions c.UnionMembers ty (member_names parts) (name_entries members)
-body_faults (EnumBody values) ty parts = collisions c.EnumValues ty (value_names parts) (value_entries values)
-body_faults (InputObjectBody fields) ty parts =
-    collisions c.InputFields ty (input_field_names parts) (input_field_entries fields)
+-- the components that are dropped from a collection where a part joins these parts
+abbrev pub dropped_from : List TypePart → TypePart → Collection → List Fault
+dropped_from parts p c = collisions c p.name (names_in (held_sort c) parts) (entries_of (held_sort c) p)
 
 -- components that are dropped, interfaces first, where a part joins these parts
 abbrev pub part_faults : List TypePart → TypePart → List Fault
-part_faults parts p = body_faults p.body p.name parts
+part_faults parts p = flat_map (dropped_from parts p) (collections_of p.kind)
 
 -- the fault of an extension of another kind than its name's definition
 abbrev pub kind_mismatch : TypePart → TypePart → Fault

@@ -5,9 +5,9 @@
 -- kind. An extension of the schema is folded if the schema has a definition.
 --
 -- **Moment.** The moment of a folded extension is its own place or that of its name's first definition,
--- whichever is later: the earliest point of the list at which both are there. For an extension of the
--- schema it is the same with the schema's first definition. An extension of another kind whose name has
--- a definition has a moment as well.
+-- whichever is later. It is the earliest point of the list at which both are there. For an extension of the
+-- schema it is the same with the schema's first definition. An extension of another kind whose name has a
+-- definition has a moment as well.
 --
 -- **Met.** An extension is met at its moment. One of another kind than its name's first definition is
 -- met, but not folded.
@@ -61,8 +61,8 @@ extension_places f xs = filter_map (placed_by f.extended) (enumerate_from 0 xs)
 abbrev pub first_place : {P : Type 0} → Family P → List ListItem → List ℕ → Option (Placed P)
 first_place f xs n = lookup (same n) (map (λ e. (f.key e.1, e)) (definition_places f xs))
 
--- an extension is met at its own place or at that of its key's first definition, whichever is later; and
--- never where its key has none
+-- an extension is met at its own place or at that of its key's first definition, whichever is later. It is
+-- never met where its key has none
 abbrev pub is_met : {P : Type 0} → Family P → List ListItem → ℕ → Placed P → Bool
 is_met f xs i e = option_map_or (λ d. max e.0 d.0 == i) (first_place f xs (f.key e.1)) false
 

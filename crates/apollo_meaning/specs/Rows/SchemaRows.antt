@@ -11,10 +11,10 @@
 --     root mutation M          line 6
 --     root query A             line 7
 --
--- With the first number 0 the roots are: query `A` and mutation `M` of the definition, and subscription
--- `S` of the extension of line 3, which has the number 1. `Q` is dropped: its extension was there first,
--- but the definition's roots are taken first. The fault is `DuplicateRootOperation` at line 2, kept:
--- line 7. The law of the same name computes it.
+-- With the first number 0 there are three roots. Query `A` and mutation `M` are of the definition.
+-- Subscription `S` is of the extension of line 3, which has the number 1. `Q` is dropped: its extension was
+-- there first, but the definition's roots are taken first. The fault is `DuplicateRootOperation` at line 2,
+-- kept: line 7. The law of the same name computes it.
 --
 -- **Example `extensions_alone`.**
 --
@@ -115,7 +115,7 @@ extensions_alone =
     ∷ extension_on_line 8 (name_on_line (codes "A") 8) [] (field_on_line (codes "y") 9 ∷ [])
     ∷ []
 
--- the schema definition where they are adopted: it is at no location, and all of it comes of its extensions,
+-- the schema definition where they are adopted. It is at no location, and all of it comes of its extensions,
 -- which are folded after those of types
 abbrev pub adopted_schema : NodeView SchemaDefinition
 adopted_schema = record {

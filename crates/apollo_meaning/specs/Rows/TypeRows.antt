@@ -36,10 +36,10 @@
 --     implements N        line 6
 --     field a Int         line 7
 --
--- The extensions have the numbers 0 and 1. The type has the interface `N` (1) and the fields `a`
--- (definition) and `b` (0): the field `a` of line 7 is a later one of a kept name. Identities by first
--- appearance: interfaces come first, so 1, and then 0. The write-out, which the law `extensions_around`
--- computes, is `written_around`:
+-- The extensions have the numbers 0 and 1. The type has the interface `N` (1) and the fields `a` (definition)
+-- and `b` (0). The field `a` of line 7 is a later one of a kept name. Identities by first appearance:
+-- interfaces come first, so 1, and then 0. The write-out, which the law `extensions_around` computes, is
+-- `written_around`:
 --
 --     def object Q
 --     field a Int
@@ -119,8 +119,8 @@ extensions_around =
     (field_on_line (codes "a") 7 ∷ [])
     ∷ []
 
--- how they are written again: the repeated field is dropped, interfaces come before fields, each extension
--- stands where it stood, and the name is the type's, which its definition wrote
+-- how they are written again. The repeated field is dropped, interfaces come before fields, and each
+-- extension stands where it stood. The name is the type's, which its definition wrote
 abbrev pub written_around : List Definition
 written_around =
     definition_on_line 3 (codes "Q") [] (field_on_line (codes "a") 4 ∷ [])

@@ -1,9 +1,9 @@
 -- The schema that a list of definitions means: GraphQL specification of October 2021, section 3.3.
 --
--- **Schema that a list means.** `MeansSchema`, with adoption or without: it has exactly the schema
--- definition, exactly the types and exactly the directive definitions that the completed list means. If
--- that means no schema definition, the schema has the empty one: no location, no description, no
--- directives, no root.
+-- **Schema that a list means.** `MeansSchema`, with adoption or without: it has exactly the schema definition
+-- that the completed list means. It has exactly the types and exactly the directive definitions that the
+-- completed list means. If that means no schema definition, the schema has the empty one: no location, no
+-- description, no directives, no root.
 use Rattle.std.specs.Prelude.{ℕ, Bool, List, length}
 use Rattle.apollo_meaning.specs.Items.ListItems.{ListItem, Added, added_items}
 use Rattle.apollo_meaning.specs.Completion.ImpliedSchema.{completed}

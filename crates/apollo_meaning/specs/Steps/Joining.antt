@@ -16,7 +16,7 @@ use Rattle.apollo_types.specs.declared.extended_type.ExtendedType.{ExtendedType}
 use Rattle.apollo_meaning.specs.Types.Meaning.{type_from, extension_part, numbered}
 
 -- the extensions that don't have the kind of this definition, and the components that are dropped from those
--- that have it; each is folded into these parts and the extensions before it
+-- that have it. Each is folded into these parts and the extensions before it
 abbrev pub joining_faults : TypePart → List TypePart → List TypePart → List Fault
 joining_faults d parts = each_after (λ before. joining_fault d (parts ++ of_kind (kind_of d) before)) []
 

@@ -15,9 +15,9 @@ use Rattle.apollo_meaning.specs.Steps.Joining.{schema_begun_faults, type_begun_f
 use Rattle.apollo_meaning.specs.Directives.{directive_definitions}
 use Rattle.apollo_meaning.specs.Faults.OtherFaults.{other_faults}
 
--- the extensions of types that are folded at an item, where these items are before it: at the first
--- definition of a name all of its kind before it; at an extension of a defined name and of its kind, that
--- extension
+-- the extensions of types that are folded at an item, where these items are before it. At the first
+-- definition of a name they are all of its kind before it. At an extension of a defined name and of its kind,
+-- they are that extension
 abbrev pub types_folded_at : List ListItem → ListItem → List TypePart
 types_folded_at before (Defined d) =
     option_map_or (λ _. []) (first before (key_of d)) (of_kind (kind_of d) (extensions_of before (key_of d)))

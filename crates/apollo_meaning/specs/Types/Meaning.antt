@@ -19,15 +19,17 @@
 --
 -- Each component keeps its node (value and location) and has the origin of its part.
 --
--- **Types that a list means.** `AreTypesOf`: there is one for each name that is defined, under that name
--- as its first definition writes it, in the order of first definition; and looking up any text gives the
--- type that this name means, or nothing.
+-- **Types that a list means.** `AreTypesOf`: there is one for each name that is defined, in the order of
+-- first definition. It stands under that name as its first definition writes it. Looking up any text gives
+-- the type that this name means, or nothing.
 use Rattle.std.specs.Prelude.{ℕ, List, ◌∷◌, None, map, ◌≡◌, Option, filter, Some}
 use Rattle.std.specs.List.{filter_map, flat_map, enumerate_from}
 use Rattle.std.specs.Option.{option_map}
 use Rattle.graphql_nodes.specs.SameText.{same, by_text}
 use Rattle.graphql_nodes.specs.NameView.{NameView}
 use Rattle.graphql_nodes.specs.Tables.{lookup, keys_of}
+use Rattle.graphql_nodes.specs.declared.type_kind.TypeKind.{TypeKind}
+use Rattle.graphql_nodes.specs.declared.type_kind.TypeKind.TheVariants as kinds
 use Rattle.apollo_component.specs.FirstOfEach.{first_of_each, same_key}
 use Rattle.apollo_component.specs.declared.extension.ComponentOrigin.TheVariants.{Definition, Extension}
 use Rattle.apollo_component.specs.Extensions.{extension_id}
@@ -40,13 +42,11 @@ use Rattle.apollo_types.specs.declared.interface_type.InterfaceType.{InterfaceTy
 use Rattle.apollo_types.specs.declared.union_type.UnionType.{UnionType}
 use Rattle.apollo_types.specs.declared.enum_type.EnumType.{EnumType}
 use Rattle.apollo_types.specs.declared.input_object_type.InputObjectType.{InputObjectType}
-use Rattle.apollo_meaning.specs.Items.Parts.{TypePart, TypeBody, ScalarBody, ObjectBody, InterfaceBody}
-use Rattle.apollo_meaning.specs.Items.Parts.{UnionBody, EnumBody, InputObjectBody, key_of}
+use Rattle.apollo_meaning.specs.Items.Parts.{TypePart, key_of}
 use Rattle.apollo_meaning.specs.Items.ListItems.{ListItem, Folding, OfType, OfSchema}
 use Rattle.apollo_meaning.specs.Items.Named.{first, definitions}
-use Rattle.apollo_meaning.specs.Types.Components.{Sourced, sourced_directives, interfaces_of, members_of}
-use Rattle.apollo_meaning.specs.Types.Components.{fields_of, values_of, input_fields_of, distinct_names}
-use Rattle.apollo_meaning.specs.Types.Components.{distinct_entries}
+use Rattle.apollo_meaning.specs.Types.Components.{Sourced, sourced_directives, names_of, fields_of, values_of}
+use Rattle.apollo_meaning.specs.Types.Components.{input_fields_of, distinct_names, distinct_entries}
 
 -- the names that are defined, as their first definitions write them, in the order of those
 abbrev pub type_names : List ListItem → List NameView
@@ -83,7 +83,7 @@ abbrev pub object_of : TypePart → List Sourced → ObjectType
 object_of head parts = record {
   description = head.description;
   name = head.name;
-  implements_interfaces = distinct_names (flat_map interfaces_of parts);
+  implements_interfaces = distinct_names (flat_map names_of parts);
   directives = record { 0 = flat_map sourced_directives parts };
   fields = distinct_entries (flat_map fields_of parts);
 }
@@ -93,7 +93,7 @@ abbrev pub interface_of : TypePart → List Sourced → InterfaceType
 interface_of head parts = record {
   description = head.description;
   name = head.name;
-  implements_interfaces = distinct_names (flat_map interfaces_of parts);
+  implements_interfaces = distinct_names (flat_map names_of parts);
   directives = record { 0 = flat_map sourced_directives parts };
   fields = distinct_entries (flat_map fields_of parts);
 }
@@ -104,7 +104,7 @@ union_of head parts = record {
   description = head.description;
   name = head.name;
   directives = record { 0 = flat_map sourced_directives parts };
-  members = distinct_names (flat_map members_of parts);
+  members = distinct_names (flat_map names_of parts);
 }
 
 -- the enum type of these parts: directives joined, and of each name the first value
@@ -126,23 +126,23 @@ input_object_of head parts = record {
 }
 
 -- the type that these parts make, of this kind, with the description, name and location of the head
-abbrev pub type_of_kind : TypeBody → TypePart → List Sourced → ExtendedType
-type_of_kind ScalarBody head parts =
+abbrev pub type_of_kind : TypeKind → TypePart → List Sourced → ExtendedType
+type_of_kind kinds.Scalar head parts =
     Scalar (record { value = scalar_of head parts; location = head.location })
-type_of_kind (ObjectBody interfaces fields) head parts =
+type_of_kind kinds.Object head parts =
     Object (record { value = object_of head parts; location = head.location })
-type_of_kind (InterfaceBody interfaces fields) head parts =
+type_of_kind kinds.Interface head parts =
     Interface (record { value = interface_of head parts; location = head.location })
-type_of_kind (UnionBody members) head parts =
+type_of_kind kinds.Union head parts =
     Union (record { value = union_of head parts; location = head.location })
-type_of_kind (EnumBody values) head parts =
+type_of_kind kinds.Enum head parts =
     Enum (record { value = enum_of head parts; location = head.location })
-type_of_kind (InputObjectBody fields) head parts =
+type_of_kind kinds.InputObject head parts =
     InputObject (record { value = input_object_of head parts; location = head.location })
 
 -- the type that these parts make, with the description, name and location of the head
 abbrev pub type_from : TypePart → List Sourced → ExtendedType
-type_from head parts = type_of_kind head.body head parts
+type_from head parts = type_of_kind head.kind head parts
 
 -- the type of a name, where these extensions are folded, in this order
 abbrev pub type_of : ℕ → List Folding → List ListItem → List ℕ → Option ExtendedType

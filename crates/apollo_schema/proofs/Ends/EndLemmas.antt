@@ -1,12 +1,11 @@
 -- What the tables of a list end it with is what the list ends with.
-use Rattle.apollo_meaning.proofs.Prelude.{◌≡◌, ℕ, ◌+◌, ◌^◌, ◌≤◌, Bool, false, cond, List, [], ◌∷◌, ◌++◌, length, map, Option, Some, None, is_some, true, refl, sym, ap, subst, ◌∙◌, arith, append_assoc, true≢false, flat_map, lookup, option_map, option_map_or, option_or, append-nil, NameView, NodeView, OperationType, Query, Mutation, Subscription, Definition, next_number, source_at, SchemaDefinition, TypePart, SchemaPart, TypeBody, schema_extension_part, kind_of, same_kind, roots_in, ListItem, SchemaDefined, extended_parts, first, first_schema, schema_extensions, Sourced, type_of_kind, type_from, parts, AreTypesOf, orphan, schema_orphan, further_schema, extended_names, orphans_of, schema_orphans, schema_for, implied_schema, schema_begun, schema_begun_faults, by_text, schema_of, directive_definitions, AreDirectivesOf, folded, found_at, found}
+use Rattle.apollo_meaning.proofs.Prelude.{◌≡◌, ℕ, ◌+◌, ◌^◌, ◌≤◌, Bool, false, cond, List, [], ◌∷◌, ◌++◌, length, map, Option, Some, None, is_some, true, refl, sym, ap, subst, ◌∙◌, arith, append_assoc, true≢false, flat_map, lookup, option_map, option_map_or, option_or, append-nil, NameView, NodeView, OperationType, Query, Mutation, Subscription, Definition, next_number, source_at, SchemaDefinition, TypePart, SchemaPart, TypeKind, schema_extension_part, kind_of, same_kind, roots_in, ListItem, SchemaDefined, extended_parts, first, first_schema, schema_extensions, Sourced, type_of_kind, type_from, parts, AreTypesOf, orphan, schema_orphan, further_schema, extended_names, orphans_of, schema_orphans, schema_for, implied_schema, schema_begun, schema_begun_faults, by_text, schema_of, directive_definitions, AreDirectivesOf, folded, found_at, found}
 use Rattle.std.specs.Map.{values_of}
 use Rattle.std.proofs.lemmas.List.Folds.{flat_map-map}
 use Rattle.graphql_nodes.specs.OperationTexts.{default_type_text}
 use Rattle.graphql_nodes.specs.declared.type_kind.TypeKind.TheVariants as kinds
 use Rattle.apollo_types.specs.SchemaDefinitionWriteOut.{is_some_object}
 use Rattle.apollo_schema.specs.declared.tables.Tables.{Tables}
-use Rattle.apollo_meaning.specs.Items.Parts.{body_kind}
 use Rattle.apollo_meaning.specs.Completion.ImpliedSchema.{is_object_name, default_root, implicit_root, implicit_roots}
 use Rattle.apollo_folding.specs.HeldRoots.{held_root, held_roots}
 use Rattle.apollo_schema.specs.Stands.{Stands, Ends}
@@ -15,10 +14,10 @@ use Rattle.apollo_meaning.proofs.Completion.OrphanLemmas.{held-orphans}
 use Rattle.apollo_schema.proofs.Stands.SchemaStandsLemmas.{schema_known, schema_unknown, Stands-schema_new, schema_new-spent}
 
 is_object-from : (d : TypePart) (ps : List Sourced) → is_some_object (Some (type_from d ps)) ≡ same_kind kinds.Object (kind_of d)
-is_object-from d ps = by d.body
+is_object-from d ps = by d.kind
   where
-    by : (b : TypeBody) → is_some_object (Some (type_of_kind b d ps)) ≡ same_kind kinds.Object (body_kind b)
-    by b = grind arith
+    by : (k : TypeKind) → is_some_object (Some (type_of_kind k d ps)) ≡ same_kind kinds.Object k
+    by k = grind arith
 
 module _ {start : ℕ} {xs : List ListItem} {t : Tables} (was : Stands start xs t) where
   held-object : (n : List ℕ) → is_some_object (lookup (by_text n) t.types) ≡ is_object_name xs n

@@ -61,7 +61,7 @@ impl Schema {
         None
     }
 
-    /// The field of this name in a type at hand, of which this is the name, if it has one: as
+    /// The field of this name in this type, of which the other is the name, if it has one. It is as
     /// [`type_field`](Schema::type_field) finds it where the schema has the type under the name. So whoever
     /// looks up many fields of one type looks it up once.
     pub fn field_of<'schema>(

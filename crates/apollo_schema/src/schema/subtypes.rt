@@ -33,7 +33,7 @@ fn declares(interface: &Name, ty: &ExtendedType) -> bool
 
 impl Schema {
     /// Whether the one name is that of an interface, and the other that of an object or interface type that
-    /// declares it; or the one name is that of a union that lists the other, whether that has a type or not
+    /// declares it. Or the one name is that of a union that lists the other, whether that has a type or not
     /// (sections 3.7 and 3.8). Nothing is a subtype through something else. It answers where there is no
     /// memory, too.
     pub fn is_subtype(&self, abstract_type: &Name, maybe_subtype: &Name) -> bool

@@ -10,9 +10,9 @@ use Rattle.std.specs.Cmp.Lexicographic.{pointwise}
 use Rattle.apollo_component.specs.declared.extension.ComponentOrigin.TheVariants as origins
 use Rattle.apollo_schema_laws.proofs.Sections.{has_none, definition-alone, has_some, of-alone, picked}
 use Rattle.apollo_schema_laws.proofs.Lists.{distinct-from_first, option_map-twice}
-use Rattle.apollo_schema_laws.proofs.Types.{directives_alone, numbered_parts, same-located}
+use Rattle.apollo_schema_laws.proofs.Types.{parts_from, same-located}
 use Rattle.apollo_schema_laws.proofs.Definitions.SchemaSections.{entries, of_schema-origin, picked-roots}
-use Rattle.apollo_schema_laws.proofs.Definitions.OneSchema.{IsSchemaAgain, directives-in_parts, extension_written, made_schema, root_under, written_parts_of}
+use Rattle.apollo_schema_laws.proofs.Definitions.OneSchema.{IsSchemaAgain, directives-in_parts, extension_written, made_schema, root_under, schema_held, written_parts_of}
 
 -- whether a root is of the definition
 abbrev is_own : Option ComponentName → Bool
@@ -67,7 +67,7 @@ no-own d h = has_none (written_parts_of d).definition.roots (sym (own-said d) �
 -- where a definition has no directive of its own, none is written of it
 pub no-directives : (head : SchemaPart) (es : List (ℕ × SchemaPart)) → head.directives ≡ [] → (written_parts_of (made_schema head es)).definition.directives ≡ []
 no-directives head es e =
-    let p : PartsByOrigin = record { definition = directives_alone head.directives; extensions = map (numbered_parts (λ (s : SchemaPart). s.location) (λ s. directives_alone s.directives)) es } in
+    let p : PartsByOrigin = parts_from (λ s. s.location) schema_held head es in
     ap (λ q. q.directives) (of_schema-origin (made_schema head es) origins.Definition)
     ∙ ap (picked origins.Definition) (directives-in_parts head es)
     ∙ of-alone origins.Definition (λ q. q.directives) (with_origins p) (origins.Definition, p.definition) (definition-alone p) ∙ e

@@ -1,10 +1,12 @@
 -- The components of a schema definition, whose roots stand in the order of the operation types, and the
 -- definition that written parts make again.
-use Rattle.apollo_schema_laws.proofs.Words.Lists.{◌≡◌, Bool, true, cond, List, [], ◌∷◌, ◌++◌, None, Option, Some, map, filter, flat_map, option_map, refl, sym, ap, ◌∙◌, slice_get, append-nil, filter-append, cons_option, list_any, AllByRecursion, IsDistinct, map-map, unwrap_or, filter-map, arith}
-use Rattle.apollo_schema_laws.proofs.Words.Syntax.{OperationType, Query, Mutation, Subscription, Parts}
-use Rattle.apollo_schema_laws.proofs.Words.Types.{same_id, same_origin, of_origin, of_extensions, SourcedPart, by_origin, ComponentName, ComponentOrigin, Extension, Definition, ExtensionId, of_root, root_node, schema_components, root_of, SchemaDefinition, PartsByOrigin}
+use Rattle.apollo_schema_laws.proofs.Words.Lists.{◌≡◌, Bool, true, cond, List, [], ◌∷◌, ◌++◌, None, Option, Some, map, filter, flat_map, option_map, refl, sym, ap, subst, ◌∙◌, slice_get, append-nil, filter-append, cons_option, filter_map, list_any, AllByRecursion, IsDistinct, map-map, unwrap_or, filter-map, arith}
+use Rattle.apollo_schema_laws.proofs.Words.Syntax.{OperationType, Query, Mutation, Subscription, Parts, no_parts}
+use Rattle.apollo_schema_laws.proofs.Words.Types.{same_id, same_origin, of_origin, of_extensions, SourcedPart, by_origin, ComponentName, ComponentOrigin, Extension, Definition, ExtensionId, of_root, root_node, schema_components, root_of, operation_types, SchemaDefinition, PartsByOrigin}
 use Rattle.apollo_schema_laws.proofs.Words.Meaning.{Root, same_operation, component_name}
-use Rattle.apollo_schema_laws.proofs.Words.Written.{Sections, as_parts, in_sections, joined, with_origins, node_with_origin, no_components}
+use Rattle.apollo_schema_laws.proofs.Words.Written.{Sections, as_parts, in_sections, joined, with_origins, node_with_origin}
+use Rattle.apollo_types.specs.SchemaRoots.{named_root}
+use Rattle.graphql_ast.specs.Parts.{Directives, Roots, of_schema}
 use Rattle.graphql_ast.specs.declared.parts.Part.TheVariants as parts
 use Rattle.apollo_schema_laws.proofs.Lists.{in_order, in_order-map, each-both, shown}
 use Rattle.apollo_schema_laws.proofs.Sections.{ids_in, ids_in-append, ids_in-sections, picked, picked-append, of_origin-sections, parts_in, has_some, has_some-picked, written-in_order, definition-alone, each-alone, extension-alone, marks, of-alone, parts-again, shown-joined}
@@ -15,10 +17,12 @@ entries op None = []
 entries op (Some n) = (n.origin, root_node (op, n)) ∷ []
 
 abbrev pub root_entries : SchemaDefinition → List (ComponentOrigin × Root)
-root_entries d = entries Query d.query ++ (entries Mutation d.mutation ++ (entries Subscription d.subscription ++ []))
+root_entries d = flat_map (λ op. entries op (root_of d op)) operation_types
 
 abbrev pub schema_sections : SchemaDefinition → Sections
-schema_sections d = record no_components { directives = map node_with_origin d.directives.0; roots = root_entries d }
+schema_sections d Directives = map node_with_origin d.directives.0
+schema_sections d Roots = root_entries d
+schema_sections d _ = []
 
 one-root : (op : OperationType) (o : Option ComponentName) (rest : List (OperationType × ComponentName)) (more : List (ComponentOrigin × Root)) → map of_root rest ≡ as_parts parts.Root more
     → map of_root (cons_option (option_map (λ n. (op, n)) o) rest) ≡ as_parts parts.Root (entries op o ++ more)
@@ -28,9 +32,14 @@ one-root op o rest more e = grind (arith, e)
 pub schema-components : (d : SchemaDefinition) → schema_components d ≡ in_sections (schema_sections d)
 schema-components d =
     (λ i. sym (map-map (λ x. (x.0, parts.Directive x.1)) node_with_origin d.directives.0) i
-    ++ one-root Query d.query (cons_option (option_map (λ n. (Mutation, n)) d.mutation) (cons_option (option_map (λ n. (Subscription, n)) d.subscription) [])) (entries Mutation d.mutation ++ (entries Subscription d.subscription ++ []))
-    (one-root Mutation d.mutation (cons_option (option_map (λ n. (Subscription, n)) d.subscription) []) (entries Subscription d.subscription ++ []) (one-root Subscription d.subscription [] [] refl)) i)
-    ∙ ap (λ l. as_parts parts.Directive (map node_with_origin d.directives.0) ++ l) (sym (append-nil (as_parts parts.Root (root_entries d))))
+    ++ each operation_types i)
+    ∙ ap (λ l. as_parts parts.Directive (map node_with_origin d.directives.0) ++ l)
+    (sym (append-nil (as_parts parts.Root (root_entries d))))
+  where
+    each : (ops : List OperationType) → map of_root (filter_map (named_root d) ops)
+        ≡ as_parts parts.Root (flat_map (λ op. entries op (root_of d op)) ops)
+    each [] = refl
+    each (op ∷ ops) = one-root op (root_of d op) (filter_map (named_root d) ops) _ (each ops)
 
 abbrev pub is_op : OperationType → Root → Bool
 is_op op r = same_operation op r.value.0
@@ -44,12 +53,15 @@ module _ (o : ComponentOrigin) where
   piece op other n = grind arith
 
   module _ (d : SchemaDefinition) where
-    pub picked-roots : picked o (root_entries d) ≡ picked o (entries Query d.query) ++ (picked o (entries Mutation d.mutation) ++ (picked o (entries Subscription d.subscription) ++ []))
+    pub picked-roots : picked o (root_entries d)
+        ≡ flat_map (λ op. picked o (entries op (root_of d op))) operation_types
     picked-roots = simp (picked-append o)
 
     pieces : (op : OperationType) → filter (is_op op) (picked o (root_entries d))
-        ≡ cond (same_operation op Query) (picked o (entries Query d.query)) [] ++ (cond (same_operation op Mutation) (picked o (entries Mutation d.mutation)) [] ++ (cond (same_operation op Subscription) (picked o (entries Subscription d.subscription)) [] ++ []))
-    pieces op = ap (filter (is_op op)) picked-roots ∙ simp (filter-append (is_op op), piece op Query d.query, piece op Mutation d.mutation, piece op Subscription d.subscription)
+        ≡ flat_map (λ other. cond (same_operation op other) (picked o (entries other (root_of d other))) [])
+        operation_types
+    pieces op = ap (filter (is_op op)) picked-roots
+        ∙ simp (filter-append (is_op op), piece op Query d.query, piece op Mutation d.mutation, piece op Subscription d.subscription)
 
     -- of one operation type there is its root
     pub picked-for : (op : OperationType) → filter (is_op op) (picked o (root_entries d)) ≡ picked o (entries op (root_of d op))
@@ -59,15 +71,12 @@ module _ (o : ComponentOrigin) where
 
 -- parts of a schema definition: nothing but directives, and roots in the order of the operation types
 pub record IsSchemaRow (d : Parts) : Type 0 where
-  pub names : [] ≡ d.names
-  pub fields : [] ≡ d.fields
-  pub values : [] ≡ d.values
-  pub input_fields : [] ≡ d.input_fields
-  pub roots : roots_for Query d ++ (roots_for Mutation d ++ (roots_for Subscription d ++ [])) ≡ d.roots
+  pub own : of_schema d ≡ d
+  pub roots : flat_map (λ op. roots_for op d) operation_types ≡ d.roots
 
 -- whether parts have directives, and a root of each operation type
 abbrev pub schema_sorts : List (Parts → Bool)
-schema_sorts = (λ p. has_some p.directives) ∷ (λ p. has_some (roots_for Query p)) ∷ (λ p. has_some (roots_for Mutation p)) ∷ (λ p. has_some (roots_for Subscription p)) ∷ []
+schema_sorts = (λ p. has_some p.directives) ∷ map (λ op p. has_some (roots_for op p)) operation_types
 
 module _ (d : SchemaDefinition) where
   pub of_schema-origin : (o : ComponentOrigin) → of_origin o (schema_components d) ≡ parts_in o (schema_sections d)
@@ -78,22 +87,23 @@ module _ (d : SchemaDefinition) where
 
   pub schema-row : (o : ComponentOrigin) → IsSchemaRow (of_origin o (schema_components d))
   schema-row o = record {
-    names = sym (ap (λ p. p.names) (of_schema-origin o));
-    fields = sym (ap (λ p. p.fields) (of_schema-origin o));
-    values = sym (ap (λ p. p.values) (of_schema-origin o));
-    input_fields = sym (ap (λ p. p.input_fields) (of_schema-origin o));
-    roots = (λ i. roots-origin o Query i ++ (roots-origin o Mutation i ++ (roots-origin o Subscription i ++ []))) ∙ sym (picked-roots o d) ∙ sym (ap (λ p. p.roots) (of_schema-origin o));
+    own = subst (λ p. of_schema p ≡ p) (sym (of_schema-origin o)) refl;
+    roots = (λ i. flat_map (λ op. roots-origin o op i) operation_types)
+        ∙ sym (picked-roots o d) ∙ sym (ap (λ p. p.roots) (of_schema-origin o));
   }
 
   abbrev id_lists : List (List ExtensionId)
-  id_lists = ids_in (map node_with_origin d.directives.0) ∷ ids_in (entries Query d.query) ∷ ids_in (entries Mutation d.mutation) ∷ ids_in (entries Subscription d.subscription) ∷ []
+  id_lists =
+      ids_in (map node_with_origin d.directives.0)
+      ∷ map (λ op. ids_in (entries op (root_of d op))) operation_types
 
   ids-listed : ids_in (schema_components d) ≡ flat_map (λ l. l) id_lists
   ids-listed = ap ids_in (schema-components d) ∙ ids_in-sections (schema_sections d) ∙ simp (append-nil, ids_in-append)
 
   -- the parts of extensions are written in the order of these
   pub schema-in_order : in_order schema_sorts (map (λ e. e.1) (of_extensions (schema_components d))) ≡ true
-  schema-in_order = written-in_order (schema_components d) schema_sorts id_lists ids-listed (λ i. directives i ∷ roots Query i ∷ roots Mutation i ∷ roots Subscription i ∷ [])
+  schema-in_order = written-in_order (schema_components d) schema_sorts id_lists ids-listed
+      (λ i. directives i ∷ map (λ op. roots op i) operation_types)
     where
       directives : ◌≡◌ {A = ExtensionId → Bool} (λ e. has_some (of_origin (Extension e) (schema_components d)).directives) (λ e. list_any (same_id e) (ids_in (map node_with_origin d.directives.0)))
       directives = λ i e. (ap (λ (p : Parts). has_some p.directives) (of_schema-origin (Extension e)) ∙ has_some-picked e (map node_with_origin d.directives.0)) i
@@ -103,34 +113,27 @@ module _ (d : SchemaDefinition) where
 
 -- the sections that written parts make, with the roots in the order of the operation types
 abbrev pub in_operation_order : PartsByOrigin → Sections
-in_operation_order p = record no_components {
-  directives = joined (λ d. d.directives) (with_origins p);
-  roots = joined (roots_for Query) (with_origins p) ++ (joined (roots_for Mutation) (with_origins p) ++ (joined (roots_for Subscription) (with_origins p) ++ []));
-}
+in_operation_order p Directives = joined (λ d. d.directives) (with_origins p)
+in_operation_order p Roots = flat_map (λ op. joined (roots_for op) (with_origins p)) operation_types
+in_operation_order p _ = []
 
 -- where one group alone is of the origin
 row-again : (p : PartsByOrigin) (o : ComponentOrigin) (g : ComponentOrigin × Parts) → filter (λ g. same_origin o g.0) (with_origins p) ≡ g ∷ [] → IsSchemaRow g.1 → of_origin o (in_sections (in_operation_order p)) ≡ g.1
-row-again p o g alone row = of_origin-sections o (in_operation_order p) ∙ (λ i. record {
-  directives = of_sort (λ d. d.directives) i;
-  names = row.names i;
-  fields = row.fields i;
-  values = row.values i;
-  input_fields = row.input_fields i;
-  roots = roots i;
-})
+row-again p o g alone row =
+    of_origin-sections o (in_operation_order p)
+    ∙ (λ i. record no_parts { directives = of_sort (λ d. d.directives) i; roots = roots i }) ∙ row.own
   where
     of_sort : {A : Type 0} (sort : Parts → List A) → picked o (joined sort (with_origins p)) ≡ sort g.1
     of_sort sort = of-alone o sort (with_origins p) g alone
 
-    rs : OperationType → List (ComponentOrigin × Root)
-    rs op = joined (roots_for op) (with_origins p)
+    each : (ops : List OperationType) → picked o (flat_map (λ op. joined (roots_for op) (with_origins p)) ops)
+        ≡ flat_map (λ op. roots_for op g.1) ops
+    each [] = refl
+    each (op ∷ ops) = picked-append o (joined (roots_for op) (with_origins p)) _
+        ∙ (λ i. of_sort (roots_for op) i ++ each ops i)
 
-    roots : picked o (rs Query ++ (rs Mutation ++ (rs Subscription ++ []))) ≡ g.1.roots
-    roots =
-        picked-append o (rs Query) (rs Mutation ++ (rs Subscription ++ []))
-        ∙ (λ i. of_sort (roots_for Query) i ++ (picked-append o (rs Mutation) (rs Subscription ++ [])
-        ∙ (λ j. of_sort (roots_for Mutation) j ++ (picked-append o (rs Subscription) [] ∙ ap (λ l. l ++ []) (of_sort (roots_for Subscription))) j)) i)
-        ∙ row.roots
+    roots : picked o (in_operation_order p Roots) ≡ g.1.roots
+    roots = each operation_types ∙ row.roots
 
 module _ (p : PartsByOrigin) (distinct : IsDistinct same_id (map (λ e. e.0) p.extensions)) (first_row : IsSchemaRow p.definition) (rows : AllByRecursion (λ e. IsSchemaRow e.1) p.extensions) (ordered : in_order schema_sorts (map (λ e. e.1) p.extensions) ≡ true) where
   abbrev comps : List SourcedPart
@@ -139,18 +142,18 @@ module _ (p : PartsByOrigin) (distinct : IsDistinct same_id (map (λ e. e.0) p.e
   -- parts in the order in which they are written are written again as themselves
   pub schema-parts_again : by_origin comps ≡ p
   schema-parts_again =
-      parts-again p distinct comps ((λ e. marks e.1.directives) ∷ (λ e. marks (roots_for Query e.1)) ∷ (λ e. marks (roots_for Mutation e.1)) ∷ (λ e. marks (roots_for Subscription e.1)) ∷ [])
-      (ids_in-sections (in_operation_order p) ∙ (λ i. shown-joined p (λ d. d.directives) i ++ (append-nil (ids_in (in_operation_order p).roots) ∙ roots) i)) (sym (in_order-map (λ e. e.1) schema_sorts p.extensions) ∙ ordered)
+      parts-again p distinct comps
+      ((λ e. marks e.1.directives) ∷ map (λ op e. marks (roots_for op e.1)) operation_types)
+      (ids_in-sections (in_operation_order p) ∙ (λ i. shown-joined p (λ d. d.directives) i ++ (append-nil (ids_in (in_operation_order p Roots)) ∙ roots operation_types) i)) (sym (in_order-map (λ e. e.1) schema_sorts p.extensions) ∙ ordered)
       (row-again p Definition (Definition, p.definition) (definition-alone p) first_row)
       (each-both (λ e. filter (λ h. same_id e.0 h.0) p.extensions ≡ e ∷ []) (λ e. IsSchemaRow e.1) (λ e. of_origin (Extension e.0) comps ≡ e.1)
       (λ e alone row. row-again p (Extension e.0) (Extension e.0, e.1) (extension-alone p e alone) row) p.extensions (each-alone p distinct) rows)
     where
-      roots : ids_in (joined (roots_for Query) (with_origins p) ++ (joined (roots_for Mutation) (with_origins p) ++ (joined (roots_for Subscription) (with_origins p) ++ [])))
-          ≡ shown (λ e. e.0) (λ e. marks (roots_for Query e.1)) p.extensions ++ (shown (λ e. e.0) (λ e. marks (roots_for Mutation e.1)) p.extensions ++ (shown (λ e. e.0) (λ e. marks (roots_for Subscription e.1)) p.extensions ++ []))
-      roots =
-          ids_in-append (joined (roots_for Query) (with_origins p)) (joined (roots_for Mutation) (with_origins p) ++ (joined (roots_for Subscription) (with_origins p) ++ []))
-          ∙ (λ i. shown-joined p (roots_for Query) i ++ (ids_in-append (joined (roots_for Mutation) (with_origins p)) (joined (roots_for Subscription) (with_origins p) ++ [])
-          ∙ (λ j. shown-joined p (roots_for Mutation) j ++ (ids_in-append (joined (roots_for Subscription) (with_origins p)) [] ∙ ap (λ l. l ++ []) (shown-joined p (roots_for Subscription))) j)) i)
+      roots : (ops : List OperationType) → ids_in (flat_map (λ op. joined (roots_for op) (with_origins p)) ops)
+          ≡ flat_map (λ op. shown (λ e. e.0) (λ e. marks (roots_for op e.1)) p.extensions) ops
+      roots [] = refl
+      roots (op ∷ ops) = ids_in-append (joined (roots_for op) (with_origins p)) _
+          ∙ (λ i. shown-joined p (roots_for op) i ++ roots ops i)
 
 -- a root is found where there is one alone
 pub from-values : (op : OperationType) (xs : List (ComponentOrigin × Root)) (n : Option ComponentName) → map (λ x. x.1) xs ≡ map (λ x. x.1) (entries op n)

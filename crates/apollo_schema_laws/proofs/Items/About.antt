@@ -1,5 +1,5 @@
--- What a list says of one name, of the schema and of all else: tables by their keys, the names of the types
--- of a list, and what is found at an item, which hangs on the items of its topic alone.
+-- What a list says of one name, of the schema and of all else: tables by their keys, and the names of the
+-- types of a list. What is found at an item hangs on the items of its topic alone.
 use Rattle.apollo_schema_laws.proofs.Words.Lists.{◌≡◌, arith, ℕ, Bool, true, List, [], ◌∷◌, ◌++◌, None, Some, filter, find, flat_map, sym, ap, ◌∙◌, is_some, map, option_map, subst, AllByRecursion, filter_map, list_any, option_map_or, each-weaken, map-append, filter_map-append, slice_get, is_some-map, found-passes, IsOwn, chosen-wider, filter_map-wider, none-by_subject, lookup-keyed, find-made, flat_map-map, Contains, All-contains_itself, All-weaker, recursion_from_All, filter-wider, lookup-none, none_past_head}
 use Rattle.apollo_schema_laws.proofs.Words.Syntax.{NameView, same, same_text, by_text, HasUniqueKeys, keys_of, values_of, lookup, same-refl}
 use Rattle.apollo_schema_laws.proofs.Words.Types.{first_of_each, name_laws, found-any, given-by_keys}

@@ -4,13 +4,14 @@ use Rattle.apollo_schema_laws.proofs.Words.Syntax.{is_built_in, NameView, same, 
 use Rattle.apollo_schema_laws.proofs.Words.Types.{first_of_each}
 use Rattle.apollo_schema_laws.proofs.Words.Meaning.{ListItem, Defined, Extended, added, added_items, defined_part, extended_part, defined_schema, Other, SchemaDefined, Added, added_item, item_of, ignorable_if, named, first, extensions_of, first_schema, schema_extensions, TypeNamed}
 use Rattle.apollo_schema_laws.proofs.Words.Meaning.{TypePart, key_of, SchemaPart, Root, roots_in, adopted, adopted_by, extended_names, orphans_of, with_adopted, implied_schema, schema_for, schema_of_roots, implicit_roots, whole, Schema}
-use Rattle.apollo_schema_laws.proofs.Words.Written.{IsMeantByList, with_built_ins}
+use Rattle.apollo_schema_laws.proofs.Words.Written.{IsMeantByList, name_of, with_built_ins}
 use Rattle.std.specs.Map.{lookup}
 use Rattle.graphql_ast.specs.Definitions.{definition_location}
+use Rattle.graphql_ast.specs.Parts.{Sort, Names, listed, of_type}
 use Rattle.graphql_ast.specs.declared.definition.Definition.TheVariants as ast
-use Rattle.apollo_schema_laws.proofs.Lists.{distinct-from_first, each-flat_map, each-of, found-holds}
+use Rattle.apollo_schema_laws.proofs.Lists.{distinct-from_first, each-flat_map, each-of, found-holds, map-same}
 use Rattle.apollo_schema_laws.proofs.Items.About.{about, lookup-named}
-use Rattle.apollo_schema_laws.proofs.Items.TypeFaults.{HaveEachNameOnce, interfaces_in, members_in, fields_in, values_in, input_fields_in}
+use Rattle.apollo_schema_laws.proofs.Types.Kinds.{HasOwnNames}
 
 abbrev pub built_ins : List ListItem
 built_ins = added_items (added false built_in_definitions)
@@ -31,40 +32,42 @@ all-keys = refl
 abbrev pub built_in_names : List NameView
 built_in_names = map (λ p. p.name) (filter_map defined_part built_ins)
 
--- a type of these is marked built-in and has each name once
-pub record IsBuiltIn (p : TypePart) : Type 0 where
-  pub marked : is_built_in p.location ≡ true
-  pub plain : p.ignorable ≡ false
-  pub once : HaveEachNameOnce (p ∷ [])
-
-abbrev AreFirst : (TypePart → List NameView) → TypePart → Type 0
-AreFirst sort p = first_of_each same_text (flat_map sort (p ∷ [])) ≡ flat_map sort (p ∷ [])
-
-abbrev Computed : TypePart → Type 0
-Computed p = (is_built_in p.location ≡ true) × ((p.ignorable ≡ false) × (AreFirst interfaces_in p × (AreFirst members_in p × (AreFirst fields_in p × (AreFirst values_in p × AreFirst input_fields_in p)))))
-
-all-computed : AllByRecursion Computed (filter_map defined_part built_ins)
-unfolding built_in_definitions
-all-computed = ((refl, (refl, (refl, (refl, (refl, (refl, refl)))))), ((refl, (refl, (refl, (refl, (refl, (refl, refl)))))), ((refl, (refl, (refl, (refl, (refl, (refl, refl)))))), ((refl, (refl, (refl, (refl, (refl, (refl, refl)))))), ((refl, (refl, (refl, (refl, (refl, (refl, refl)))))), ((refl, (refl, (refl, (refl, (refl, (refl, refl)))))), ((refl, (refl, (refl, (refl, (refl, (refl, refl)))))), ((refl, (refl, (refl, (refl, (refl, (refl, refl)))))), ((refl, (refl, (refl, (refl, (refl, (refl, refl)))))), ((refl, (refl, (refl, (refl, (refl, (refl, refl)))))), ((refl, (refl, (refl, (refl, (refl, (refl, refl)))))), ((refl, (refl, (refl, (refl, (refl, (refl, refl)))))), ((refl, (refl, (refl, (refl, (refl, (refl, refl)))))), tt)))))))))))))
-
 -- what holds of each definition holds of the first of a name
 pub first-of : (P : TypePart → Type 0) (n : List ℕ) (ps : List TypePart) (d : TypePart) → AllByRecursion P ps → lookup (same n) (named ps) ≡ Some d → P d
 first-of P n ps d a h = found-holds P (λ p. same n (key_of p)) ps d a (sym (lookup-named n ps) ∙ h)
 
+-- what is the same of each of these is the same of the first of a name
+first-same : {X : Type 0} (f g : TypePart → X) → map f (filter_map defined_part built_ins)
+    ≡ map g (filter_map defined_part built_ins)
+    → (n : List ℕ) (d : TypePart) → first built_ins n ≡ Some d → f d ≡ g d
+first-same f g same n d h = first-of (λ p. f p ≡ g p) n (filter_map defined_part built_ins) d
+    (map-same f g (filter_map defined_part built_ins) same) h
+
+-- a type of these is marked built-in, holds what its kind has, and has each name once
+pub record IsBuiltIn (p : TypePart) : Type 0 where
+  pub marked : is_built_in p.location ≡ true
+  pub plain : p.ignorable ≡ false
+  pub of_kind : of_type p.kind p.parts ≡ p.parts
+  pub once : HasOwnNames p
+
+names-first : (s : Sort)
+    → map (λ p. first_of_each same_text (map (name_of s) (listed p.parts s)))
+    (filter_map defined_part built_ins)
+    ≡ map (λ p. map (name_of s) (listed p.parts s)) (filter_map defined_part built_ins)
+unfolding built_in_definitions
+names-first Names = refl
+names-first s = refl
+
 pub first-built_in : (n : List ℕ) (d : TypePart) → first built_ins n ≡ Some d → IsBuiltIn d
-first-built_in n d h =
-    let c : Computed d = first-of Computed n (filter_map defined_part built_ins) d all-computed h in
-    record {
-      marked = c.0;
-      plain = c.1.0;
-      once = record {
-        interfaces = distinct-from_first same_text (flat_map interfaces_in (d ∷ [])) c.1.1.0;
-        members = distinct-from_first same_text (flat_map members_in (d ∷ [])) c.1.1.1.0;
-        fields = distinct-from_first same_text (flat_map fields_in (d ∷ [])) c.1.1.1.1.0;
-        values = distinct-from_first same_text (flat_map values_in (d ∷ [])) c.1.1.1.1.1.0;
-        input_fields = distinct-from_first same_text (flat_map input_fields_in (d ∷ [])) c.1.1.1.1.1.1;
-      };
-    }
+unfolding built_in_definitions
+first-built_in n d h = record {
+  marked = first-same (λ p. is_built_in p.location) (λ p. true) refl n d h;
+  plain = first-same (λ p. p.ignorable) (λ p. false) refl n d h;
+  of_kind = first-same (λ p. of_type p.kind p.parts) (λ p. p.parts) refl n d h;
+  once = λ s. distinct-from_first same_text (map (name_of s) (listed d.parts s))
+      (first-same (λ p. first_of_each same_text (map (name_of s) (listed p.parts s)))
+      (λ p. map (name_of s) (listed p.parts s)) (names-first s) n d h);
+}
 
 -- a list that defines each name once and extends none says of a name its definition
 about-first : (n : List ℕ) (xs : List ListItem) → filter_map extended_part xs ≡ [] → IsDistinct same (keys_of (named (filter_map defined_part xs))) → about (TypeNamed n) xs ≡ option_map_or (λ d. Defined d ∷ []) (first xs n) []

@@ -1,13 +1,12 @@
 -- What a type is written out as is without fault: its components differ, and its extensions have its name and
 -- kind.
-use Rattle.apollo_schema_laws.proofs.Words.Lists.{◌≡◌, Bool, true, false, cond, ◌||◌, List, [], ◌∷◌, ◌++◌, Some, map, map-id, filter, flat_map, refl, sym, ap, subst, ◌∙◌, append_assoc, append-nil, map-append, flat_map-append, IsEquivalence, AllByRecursion, IsDistinct, list_any, option_map_or, each-weaken, filter_map-made, map-map, find-none, filter-all}
+use Rattle.apollo_schema_laws.proofs.Words.Lists.{◌≡◌, Bool, true, false, cond, ◌||◌, List, [], ◌∷◌, ◌++◌, Some, map, filter, refl, sym, ap, subst, ◌∙◌, append_assoc, append-nil, map-append, flat_map-append, IsEquivalence, AllByRecursion, IsDistinct, list_any, option_map_or, each-weaken, filter_map-made, find-none, filter-all}
 use Rattle.apollo_schema_laws.proofs.Words.Syntax.{NameView, same, same_text, same-is}
 use Rattle.apollo_schema_laws.proofs.Words.Types.{each_after, name_laws}
-use Rattle.apollo_schema_laws.proofs.Words.Meaning.{Defined, Extended, extended_part, extensions_of, first, of_kind, TypePart, TypeBody, ScalarBody, ObjectBody, InterfaceBody, UnionBody, EnumBody, InputObjectBody, key_of, kind_of, same_kind, body_interfaces, body_members, body_fields, body_values, body_input_fields}
-use Rattle.apollo_schema_laws.proofs.Words.Faults.{Entry, collision, collision_at, collisions, interface_names, member_names, field_names, value_names, input_field_names, name_entries, body_faults, part_faults, joining_fault, kind_mismatch, found_at}
+use Rattle.apollo_schema_laws.proofs.Words.Meaning.{Defined, Extended, extended_part, extensions_of, first, of_kind, TypePart, key_of, kind_of, same_kind}
+use Rattle.apollo_schema_laws.proofs.Words.Faults.{Entry, collections_of, collision, collision_at, collisions, dropped_from, entries_of, found_at, joining_fault, kind_mismatch, names_in, part_faults, held_sort}
 use Rattle.apollo_meaning.specs.declared.collision.Collection.{Collection}
-use Rattle.apollo_meaning.specs.declared.collision.Collection.TheVariants as c
-use Rattle.apollo_schema_laws.proofs.Lists.{each-split}
+use Rattle.apollo_schema_laws.proofs.Lists.{each-split, flat_map-none}
 use Rattle.apollo_meaning.proofs.Order.FoldingLemmas.{same_kind-refl}
 
 -- an element of a list of which no two are the same is the same as none before it
@@ -44,59 +43,22 @@ collisions-none c ty before = none-added (λ done. collision_at c ty (before ++ 
         let listed : before ++ map (λ e. e.0) (done ++ e ∷ rest) ≡ others ++ e.0 ∷ map (λ e. e.0) rest = simp (map-append, append_assoc) in
         ap (λ o. option_map_or (λ kept. (e.1, collision c kept ty) ∷ []) o []) (find-none (same_text e.0) others (new-after same_text name_laws others e.0 (map (λ e. e.0) rest) (subst (IsDistinct same_text) listed d)))
 
-entry-names : {A : Type 0} (name : A → NameView) (entry : A → Entry) → ((a : A) → (entry a).0 ≡ name a) → (xs : List A) → map name xs ≡ map (λ e. e.0) (map entry xs)
-entry-names name entry is xs = (λ i. map (λ a. sym (is a) i) xs) ∙ sym (map-map (λ (e : Entry). e.0) entry xs)
-
--- what a part has of a sort, by name
-abbrev pub interfaces_in : TypePart → List NameView
-interfaces_in p = body_interfaces p.body
-
-abbrev pub members_in : TypePart → List NameView
-members_in p = body_members p.body
-
-abbrev pub fields_in : TypePart → List NameView
-fields_in p = map (λ f. f.value.name) (body_fields p.body)
-
-abbrev pub values_in : TypePart → List NameView
-values_in p = map (λ v. v.value.value) (body_values p.body)
-
-abbrev pub input_fields_in : TypePart → List NameView
-input_fields_in p = map (λ f. f.value.name) (body_input_fields p.body)
-
--- no two components of a sort have one name
-pub record HaveEachNameOnce (ps : List TypePart) : Type 0 where
-  pub interfaces : IsDistinct same_text (flat_map interfaces_in ps)
-  pub members : IsDistinct same_text (flat_map members_in ps)
-  pub fields : IsDistinct same_text (flat_map fields_in ps)
-  pub values : IsDistinct same_text (flat_map values_in ps)
-  pub input_fields : IsDistinct same_text (flat_map input_fields_in ps)
-
-module _ (ps : List TypePart) (ty : NameView) where
-  names-none : (co : Collection) (sort : TypePart → List NameView) (ns : List NameView) → IsDistinct same_text (flat_map sort ps ++ ns) → collisions co ty (flat_map sort ps) (name_entries ns) ≡ []
-  names-none co sort ns d = collisions-none co ty (flat_map sort ps) (name_entries ns) (subst (λ l. IsDistinct same_text (flat_map sort ps ++ l)) (sym (map-id ns) ∙ entry-names (λ n. n) (λ n. (n, n.location)) (λ n. refl) ns) d)
-
-  entries-none : {A : Type 0} (co : Collection) (sort : TypePart → List NameView) (name : A → NameView) (entry : A → Entry) → ((a : A) → (entry a).0 ≡ name a) → (xs : List A) → IsDistinct same_text (flat_map sort ps ++ map name xs)
-      → collisions co ty (flat_map sort ps) (map entry xs) ≡ []
-  entries-none co sort name entry is xs d = collisions-none co ty (flat_map sort ps) (map entry xs) (subst (λ l. IsDistinct same_text (flat_map sort ps ++ l)) (entry-names name entry is xs) d)
-
-  body-none : (body : TypeBody) → IsDistinct same_text (interface_names ps ++ body_interfaces body) → IsDistinct same_text (member_names ps ++ body_members body) → IsDistinct same_text (field_names ps ++ map (λ f. f.value.name) (body_fields body))
-      → IsDistinct same_text (value_names ps ++ map (λ v. v.value.value) (body_values body)) → IsDistinct same_text (input_field_names ps ++ map (λ f. f.value.name) (body_input_fields body)) → body_faults body ty ps ≡ []
-  body-none ScalarBody i m f v n = refl
-  body-none (ObjectBody interfaces fields) i m f v n =
-      (λ k. names-none c.ObjectInterfaces interfaces_in interfaces i k ++ entries-none c.ObjectFields fields_in (λ f. f.value.name) (λ f. (f.value.name, f.location)) (λ f. refl) fields f k)
-  body-none (InterfaceBody interfaces fields) i m f v n =
-      (λ k. names-none c.InterfaceInterfaces interfaces_in interfaces i k ++ entries-none c.InterfaceFields fields_in (λ f. f.value.name) (λ f. (f.value.name, f.location)) (λ f. refl) fields f k)
-  body-none (UnionBody members) i m f v n = names-none c.UnionMembers members_in members m
-  body-none (EnumBody values) i m f v n = entries-none c.EnumValues values_in (λ v. v.value.value) (λ v. (v.value.value, v.location)) (λ v. refl) values v
-  body-none (InputObjectBody fields) i m f v n = entries-none c.InputFields input_fields_in (λ f. f.value.name) (λ f. (f.value.name, f.location)) (λ f. refl) fields n
+-- no two components of a collection have one name
+abbrev pub HaveEachNameOnce : List TypePart → Type 0
+HaveEachNameOnce ps = (c : Collection) → IsDistinct same_text (names_in (held_sort c) ps)
 
 -- parts whose components differ are without fault, one after another
 parts-none : (ps : List TypePart) (p : TypePart) (rest : List TypePart) → HaveEachNameOnce (ps ++ p ∷ rest) → part_faults ps p ≡ []
-parts-none ps p rest h =
-    body-none ps p.name p.body (front interfaces_in h.interfaces) (front members_in h.members) (front fields_in h.fields) (front values_in h.values) (front input_fields_in h.input_fields)
+parts-none ps p rest once = flat_map-none (dropped_from ps p) none (collections_of p.kind)
   where
-    front : (sort : TypePart → List NameView) → IsDistinct same_text (flat_map sort (ps ++ p ∷ rest)) → IsDistinct same_text (flat_map sort ps ++ sort p)
-    front sort d = distinct-front same_text (flat_map sort ps ++ sort p) (flat_map sort rest) (subst (IsDistinct same_text) (flat_map-append sort ps (p ∷ rest) ∙ sym (append_assoc (flat_map sort ps) (sort p) (flat_map sort rest))) d)
+    none : (c : Collection) → dropped_from ps p c ≡ []
+    none c =
+        let own : List NameView = map (λ e. e.0) (entries_of (held_sort c) p) in
+        collisions-none c p.name (names_in (held_sort c) ps) (entries_of (held_sort c) p)
+        (distinct-front same_text (names_in (held_sort c) ps ++ own) (names_in (held_sort c) rest)
+        (subst (IsDistinct same_text)
+        (flat_map-append (λ q. map (λ e. e.0) (entries_of (held_sort c) q)) ps (p ∷ rest)
+        ∙ sym (append_assoc (names_in (held_sort c) ps) own (names_in (held_sort c) rest))) (once c)))
 
 -- an extension has the name and the kind of a definition
 abbrev pub Fits : TypePart → TypePart → Type 0

@@ -41,9 +41,22 @@ pub each-flat_map : {X Y : Type 0} (P : Y → Type 0) (f : X → List Y) (xs : L
 each-flat_map P f [] a = tt
 each-flat_map P f (x ∷ xs) a = each-append P (f x) (flat_map f xs) a.0 (each-flat_map P f xs a.1)
 
+pub each-flat_map_back : {X Y : Type 0} (P : Y → Type 0) (f : X → List Y) (xs : List X)
+    → AllByRecursion P (flat_map f xs) → AllByRecursion (λ x. AllByRecursion P (f x)) xs
+each-flat_map_back P f [] a = tt
+each-flat_map_back P f (x ∷ xs) a =
+    let both : AllByRecursion P (f x) × AllByRecursion P (flat_map f xs) = each-split P (f x) (flat_map f xs) a in
+    (both.0, each-flat_map_back P f xs both.1)
+
 pub map-each : {X Y : Type 0} (f g : X → Y) (xs : List X) → AllByRecursion (λ x. f x ≡ g x) xs → map f xs ≡ map g xs
 map-each f g [] a = refl
 map-each f g (x ∷ xs) a = (λ i. a.0 i ∷ map-each f g xs a.1 i)
+
+-- what is made alike of all is made alike of each
+pub map-same : {X Y : Type 0} (f g : X → Y) (xs : List X) → map f xs ≡ map g xs → AllByRecursion (λ x. f x ≡ g x) xs
+map-same f g [] h = tt
+map-same f g (x ∷ xs) h =
+    let both : f x ∷ map f xs ≡ g x ∷ map g xs = h in (cc, map-same f g xs (cc))
 
 pub filter-flat_map : {X Y : Type 0} (p : Y → Bool) (f : X → List Y) (xs : List X) → filter p (flat_map f xs) ≡ flat_map (λ x. filter p (f x)) xs
 filter-flat_map p f [] = refl

@@ -1,12 +1,12 @@
--- What the sorts of faults are about; which faults are found at an item, of what it is about or for the item
--- itself; and those of a sort among all faults of a list.
+-- What the sorts of faults are about. Which faults are found at an item, of what it is about or for the item
+-- itself. And those of a sort among all faults of a list.
 use Rattle.apollo_meaning.proofs.Prelude.{◌&&◌, ◌++◌, ◌∙◌, ◌∷◌, ◌≡◌, AllByRecursion, Bool, Defined, Extended, Fault, List, ListItem, None, Option, Other, SchemaDefined, SchemaExtended, SchemaPart, Some, TypePart, [], ap, append-nil, arith, completed, cond, directive_definitions, each_after, each_after-append, extended_names, extended_part, extension_faults, extensions_of, false, filter, filter-append, filter_map, find, first, first_schema, flat_map, found, found_at, further_definition, further_schema, implied_schema, key_of, kind_of, map, of_kind, option_map_or, orphan, orphans_of, other_faults, part_faults, refl, roots_in, same, same-is, same-true, same_kind, schema_begun_faults, schema_extensions, schema_faults, schema_orphan, schema_orphans, subst, sym, true, with_adopted, ℕ, each-weaken}
 use Rattle.apollo_schema_laws.proofs.Rearranged.Words.{each-append, faults-completed, faults_in, filter-fails, filter-wider, filter_passes, has_text, is_handed_in, joining_fault, kind_mismatch, recursion_from_All, type_begun_faults}
 use Rattle.apollo_schema_laws.specs.Reported.{Sort, Executable, FurtherSchema, FurtherDirective, FurtherType, OrphanOfType, OrphanOfSchema, OtherKind, RepeatedComponent, RepeatedRoot, same_sort, sort_of}
 use Rattle.apollo_schema_laws.specs.Dropped.{further_directive}
 use Rattle.graphql_ast.specs.declared.definition.Definition.TheVariants as ast
 use Rattle.apollo_schema_laws.proofs.Subjects.{Subject, TypeNamed, TheSchema, NoSubject, same_subject, subject, subject_laws}
-use Rattle.apollo_schema_laws.proofs.Rearranged.Sorts.{AllOf, all-stay, begun-of, body-of, further-of, has_sort, made-of, none-stay, one-of, roots-of, sort_laws}
+use Rattle.apollo_schema_laws.proofs.Rearranged.Sorts.{AllOf, all-stay, begun-of, further-of, has_sort, made-of, none-stay, one-of, part-of, roots-of, sort_laws}
 
 -- what a sort is about: the type or the schema that something is dropped from, or nothing where it is dropped
 -- as a whole
@@ -54,7 +54,7 @@ joining-from d n parts e own =
     subst (λ (m : List ℕ). AllFrom (TypeNamed m) (joining_fault d parts e)) (sym (same-true n (key_of e) own)) (by (same_kind (kind_of d) (kind_of e)))
   where
     by : (b : Bool) → AllFrom (TypeNamed (key_of e)) (cond b (part_faults parts e) (kind_mismatch d e ∷ []))
-    by true = from (RepeatedComponent (key_of e)) (part_faults parts e) (body-of e.body e.name parts)
+    by true = from (RepeatedComponent (key_of e)) (part_faults parts e) (part-of parts e)
     by false = (refl, tt)
 
 -- and so it is with extensions of a name that join one after another
@@ -79,7 +79,7 @@ begun-from : (d : TypePart) (xs : List ListItem)
 begun-from d xs =
     each-append (λ f. subject_of (sort_of f.1) ≡ TypeNamed (key_of d)) (part_faults [] d)
     (each_after (λ before. joining_fault d (d ∷ of_kind (kind_of d) before)) [] (extensions_of xs (key_of d)))
-    (from (RepeatedComponent (key_of d)) (part_faults [] d) (body-of d.body d.name []))
+    (from (RepeatedComponent (key_of d)) (part_faults [] d) (part-of [] d))
     (joinings-from d (key_of d) [] (extensions_of xs (key_of d)) (extensions-named xs (key_of d)))
 
 -- the fault of an item that is itself dropped: of a further definition, and of what is of no type and not of

@@ -6,7 +6,7 @@ use Rattle.std.proofs.lemmas.Grind.{flat_map-append}
 use Rattle.apollo_schema_laws.proofs.Subjects.{Subject, TheSchema, TypeNamed, same_subject, subject, subject_laws, definitions_of, first-is, found_at-own}
 
 -- how faults are found: at a further definition, at the first one with extensions before it, and at an
--- extension after a first definition and extensions
+-- extension behind it and others
 pub record Finding (P : Type 0) : Type 0 where
   pub further : P → P → List Fault
   pub begun : P → List P → List Fault
@@ -69,7 +69,7 @@ module _ {P : Type 0} (f : Family P) (n : List ℕ) (by_kind : Finding P) (k : S
     taken-none : (which : ListItem → Option P) → filter has (cons_option (which x) []) ≡ [] → filter has (filter_map which (xs ++ x ∷ [])) ≡ filter has (filter_map which xs)
     taken-none which e = taken which [] e ∙ append-nil (filter has (filter_map which xs))
 
-  -- what holds of no item, and stays with one of another subject, with a definition and with an extension,
+  -- what holds of no item, and stays with one of another subject, with a definition and with an extension. It
   -- holds of each list, its definitions and its extensions
   pub by_plays : (Q : List ListItem → List P → List P → Type 0) → Q [] [] [] → ((xs : List ListItem) (x : ListItem) (ds es : List P) → about x ≡ false → Q xs ds es → Q (xs ++ x ∷ []) ds es)
       → ((xs : List ListItem) (x : ListItem) (ds es : List P) (p : P) → about x ≡ true → found_at xs x ≡ at_definition by_kind ds es p → Q xs ds es → Q (xs ++ x ∷ []) (ds ++ p ∷ []) es)

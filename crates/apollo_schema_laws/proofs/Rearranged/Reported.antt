@@ -1,5 +1,5 @@
--- The faults of a list that are of what is dropped from a type or from the schema, its repeated components or
--- roots and its extensions of another kind, are those that its first definition and its extensions have, in
+-- The faults of a list that are of what is dropped from a type or from the schema: repeated components or
+-- roots, and extensions of another kind. They are those that its first definition and its extensions have, in
 -- order.
 use Rattle.apollo_meaning.proofs.Prelude.{◌&&◌, ◌++◌, ◌∙◌, ◌∷◌, ◌≡◌, AllByRecursion, Bool, Family, Fault, List, ListItem, None, Option, Placed, SchemaPart, Some, TypePart, [], ap, append-nil, completed, cond, defined_schema, each_after, extended_part, extension_places, extensions_of, false, filter, filter-append, filter_map, first, first_place, first_schema, flat_map, found, found_at, key_of, kind_of, map, not, of_kind, option_map_or, part_faults, refl, same, same-is, same-true, same_kind, schema_begun_faults, schema_extensions, schema_faults, schemas, slice_get, sym, true, types, ℕ, further_definition}
 use Rattle.apollo_schema_laws.proofs.Rearranged.Words.{all-kept, faults_in, filter-map, filter_agree, found-push, found_of_schema, found_of_type, joined_faults, joining_fault, kind_mismatch, type_begun_faults, filter_map-numbered}
@@ -12,7 +12,7 @@ use Rattle.apollo_schema_laws.specs.Reported.{Sort, OtherKind, RepeatedComponent
 use Rattle.apollo_schema_laws.specs.Dropped.{of_another_kind}
 use Rattle.apollo_schema_laws.proofs.Subjects.{Subject, TypeNamed, TheSchema, NoSubject, same_subject, first-is}
 use Rattle.apollo_schema_laws.proofs.Rearranged.Regrouped.{Finding, Plays, at_definition, at_extension, by_plays, defined_of, extended_of, finding_schemas, finding_types, plays-schema, plays-type}
-use Rattle.apollo_schema_laws.proofs.Rearranged.Sorts.{all-stay, begun-of, body-of, further-of, has_sort, joined-of, none-stay, filter-both}
+use Rattle.apollo_schema_laws.proofs.Rearranged.Sorts.{all-stay, begun-of, further-of, has_sort, joined-of, none-stay, part-of, filter-both}
 use Rattle.apollo_schema_laws.proofs.Rearranged.FoundSorts.{AllFrom, by-subject, extensions-named, found_at-apart, from, is_from, none-from, reported-found, subject_of}
 
 module _ (k : Subject) (none : same_subject k NoSubject ≡ false) {P : Type 0} (f : Family P) (n : List ℕ) (by_kind : Finding P) (further : (d p : P) → AllFrom NoSubject (by_kind.further d p)) (plays : (x : ListItem) → Plays f n by_kind k x) where
@@ -124,7 +124,7 @@ module _ (d : TypePart) (n : List ℕ) where
           → filter (has_sort (OtherKind n)) (cond b (part_faults parts e) (kind_mismatch d e ∷ [])) ++ map (kind_mismatch d) others
           ≡ map (kind_mismatch d) (cond (not b) (e ∷ others) others)
       by true =
-          ap (λ l. l ++ map (kind_mismatch d) others) (none-stay (OtherKind n) (RepeatedComponent (key_of e)) (part_faults parts e) refl (body-of e.body e.name parts))
+          ap (λ l. l ++ map (kind_mismatch d) others) (none-stay (OtherKind n) (RepeatedComponent (key_of e)) (part_faults parts e) refl (part-of parts e))
       by false = ap (λ b. cond b (kind_mismatch d e ∷ []) [] ++ map (kind_mismatch d) others) own.0
 
   -- and so it is where they join the definition
@@ -133,7 +133,7 @@ module _ (d : TypePart) (n : List ℕ) where
       ≡ map (kind_mismatch d) (filter (λ e. not (same_kind (kind_of d) (kind_of e))) es)
   begun-others es own =
       filter-append (has_sort (OtherKind n)) (part_faults [] d) (each_after (λ before. joining_fault d (d ∷ of_kind (kind_of d) before)) [] es)
-      ∙ ap (λ l. l ++ filter (has_sort (OtherKind n)) (each_after (λ before. joining_fault d (d ∷ of_kind (kind_of d) before)) [] es)) (none-stay (OtherKind n) (RepeatedComponent (key_of d)) (part_faults [] d) refl (body-of d.body d.name []))
+      ∙ ap (λ l. l ++ filter (has_sort (OtherKind n)) (each_after (λ before. joining_fault d (d ∷ of_kind (kind_of d) before)) [] es)) (none-stay (OtherKind n) (RepeatedComponent (key_of d)) (part_faults [] d) refl (part-of [] d))
       ∙ mismatches-stay [] es own
 
 -- the extensions of a name that are not of the kind of its first definition, with their places and without

@@ -1,11 +1,12 @@
 -- The sorts of the faults that are found, and what a sort keeps of faults of one sort.
-use Rattle.apollo_meaning.proofs.Prelude.{◌&&◌, ◌++◌, ◌∙◌, ◌∷◌, ◌≡◌, AllByRecursion, Bool, Entry, EnumBody, Fault, InputObjectBody, InterfaceBody, List, ListItem, NameView, None, ObjectBody, Option, Root, ScalarBody, SchemaPart, Some, TypeBody, TypePart, UnionBody, [], ap, arith, body_faults, collision, collision_at, collisions, cond, each_after, extended_part, extensions_of, false, field_entries, field_names, filter, filter_map, find, further_definition, interface_names, key_of, kind_of, map, name_entries, of_kind, option_map_or, part_faults, refl, roots_in, same, same-true, same_kind, same_text, schema_begun_faults, schema_faults, schema_joining_faults, subst, sym, true, ℕ}
-use Rattle.apollo_schema_laws.proofs.Rearranged.Words.{All-filter, all-kept, each-append, filter-each, filter-fails, filter_passes, input_field_entries, input_field_names, joined_faults, member_names, operation_text, recursion_from_All, redefinition, root_fault, root_faults, same_operation, value_entries, value_names, IsTest}
+use Rattle.apollo_meaning.proofs.Prelude.{◌&&◌, ◌++◌, ◌∙◌, ◌∷◌, ◌≡◌, AllByRecursion, Bool, Entry, Fault, List, ListItem, NameView, None, Option, Root, SchemaPart, Some, TypePart, [], ap, arith, collision, collision_at, collisions, cond, each_after, extended_part, extensions_of, false, filter, filter_map, find, further_definition, key_of, kind_of, map, of_kind, option_map_or, part_faults, refl, roots_in, same, same-true, same_kind, same_text, schema_begun_faults, schema_faults, schema_joining_faults, subst, sym, true, ℕ}
+use Rattle.apollo_schema_laws.proofs.Rearranged.Words.{All-filter, all-kept, each-append, filter-each, filter-fails, filter_passes, joined_faults, operation_text, recursion_from_All, redefinition, root_fault, root_faults, same_operation, IsTest}
 use Rattle.graphql_nodes.specs.BuiltIn.{is_built_in}
 use Rattle.apollo_meaning.specs.declared.collision.Collection.{Collection}
-use Rattle.apollo_meaning.specs.declared.collision.Collection.TheVariants.{ObjectInterfaces, InterfaceInterfaces, ObjectFields, InterfaceFields, EnumValues, UnionMembers, InputFields}
+use Rattle.apollo_meaning.specs.Faults.TypeFaults.{collections_of, dropped_from, entries_of, held_sort, names_in}
 use Rattle.apollo_schema_laws.specs.Reported.{Sort, FurtherType, OtherKind, RepeatedComponent, RepeatedRoot, is_of_sort, same_sort, sort_of}
 use Rattle.graphql_nodes.proofs.Texts.{same-refl}
+use Rattle.apollo_schema_laws.proofs.Lists.{each-flat_map, each-of}
 use Rattle.graphql_nodes.specs.declared.type_kind.TypeKind.TheVariants as kinds
 use Rattle.apollo_meaning.specs.declared.build_error.BuildError.TheVariants as errors
 
@@ -50,20 +51,14 @@ collisions-of c ty before =
     each_after-all (λ done. collision_at c ty (before ++ map (λ e. e.0) done)) (λ f. sort_of f.1 ≡ RepeatedComponent ty.text)
     (λ done e. one-of (RepeatedComponent ty.text) (λ kept. (e.1, collision c kept ty)) (λ kept. grind arith) (find (same_text e.0) (before ++ map (λ e. e.0) done))) []
 
--- and so are those of a body
-pub body-of : (b : TypeBody) (ty : NameView) (parts : List TypePart)
-    → AllOf (RepeatedComponent ty.text) (body_faults b ty parts)
-body-of ScalarBody ty parts = tt
-body-of (ObjectBody is fs) ty parts =
-    each-append (λ f. sort_of f.1 ≡ RepeatedComponent ty.text) (collisions ObjectInterfaces ty (interface_names parts) (name_entries is)) (collisions ObjectFields ty (field_names parts) (field_entries fs))
-    (collisions-of ObjectInterfaces ty (interface_names parts) (name_entries is)) (collisions-of ObjectFields ty (field_names parts) (field_entries fs))
-body-of (InterfaceBody is fs) ty parts =
-    each-append (λ f. sort_of f.1 ≡ RepeatedComponent ty.text) (collisions InterfaceInterfaces ty (interface_names parts) (name_entries is)) (collisions InterfaceFields ty (field_names parts) (field_entries fs))
-    (collisions-of InterfaceInterfaces ty (interface_names parts) (name_entries is)) (collisions-of InterfaceFields ty (field_names parts) (field_entries fs))
-body-of (UnionBody ns) ty parts = collisions-of UnionMembers ty (member_names parts) (name_entries ns)
-body-of (EnumBody vs) ty parts = collisions-of EnumValues ty (value_names parts) (value_entries vs)
-body-of (InputObjectBody fs) ty parts =
-    collisions-of InputFields ty (input_field_names parts) (input_field_entries fs)
+-- and so are those of a part
+pub part-of : (parts : List TypePart) (p : TypePart)
+    → AllOf (RepeatedComponent p.name.text) (part_faults parts p)
+part-of parts p =
+    each-flat_map (λ f. sort_of f.1 ≡ RepeatedComponent p.name.text) (dropped_from parts p)
+    (collections_of p.kind)
+    (each-of _ (λ c. collisions-of c p.name (names_in (held_sort c) parts) (entries_of (held_sort c) p))
+    (collections_of p.kind))
 
 -- so are those of parts of a name that join one after another
 parts-of : (n : List ℕ) (before ps : List TypePart) → AllByRecursion (λ p. same n (key_of p) ≡ true) ps
@@ -71,7 +66,7 @@ parts-of : (n : List ℕ) (before ps : List TypePart) → AllByRecursion (λ p. 
 parts-of n before [] own = tt
 parts-of n before (p ∷ ps) own =
     each-append (λ f. sort_of f.1 ≡ RepeatedComponent n) (part_faults before p) (each_after part_faults (before ++ p ∷ []) ps)
-    (subst (λ (m : List ℕ). AllOf (RepeatedComponent m) (part_faults before p)) (sym (same-true n (key_of p) own.0)) (body-of p.body p.name before))
+    (subst (λ (m : List ℕ). AllOf (RepeatedComponent m) (part_faults before p)) (sym (same-true n (key_of p) own.0)) (part-of before p))
     (parts-of n (before ++ p ∷ []) ps own.1)
 
 -- and of a definition and the extensions of its name and kind

@@ -18,10 +18,9 @@ pub use Rattle.apollo_schema_laws.specs.Rearranged.{AreRearranged, DefinitionsOf
 pub use Rattle.apollo_meaning.specs.Faults.ListFaults.{faults_in, found_of_schema, found_of_type}
 pub use Rattle.apollo_meaning.specs.Faults.RootFaults.{root_fault, root_faults}
 pub use Rattle.apollo_meaning.specs.Faults.TypeComponents.{joined_faults}
-pub use Rattle.apollo_meaning.specs.Faults.TypeFaults.{input_field_entries, input_field_names, joining_fault, kind_mismatch, member_names, redefinition, value_entries, value_names}
+pub use Rattle.apollo_meaning.specs.Faults.TypeFaults.{joining_fault, kind_mismatch, redefinition}
 pub use Rattle.apollo_meaning.specs.Steps.Joining.{type_begun_faults}
 pub use Rattle.apollo_meaning.specs.declared.build_error.BuildError.{BuildError}
 pub use Rattle.apollo_component.proofs.Lists.BySubject.{IsOwn, IsTest, by_subject, chosen-wider, filter-wider, filter_map-wider, own-kept}
-pub use Rattle.apollo_component.proofs.Lists.Cases.{bool_cases, find-first, find-made, list_any-map, lookup-keyed, option_cases}
-pub use Rattle.std.proofs.lemmas.Iterator.Adapters.{option_map_id}
+pub use Rattle.apollo_component.proofs.Lists.Cases.{bool_cases, find-first, find-made, lookup-keyed, option_cases}
 pub use Rattle.apollo_component.proofs.Lists.Reordered.{one-element-permutation}

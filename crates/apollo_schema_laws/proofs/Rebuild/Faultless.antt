@@ -10,8 +10,9 @@ use Rattle.apollo_component.proofs.Lists.EachAfter.{each_after-append}
 use Rattle.apollo_meaning.specs.declared.build_error.BuildError.TheVariants as errors
 use Rattle.apollo_schema_laws.proofs.Lists.{distinct-from_first, distinct-filter, flat_map-none, each-of}
 use Rattle.apollo_schema_laws.proofs.Sections.{joined-values, written-keeps}
-use Rattle.apollo_schema_laws.proofs.Items.{is_about, distinct-front, new-after, about, directives-about, faultless-by_topic, built_ins, HaveEachNameOnce, type-faultless, none-added, none-made}
-use Rattle.apollo_schema_laws.proofs.Types.{once-in_parts, written_parts, once, definition_part, extension_of, written}
+use Rattle.graphql_ast.specs.Parts.{Roots}
+use Rattle.apollo_schema_laws.proofs.Items.{is_about, distinct-front, new-after, about, directives-about, faultless-by_topic, built_ins, type-faultless, none-added, none-made}
+use Rattle.apollo_schema_laws.proofs.Types.{once-in_parts, once, definition_part, extension_of, written}
 use Rattle.apollo_schema_laws.proofs.Definitions.{schema_extension_of, written_parts_of, entries, root_entries, schema-components, schema_sections, roots_where, first_schema-append, schema_node, implied-distinct}
 use Rattle.apollo_schema_laws.proofs.Rebuild.TypesAgain.{fits, flag, is-made, view-type}
 use Rattle.apollo_schema_laws.proofs.Rebuild.DirectivesAgain.{built_in-marked, built_in_directives, find-unmarked, texts, unique_directives, written_directives}
@@ -61,7 +62,7 @@ pub written-distinct : (d : SchemaDefinition) → IsDistinct same_root ((written
 written-distinct d =
     subst (IsDistinct same_root) listed
     (IsDistinct-IsPermutation same_root same_root_laws.symm (map (λ x. x.1) (root_entries d)) (map (λ x. x.1) (joined (λ p. p.roots) (with_origins (written_parts_of d))))
-    (written-keeps (schema_sections d) (written_parts_of d) (ap (λ cs. (by_origin cs).definition) (schema-components d)) (ap (λ cs. map (λ e. e.1) (by_origin cs).extensions) (schema-components d))).roots
+    (written-keeps (schema_sections d) (written_parts_of d) (ap (λ cs. (by_origin cs).definition) (schema-components d)) (ap (λ cs. map (λ e. e.1) (by_origin cs).extensions) (schema-components d)) Roots)
     (entries-distinct d.query d.mutation d.subscription))
   where
     listed : map (λ x. x.1) (joined (λ p. p.roots) (with_origins (written_parts_of d))) ≡ (written_parts_of d).definition.roots ++ roots_in (map schema_extension_of (written_parts_of d).extensions)
@@ -131,13 +132,12 @@ module _ (schema : Schema) (list : IsMeantByList schema) (c : Bool) where
   type-none : (n : List ℕ) (t : ExtendedType) → lookup (by_text n) types ≡ Some t → found (about (TypeNamed n) ys) ≡ []
   type-none n t e =
       let b : Bool = flag schema list c (others schema list c) [] (quiet schema list c) tt n t e in
-      let h : HaveEachNameOnce (written_parts t) = once-in_parts t (once t (is-made schema list n t e)) in
       ap found (ap (about (TypeNamed n)) (sym (alone schema list c))
       ∙ view-type schema list c (others schema list c) [] (quiet schema list c) tt n t e
       ∙ ap (λ l. Defined (record (definition_part t) { ignorable = b }) ∷ l) (sym (map-map Extended (extension_of t) (written t).extensions)))
       ∙ type-faultless (record (definition_part t) { ignorable = b }) (map (extension_of t) (written t).extensions)
       (fits schema list c (others schema list c) [] (quiet schema list c) tt n t e (written t).extensions)
-      (record { interfaces = h.interfaces; members = h.members; fields = h.fields; values = h.values; input_fields = h.input_fields })
+      (once-in_parts t b (once t (is-made schema list n t e)))
 
   schema-items-none : found (about TheSchema ys) ≡ []
   schema-items-none =

@@ -1,89 +1,27 @@
--- A type, and a schema definition, is written out with no more extensions than it was made of: each component
+-- A type, and a schema definition, is written out with no more extensions than it was made of. Each component
 -- comes from one of its parts. So a schema's write-out folds no more extensions than the list that the schema
 -- is of.
-use Rattle.apollo_schema_laws.proofs.Words.Lists.{◌≡◌, List, [], ◌∷◌, None, Option, Some, map, find, flat_map, option_map, refl, sym, subst, ℕ, ◌≤◌, Bool, true, length, ◌∙◌, true≢false, arith, AllByRecursion, cons_option, list_any, IfSome, each-append}
+use Rattle.apollo_schema_laws.proofs.Words.Lists.{◌≡◌, List, [], ◌∷◌, None, Option, Some, map, flat_map, option_map, refl, sym, subst, ℕ, ◌≤◌, Bool, true, false, length, ◌∙◌, true≢false, arith, AllByRecursion, list_any}
 use Rattle.apollo_schema_laws.proofs.Words.Lists.{length-map, ◌+◌, ◌++◌, filter, ap, length-append, filter_map-append, recursion_from_All, All, filter_map, range_with_len, IsDistinct, enumerate_from, option_map_or, unwrap_or, each-weaken, filter_map-numbered}
-use Rattle.apollo_schema_laws.proofs.Words.Syntax.{NameView, NodeView, same_text, values_of, OperationType, Query, Mutation, Subscription, Part, Directive, SourceSpan, Parts, by_text, keys_of, lookup}
-use Rattle.apollo_schema_laws.proofs.Words.Types.{same_key, SourcedPart, sourced, identities, of_extensions, of_origin, origins_in, Component, ComponentName, ComponentOrigin, of_directive, of_name, of_root, schema_components, named_roots, type_components, each-first, list_any-first_of_each, extension_id, same_id, Definition, Extension, ExtensionId, first_of_each-distinct, ExtendedType, SchemaDefinition, name_laws}
-use Rattle.apollo_schema_laws.proofs.Words.Meaning.{EnumBody, InputObjectBody, InterfaceBody, ObjectBody, ScalarBody, SchemaPart, TypeBody, TypePart, UnionBody, SourcedSchema, root_in, roots_of, same_operation, schema_definition_of, schema_directives_of, Sourced, body_fields, body_input_fields, body_interfaces, body_members, body_values, component, component_name, extended_schema}
-use Rattle.apollo_schema_laws.proofs.Words.Meaning.{sourced_directives, distinct_entries, distinct_names, field_entry, input_field_entry, same_component_name, value_entry, type_of_kind, adopted, with_adopted, implied_schema, Added, ListItem, OfSchema, OfType, added_items, extended_part, Extended, Folding, schema_extensions}
+use Rattle.apollo_schema_laws.proofs.Words.Syntax.{NameView, NodeView, same_text, values_of, SourceSpan, Parts, by_text, keys_of, lookup}
+use Rattle.apollo_schema_laws.proofs.Words.Types.{SourcedPart, identities, of_extensions, of_origin, origins_in, ComponentOrigin, schema_components, type_components, list_any-first_of_each, extension_id, same_id, Definition, Extension, ExtensionId, first_of_each-distinct, ExtendedType, SchemaDefinition, name_laws}
+use Rattle.apollo_schema_laws.proofs.Words.Meaning.{SchemaPart, TypePart, extended_schema}
+use Rattle.apollo_schema_laws.proofs.Words.Meaning.{adopted, with_adopted, implied_schema, Added, ListItem, OfSchema, OfType, added_items, extended_part, Extended, Folding, schema_extensions}
 use Rattle.apollo_schema_laws.proofs.Words.Meaning.{first, first_schema, Family, Placed, extension_places, first_place, folded_when, folding_order, is_folded, is_met, met_when, once_if_defined, schemas, times_met, types, folds, whole, Directives, is_handed_in, no_schema, schema_from, schema_parts, of_type, parts, type_from, MeansSchema, Schema}
 use Rattle.apollo_schema_laws.proofs.Words.Written.{written_again}
 use Rattle.std.proofs.lemmas.Map.Made.{length-le_from_is_member}
 use Rattle.std.proofs.lemmas.Map.Steps.{list_any_congr}
 use Rattle.std.proofs.lemmas.List.Sums.{count_by-le-length, length-filter}
 use Rattle.apollo_meaning.specs.Order.SpentIds.{SpendsIds}
-use Rattle.graphql_ast.specs.declared.parts.Part.TheVariants as parts
-use Rattle.apollo_schema_laws.proofs.Lists.{each-flat_map, each-made, each-map, if-found, grouped-few, each-of, passed, same-once}
+use Rattle.apollo_schema_laws.proofs.Lists.{grouped-few, each-of, passed, same-once}
 use Rattle.apollo_schema_laws.proofs.Sections.{each-among, is_among, ids_in, same_id-equiv}
-use Rattle.apollo_schema_laws.proofs.Types.{made, written, numbers_of, schema_numbers, extension_of, held_items}
-use Rattle.apollo_schema_laws.proofs.Definitions.{root_under, made_schema, written_parts_of, schema_extension_of}
+use Rattle.apollo_schema_laws.proofs.Types.{each-of_schema, each-of_type, made, written, numbers_of, schema_numbers, extension_of, held_items}
+use Rattle.apollo_schema_laws.proofs.Definitions.{made_schema, written_parts_of, schema_extension_of}
 use Rattle.apollo_schema_laws.proofs.Items.{adopted-unchosen, by_implied, each-entry}
 use Rattle.apollo_schema_laws.proofs.Rebuild.TypesAgain.{unique}
 use Rattle.apollo_schema_laws.proofs.Rebuild.WrittenList.{list-extended, list-schema_extensions}
 use Rattle.apollo_schema_laws.proofs.Rebuild.Canonical.{items-listed}
 use Rattle.apollo_meaning.proofs.Order.OnceLemmas.{each-met-once}
-
-module _ (P : ComponentOrigin → Type 0) where
-  -- it holds of the origin of a component
-  abbrev From : SourcedPart → Type 0
-  From c = P c.0
-
-  -- what is made of one sort of the parts
-  each-sourced : {S A C : Type 0} (origin : C → ComponentOrigin) (make : ComponentOrigin → A → C) → ((o : ComponentOrigin) (a : A) → origin (make o a) ≡ o) → (sort : S → List A) (ps : List (ComponentOrigin × S))
-      → AllByRecursion (λ s. P s.0) ps → AllByRecursion (λ c. P (origin c)) (flat_map (λ s. map (make s.0) (sort s.1)) ps)
-  each-sourced origin make is sort ps a =
-      each-flat_map (λ c. P (origin c)) (λ s. map (make s.0) (sort s.1)) ps
-      (each-weaken (λ s. P s.0) (λ s. AllByRecursion (λ c. P (origin c)) (map (make s.0) (sort s.1))) (λ s own. each-made (λ c. P (origin c)) (make s.0) (λ x. subst P (sym (is s.0 x)) own) (sort s.1)) ps a)
-
-  -- the components of a type
-  module _ (ps : List Sourced) (a : AllByRecursion (λ s. P s.0) ps) where
-    directives : AllByRecursion From (map of_directive (flat_map sourced_directives ps))
-    directives =
-        each-map From of_directive (flat_map sourced_directives ps) (each-sourced (λ (c : Component Directive). c.origin) component (λ o n. refl) (λ (p : TypePart). p.directives) ps a)
-
-    names : (of : TypePart → List NameView) → AllByRecursion From (map of_name (distinct_names (flat_map (λ s. map (component_name s.0) (of s.1)) ps)))
-    names of =
-        let all : List ComponentName = flat_map (λ (s : Sourced). map (component_name s.0) (of s.1)) ps in
-        each-map From of_name (distinct_names all) (each-first (λ (c : ComponentName). P c.origin) same_component_name all (each-sourced (λ (c : ComponentName). c.origin) component_name (λ o n. refl) of ps a))
-
-    entries : {T : Type 0} (entry : ComponentOrigin → NodeView T → NameView × Component T) → ((o : ComponentOrigin) (n : NodeView T) → (entry o n).1.origin ≡ o) → (part : NodeView T → Part)
-        → (of : TypePart → List (NodeView T)) → AllByRecursion From (map (sourced part) (values_of (distinct_entries (flat_map (λ s. map (entry s.0) (of s.1)) ps))))
-    entries {T} entry is part of =
-        let all : List (NameView × Component T) = flat_map (λ (s : Sourced). map (entry s.0) (of s.1)) ps in
-        each-map From (sourced part) (values_of (distinct_entries all))
-        (each-map (λ (c : Component T). P c.origin) (λ (e : NameView × Component T). e.1) (distinct_entries all) (each-first (λ (e : NameView × Component T). P e.1.origin) (same_key same_text) all
-        (each-sourced (λ (e : NameView × Component T). e.1.origin) entry is of ps a)))
-
-    pub each-of_type : (body : TypeBody) (head : TypePart) → AllByRecursion From (type_components (type_of_kind body head ps))
-    each-of_type ScalarBody head = directives
-    each-of_type (ObjectBody interfaces fields) head =
-        each-append From _ _ (each-append From _ _ directives (names (λ p. body_interfaces p.body))) (entries field_entry (λ o n. refl) parts.Field (λ p. body_fields p.body))
-    each-of_type (InterfaceBody interfaces fields) head =
-        each-append From _ _ (each-append From _ _ directives (names (λ p. body_interfaces p.body))) (entries field_entry (λ o n. refl) parts.Field (λ p. body_fields p.body))
-    each-of_type (UnionBody members) head = each-append From _ _ directives (names (λ p. body_members p.body))
-    each-of_type (EnumBody values) head = each-append From _ _ directives (entries value_entry (λ o n. refl) parts.EnumValue (λ p. body_values p.body))
-    each-of_type (InputObjectBody fields) head = each-append From _ _ directives (entries input_field_entry (λ o n. refl) parts.InputField (λ p. body_input_fields p.body))
-
-  -- and those of the schema's definition
-  module _ (ps : List SourcedSchema) (a : AllByRecursion (λ s. P s.0) ps) where
-    root : (op : OperationType) (rest : List (OperationType × ComponentName)) → AllByRecursion (λ r. P r.1.origin) rest → AllByRecursion (λ r. P r.1.origin) (cons_option (option_map (λ n. (op, n)) (root_in op ps)) rest)
-    root op rest b = by (find (λ r. same_operation op r.0) (flat_map roots_of ps))
-        (if-found (λ (r : OperationType × ComponentName). P r.1.origin) (λ r. same_operation op r.0) (flat_map roots_of ps)
-        (each-sourced (λ (r : OperationType × ComponentName). r.1.origin) root_under (λ o r. refl) (λ (s : SchemaPart). s.roots) ps a))
-      where
-        by : (o : Option (OperationType × ComponentName)) → IfSome o (λ r. P r.1.origin) → AllByRecursion (λ r. P r.1.origin) (cons_option (option_map (λ n. (op, n)) (option_map (λ r. r.1) o)) rest)
-        by None h = b
-        by (Some r) h = (h, b)
-
-    pub each-of_schema : (head : SchemaPart) → AllByRecursion From (schema_components (schema_definition_of head ps))
-    each-of_schema head =
-        let roots : List (OperationType × ComponentName) = named_roots (schema_definition_of head ps) in
-        let subscriptions : List (OperationType × ComponentName) = cons_option (option_map (λ n. (Subscription, n)) (root_in Subscription ps)) [] in
-        let mutations : List (OperationType × ComponentName) = cons_option (option_map (λ n. (Mutation, n)) (root_in Mutation ps)) subscriptions in
-        each-append From (map of_directive (flat_map schema_directives_of ps)) (map of_root roots)
-        (each-map From of_directive (flat_map schema_directives_of ps) (each-sourced (λ (c : Component Directive). c.origin) component (λ o n. refl) (λ (s : SchemaPart). s.directives) ps a))
-        (each-map From of_root roots (root Query mutations (root Mutation subscriptions (root Subscription [] tt))))
 
 -- components whose origins are among these identities have no others
 among-there : (ids : List ExtensionId) (e : ExtensionId) (cs : List SourcedPart) → AllByRecursion (λ c. is_among ids c.0 ≡ true) cs → list_any (same_id e) (ids_in cs) ≡ true → list_any (same_id e) ids ≡ true
@@ -116,7 +54,7 @@ module _ {P : Type 0} (location : P → Option SourceSpan) where
 pub type-few : (head : TypePart) (es : List (ℕ × TypePart)) → length (written (made head es)).extensions ≤ length es
 type-few head es =
     let ps : List (ComponentOrigin × TypePart) = (Definition, head) ∷ extensions_from (λ (p : TypePart). p.location) es in
-    made-few (λ (p : TypePart). p.location) head es (type_components (made head es)) (each-of_type (λ o. is_among (ids_in ps) o ≡ true) ps (each-among ps) head.body head)
+    made-few (λ (p : TypePart). p.location) head es (type_components (made head es)) (each-of_type (λ o. is_among (ids_in ps) o ≡ true) ps (each-among ps) head.kind head)
 
 pub schema-few : (head : SchemaPart) (es : List (ℕ × SchemaPart)) → length (written_parts_of (made_schema head es)).extensions ≤ length es
 schema-few head es =

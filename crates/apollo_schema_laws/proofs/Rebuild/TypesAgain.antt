@@ -4,9 +4,9 @@ use Rattle.apollo_schema_laws.proofs.Words.Syntax.{is_built_in, entries_by_text,
 use Rattle.apollo_schema_laws.proofs.Words.Types.{first_of_each, ExtensionId, bare_extended_type, type_location, type_name, ExtendedType, name_laws, first_of_each-distinct}
 use Rattle.apollo_schema_laws.proofs.Words.Meaning.{ListItem, Defined, Extended, defined_part, extended_part, first, extensions_of, of_kind, TypePart, kind_of, folding_order, whole, Sourced, AreTypesOf, extension_part, type_names, type_from, parts, Schema, TypeNamed}
 use Rattle.apollo_schema_laws.proofs.Words.Written.{IsMeantByList, with_built_ins}
-use Rattle.apollo_schema_laws.proofs.Lists.{first_of_each-again, new_to_these, each-both, each-from_map, passes}
+use Rattle.apollo_schema_laws.proofs.Lists.{first_of_each-again, new_to_these, each-both, each-from_map, each-made, passes}
 use Rattle.apollo_schema_laws.proofs.Items.{about, is_about, first-about, extensions-about, built_ins, built_in_names, about-built_ins, first-built_in, first-unmarked, handed, later_items, whole-split, each-entry, values-by_keys, defined_names, defined_names-append, names-of_first, among-defined, first-key, Fits, fits-of_kind}
-use Rattle.apollo_schema_laws.proofs.Types.{numbers_of, numbers-rise, rising-distinct, IsAgain, made, rebuilt, definition-own, written, definition_part, extension_of, kind-body, held_items, extension_items, about-types, defines-types, IsMadeBy}
+use Rattle.apollo_schema_laws.proofs.Types.{numbers_of, numbers-rise, rising-distinct, IsAgain, made, rebuilt, definition-own, written, definition_part, extension_of, held_items, extension_items, about-types, defines-types, IsMadeBy}
 use Rattle.apollo_meaning.proofs.Items.ItemLemmas.{first-append}
 use Rattle.apollo_meaning.proofs.Order.FoldedLemmas.{folded-of_name}
 use Rattle.apollo_meaning.proofs.Order.FoldingLemmas.{type_location-from, type_name-from}
@@ -112,7 +112,7 @@ module _ (schema : Schema) (list : IsMeantByList schema) where
         by None e = (c, (λ i. (about-built_ins n ∙ ap (λ o. option_map_or (λ d. Defined d ∷ []) o []) e) i ++ cond (marked-where None e i) (extension_items c t) (Defined (record (definition_part t) { ignorable = c }) ∷ extension_items c t)))
         by (Some b) e =
             let head_is : m.made_of.head ≡ b = ap (λ o. unwrap_or o b) (sym m.first_one ∙ first-split n ∙ ap (λ o. option_or o (first (later_items adopts more) n)) e) in
-            let own : definition_part t ≡ b = ap definition_part (m.made_of.is ∙ ap (λ p. made p m.made_of.extensions) head_is) ∙ definition-own b m.made_of.extensions (first-built_in n b e).plain (first-built_in n b e).once in (
+            let own : definition_part t ≡ b = ap definition_part (m.made_of.is ∙ ap (λ p. made p m.made_of.extensions) head_is) ∙ definition-own b m.made_of.extensions (first-built_in n b e).of_kind (first-built_in n b e).once (first-built_in n b e).plain in (
               false,
               (λ i. (about-built_ins n ∙ ap (λ o. option_map_or (λ d. Defined d ∷ []) o []) e) i ++ cond (marked-where (Some b) e i) (extension_items c t) (Defined (record (definition_part t) { ignorable = c }) ∷ extension_items c t))
                   ∙ ap (λ p. Defined p ∷ extension_items c t) (sym own),
@@ -159,8 +159,8 @@ module _ (schema : Schema) (list : IsMeantByList schema) where
           go (e ∷ es) = ap (λ b. cond b (extension_of t e ∷ extensions_of (map (λ e. Extended (extension_of t e)) es) n) (extensions_of (map (λ e. Extended (extension_of t e)) es) n)) (key n t found) ∙ ap (λ l. extension_of t e ∷ l) (go es)
 
       pub fits : (es : List (ExtensionId × Parts)) → AllByRecursion (Fits (record (definition_part t) { ignorable = flag })) (map (extension_of t) es)
-      fits [] = tt
-      fits (e ∷ es) = ((refl, kind-body _ e.1 ∙ sym (kind-body _ (written t).definition)), fits es)
+      fits es = each-made (Fits (record (definition_part t) { ignorable = flag })) (extension_of t)
+          (λ e. (refl, refl)) es
 
       numbers-again : (again : ℕ) → map (λ e. e.1) (numbers_of n again (folding_order again_items)) ≡ map (extension_of t) (written t).extensions
       numbers-again again =

@@ -9,7 +9,7 @@ use Rattle.graphql_nodes.specs.declared.type_kind.TypeKind.TheVariants as kinds
 use Rattle.graphql_ast.specs.declared.definition.Definition.TheVariants as ast
 use Rattle.apollo_schema_laws.proofs.Lists.{each-flat_map, each-made, each-of, flat_map-none}
 use Rattle.apollo_schema_laws.proofs.Items.{about, directives-about, first_schema-about, is_about, schema_extensions-about, built_ins, no-extensions, extensions-about, first-about, by_implied, items}
-use Rattle.apollo_schema_laws.proofs.Types.{written, definition_part, extension_of, document_items, document_items-append, extension_items, held_items, kind-body}
+use Rattle.apollo_schema_laws.proofs.Types.{written, definition_part, extension_of, document_items, document_items-append, extension_items, held_items}
 use Rattle.apollo_schema_laws.proofs.Definitions.{schema_extension_of, written_parts_of, roots_where, schema_node}
 use Rattle.apollo_schema_laws.proofs.Rebuild.TypesAgain.{IsQuiet, extends-quiet, again_items, first-again, meant, unmeant, view-nothing}
 use Rattle.apollo_schema_laws.proofs.Rebuild.DirectivesAgain.{written_directives}
@@ -227,7 +227,7 @@ module _ (schema : Schema) (list : IsMeantByList schema) (c : Bool) where
   object-again n = option_cases (lookup (by_text n) types)
       (λ e. ap (λ o. option_map_or (λ p. same_kind kinds.Object (kind_of p)) o false) (first-about n Y ∙ ap (λ l. first l n) (first-nothing n e)) ∙ sym (ap is_some_object e))
       (λ t e. ap (λ o. option_map_or (λ p. same_kind kinds.Object (kind_of p)) o false) (ap (λ l. first l n) (sym alone) ∙ first-again schema list c others [] quiet tt n t e)
-      ∙ ap (same_kind kinds.Object) (kind-body (type_kind t) (written t).definition) ∙ sym (object-kind t) ∙ sym (ap is_some_object e))
+      ∙ sym (object-kind t) ∙ sym (ap is_some_object e))
 
   abbrev pub implied_here : List Root
   implied_here = roots_where (object_at types Query) (object_at types Mutation) (object_at types Subscription)

@@ -1,11 +1,11 @@
 -- The parts that are written out have all components of the sections, and the directives in order.
 use Rattle.apollo_schema_laws.proofs.Words.Lists.{map-id, ◌≡◌, Bool, true, false, List, [], ◌∷◌, ◌++◌, map, filter, refl, sym, ap, subst, ◌∙◌, true≢false, arith, or_right, not-true, flat_map-map, IsPermutation-map, map-map, IsEquivalence, AllByRecursion, IsDistinct, cons_option, flat_map, list_any, IsPermutation, each-weaken, each-filter, flat_map-each, append-nil, flat_map-append, map-flat_map, list_any-map}
-use Rattle.apollo_schema_laws.proofs.Words.Syntax.{Part, Parts, NodeView, Directive}
+use Rattle.apollo_schema_laws.proofs.Words.Syntax.{Parts, NodeView, Directive}
 use Rattle.apollo_schema_laws.proofs.Words.Types.{id_of, same_id, same_origin, SourcedPart, origins_in, identities, of_origin, of_extensions, ComponentOrigin, Definition, Extension, ExtensionId, PartsByOrigin, list_any-first_of_each, first_of_each-distinct, first_of_each}
 use Rattle.apollo_schema_laws.proofs.Words.Written.{Sections, HasSameComponents, as_parts, in_sections, with_origins, joined, sections_of}
-use Rattle.graphql_ast.specs.declared.parts.Part.TheVariants as parts
-use Rattle.apollo_schema_laws.proofs.Lists.{each-from_map, each-made, keys-distinct, each-split, groups, passes, new_to_these, first_of_each-append, marked, first-shown, flat_map-nothing}
-use Rattle.apollo_schema_laws.proofs.Sections.SectionLemmas.{same_id-equiv, ids_in, picked, of_origin-sections, ids_in-sections, of-alone, definition-alone, each-alone, extension-alone, shown-joined, marks, has_some, has_some-picked}
+use Rattle.graphql_ast.specs.Parts.{Sort, Directives, Names, Fields, Values, InputFields, Roots, listed, part_of, sorts}
+use Rattle.apollo_schema_laws.proofs.Lists.{each-flat_map_back, each-from_map, each-made, keys-distinct, groups, passes, new_to_these, first_of_each-append, marked, first-shown, flat_map-nothing}
+use Rattle.apollo_schema_laws.proofs.Sections.SectionLemmas.{same_id-equiv, ids_in, at_sort, picked, sort-picked, ids_in-sections, of-alone, definition-alone, each-alone, extension-alone, shown-joined, marks, has_some, has_some-picked}
 
 same_origin-equiv : IsEquivalence same_origin
 same_origin-equiv = record { refl = itself; symm = both-ways; congr = alike }
@@ -59,9 +59,6 @@ module _ (s : Sections) (p : PartsByOrigin) (same_definition : p.definition ≡ 
   abbrev pub HasOrigins : {A : Type 0} → List (ComponentOrigin × A) → Type 0
   HasOrigins xs = AllByRecursion (λ x. list_any (λ a. same_origin a x.0) origins ≡ true) xs
 
-  pub origins-split : {A : Type 0} (xs ys : List (ComponentOrigin × A)) → HasOrigins (xs ++ ys) → HasOrigins xs × HasOrigins ys
-  origins-split xs ys a = each-split (λ x. list_any (λ a. same_origin a x.0) origins ≡ true) xs ys a
-
   -- the written parts have of one sort what is picked of each origin
   pub written-values : {A : Type 0} (sort : Parts → List A) (xs : List (ComponentOrigin × A)) → ((o : ComponentOrigin) → sort (of_origin o (in_sections s)) ≡ picked o xs)
       → map (λ x. x.1) (joined sort (with_origins p)) ≡ picked Definition xs ++ flat_map (λ e. picked (Extension e) xs) ids
@@ -83,35 +80,16 @@ module _ (s : Sections) (p : PartsByOrigin) (same_definition : p.definition ≡ 
   abbrev Among : SourcedPart → Type 0
   Among c = list_any (λ a. same_origin a c.0) origins ≡ true
 
-  section : {A : Type 0} (part : A → Part) (xs : List (ComponentOrigin × A)) → AllByRecursion Among (as_parts part xs) → HasOrigins xs
-  section part xs there = each-from_map (λ c. list_any (λ a. same_origin a c.0) origins ≡ true) (λ x. (x.0, part x.1)) xs there
-
   all_there : AllByRecursion Among (in_sections s)
   all_there = each-weaken (λ c. is_among (ids_in (in_sections s)) c.0 ≡ true) (λ c. list_any (λ a. same_origin a c.0) origins ≡ true) (λ c h. has_origin c.0 h) (in_sections s) (each-among (in_sections s))
 
-  -- section by section
-  sections-there : HasOrigins s.directives × HasOrigins s.names × HasOrigins s.fields × HasOrigins s.values × HasOrigins s.input_fields × HasOrigins s.roots
-  sections-there =
-      let a = each-split Among (as_parts parts.Directive s.directives) _ all_there in
-      let b = each-split Among (as_parts parts.Name s.names) _ a.1 in
-      let c = each-split Among (as_parts parts.Field s.fields) _ b.1 in
-      let d = each-split Among (as_parts parts.EnumValue s.values) _ c.1 in
-      let e = each-split Among (as_parts parts.InputField s.input_fields) _ d.1 in
-      let f = each-split Among (as_parts parts.Root s.roots) _ e.1 in
-      (section parts.Directive s.directives a.0, section parts.Name s.names b.0, section parts.Field s.fields c.0, section parts.EnumValue s.values d.0, section parts.InputField s.input_fields e.0, section parts.Root s.roots f.0)
-
-  pub roots-there : HasOrigins s.roots
-  roots-there = sections-there.5
+  pub sort-there : (sort : Sort) → HasOrigins (s sort)
+  sort-there sort = each-from_map Among (λ x. (x.0, part_of sort x.1)) (s sort)
+      (at_sort (λ t. AllByRecursion Among (as_parts (part_of t) (s t)))
+      (each-flat_map_back Among (λ t. as_parts (part_of t) (s t)) sorts all_there) sort)
 
   pub written-keeps : HasSameComponents s (sections_of p)
-  written-keeps = record {
-    directives = kept (λ d. d.directives) s.directives (λ o. ap (λ d. d.directives) (of_origin-sections o s)) sections-there.0;
-    names = kept (λ d. d.names) s.names (λ o. ap (λ d. d.names) (of_origin-sections o s)) sections-there.1;
-    fields = kept (λ d. d.fields) s.fields (λ o. ap (λ d. d.fields) (of_origin-sections o s)) sections-there.2;
-    values = kept (λ d. d.values) s.values (λ o. ap (λ d. d.values) (of_origin-sections o s)) sections-there.3;
-    input_fields = kept (λ d. d.input_fields) s.input_fields (λ o. ap (λ d. d.input_fields) (of_origin-sections o s)) sections-there.4;
-    roots = kept (λ d. d.roots) s.roots (λ o. ap (λ d. d.roots) (of_origin-sections o s)) sections-there.5;
-  }
+  written-keeps sort = kept (λ d. listed d sort) (s sort) (λ o. sort-picked o s sort) (sort-there sort)
 
 -- what a filter leaves out may be empty
 flat_map-filter : {X Y : Type 0} (f : X → List Y) (p : X → Bool) → ((x : X) → p x ≡ false → f x ≡ []) → (xs : List X) → flat_map f (filter p xs) ≡ flat_map f xs
@@ -164,13 +142,13 @@ module _ (q : PartsByOrigin) (distinct : IsDistinct same_id (map (λ e. e.0) q.e
       ∙ (simp (flat_map-append, of_first, of_later (first_of_each same_id later), append-nil, of-alone Definition of_parts (with_origins q) (Definition, q.definition) (definition-alone q), flat_map-map))
       ∙ sym (joined-values of_parts (with_origins q))
 
-pub directives-in_order : (s : Sections) (q p : PartsByOrigin) → IsDistinct same_id (map (λ e. e.0) q.extensions) → s.directives ≡ (sections_of q).directives
+pub directives-in_order : (s : Sections) (q p : PartsByOrigin) → IsDistinct same_id (map (λ e. e.0) q.extensions) → s Directives ≡ sections_of q Directives
     → p.definition ≡ of_origin Definition (in_sections s) → map (λ e. e.1) p.extensions ≡ map (λ e. e.1) (of_extensions (in_sections s))
-    → map (λ d. d.1) (sections_of p).directives ≡ map (λ d. d.1) s.directives
+    → map (λ d. d.1) (sections_of p Directives) ≡ map (λ d. d.1) (s Directives)
 directives-in_order s q p distinct first same_definition same_parts =
-    let later : List ExtensionId = flat_map (λ ids. ids) (ids_in s.names ∷ ids_in s.fields ∷ ids_in s.values ∷ ids_in s.input_fields ∷ ids_in s.roots ∷ []) in
-    written-values s p same_definition same_parts of_parts s.directives (λ o. ap of_parts (of_origin-sections o s))
-    ∙ ap (λ l. picked Definition s.directives ++ flat_map (λ e. picked (Extension e) s.directives) (first_of_each same_id l)) (ids_in-sections s)
+    let later : List ExtensionId = flat_map (λ ids. ids) (map (λ t. ids_in (s t)) (Names ∷ Fields ∷ Values ∷ InputFields ∷ Roots ∷ [])) in
+    written-values s p same_definition same_parts of_parts (s Directives) (λ o. sort-picked o s Directives)
+    ∙ ap (λ l. picked Definition (s Directives) ++ flat_map (λ e. picked (Extension e) (s Directives)) (first_of_each same_id l)) (ids_in-sections s)
     ∙ ap (λ ds. picked Definition ds ++ flat_map (λ e. picked (Extension e) ds) (first_of_each same_id (ids_in ds ++ later))) first
     ∙ all_directives q distinct later
     ∙ ap (map (λ d. d.1)) (sym first)

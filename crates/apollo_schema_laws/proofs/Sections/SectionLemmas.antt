@@ -3,8 +3,7 @@ use Rattle.apollo_schema_laws.proofs.Words.Lists.{◌≡◌, Bool, true, false, 
 use Rattle.apollo_schema_laws.proofs.Words.Syntax.{Part, Parts}
 use Rattle.apollo_schema_laws.proofs.Words.Types.{id_of, number_of, same_id, same_origin, first_of_each, SourcedPart, origins_in, identities, of_origin, of_extensions, by_origin, ComponentOrigin, Definition, Extension, ExtensionId, PartsByOrigin}
 use Rattle.apollo_schema_laws.proofs.Words.Written.{Sections, as_parts, in_sections, with_origins, joined, sections_of}
-use Rattle.graphql_ast.specs.Parts.{Directives, Names, Fields, Values, InputFields, Roots, of_sort}
-use Rattle.graphql_ast.specs.declared.parts.Part.TheVariants as parts
+use Rattle.graphql_ast.specs.Parts.{Sort, Directives, Names, Fields, Values, InputFields, Roots, listed, of_sort, part_of, sorts, with_lists}
 use Rattle.apollo_schema_laws.proofs.Lists.{in_order, is_nothing, in_order-map, first-in_order, filter_map-none, filter_map-some, map-each, each-made, own-group, marked, shown, first-shown_again}
 
 pub same_id-equiv : IsEquivalence same_id
@@ -19,7 +18,7 @@ ids_in-append xs ys = ap (filter_map id_of) (map-append (λ x. x.0) xs ys) ∙ f
 
 -- the identities of each section
 abbrev section_ids : Sections → List (List ExtensionId)
-section_ids s = ids_in s.directives ∷ ids_in s.names ∷ ids_in s.fields ∷ ids_in s.values ∷ ids_in s.input_fields ∷ ids_in s.roots ∷ []
+section_ids s = map (λ sort. ids_in (s sort)) sorts
 
 pub ids_in-sections : (s : Sections) → ids_in (in_sections s) ≡ flat_map (λ ids. ids) (section_ids s)
 ids_in-sections s = simp (ids_in-append, map-map)
@@ -38,42 +37,28 @@ module _ (origin : ComponentOrigin) where
   found-in part which (x ∷ xs) = grind (arith, found-in part which xs)
 
   module _ (s : Sections) where
-    -- a choice that takes one sort finds that section
-    found : {A : Type 0} (which : Part → Option A) (l : List A)
-        → filter_map (λ a. which (parts.Directive a)) (picked s.directives) ++ (filter_map (λ a. which (parts.Name a)) (picked s.names) ++ (filter_map (λ a. which (parts.Field a)) (picked s.fields)
-        ++ (filter_map (λ a. which (parts.EnumValue a)) (picked s.values) ++ (filter_map (λ a. which (parts.InputField a)) (picked s.input_fields) ++ (filter_map (λ a. which (parts.Root a)) (picked s.roots) ++ []))))) ≡ l
-        → filter_map which (picked (in_sections s)) ≡ l
-    found which l e = simp (
-      picked-append,
-      filter_map-append,
-      found-in parts.Directive which s.directives,
-      found-in parts.Name which s.names,
-      found-in parts.Field which s.fields,
-      found-in parts.EnumValue which s.values,
-      found-in parts.InputField which s.input_fields,
-      found-in parts.Root which s.roots,
-    ) e
+    found : {A : Type 0} (which : Part → Option A) (ss : List Sort)
+        → filter_map which (picked (flat_map (λ sort. as_parts (part_of sort) (s sort)) ss))
+        ≡ flat_map (λ sort. filter_map (λ a. which (part_of sort a)) (picked (s sort))) ss
+    found which [] = refl
+    found which (sort ∷ ss) =
+        simp (picked-append, filter_map-append, found-in (part_of sort) which (s sort), found which ss)
 
     -- what is of one origin, sort by sort
     abbrev pub parts_in : Parts
-    parts_in = record {
-      directives = picked s.directives;
-      names = picked s.names;
-      fields = picked s.fields;
-      values = picked s.values;
-      input_fields = picked s.input_fields;
-      roots = picked s.roots;
-    }
+    parts_in = with_lists (λ sort. picked (s sort))
+
+    picked-sort : (sort : Sort) → filter_map (of_sort sort) (picked (in_sections s)) ≡ picked (s sort)
+    picked-sort Directives =
+        found (of_sort Directives) sorts ∙ simp (filter_map-some, filter_map-none, append-nil)
+    picked-sort sort = found (of_sort sort) sorts ∙ simp (filter_map-some, filter_map-none, append-nil)
 
     pub of_origin-sections : of_origin origin (in_sections s) ≡ parts_in
-    of_origin-sections = (λ i. record {
-      directives = found (of_sort Directives) (picked s.directives) (simp (filter_map-some, filter_map-none, append-nil)) i;
-      names = found (of_sort Names) (picked s.names) (simp (filter_map-some, filter_map-none, append-nil)) i;
-      fields = found (of_sort Fields) (picked s.fields) (simp (filter_map-some, filter_map-none, append-nil)) i;
-      values = found (of_sort Values) (picked s.values) (simp (filter_map-some, filter_map-none, append-nil)) i;
-      input_fields = found (of_sort InputFields) (picked s.input_fields) (simp (filter_map-some, filter_map-none, append-nil)) i;
-      roots = found (of_sort Roots) (picked s.roots) (simp (filter_map-some, filter_map-none, append-nil)) i;
-    })
+    of_origin-sections = λ i. with_lists (λ sort. picked-sort sort i)
+
+    pub sort-picked : (sort : Sort) → listed (of_origin origin (in_sections s)) sort ≡ picked (s sort)
+    sort-picked Directives = picked-sort Directives
+    sort-picked sort = picked-sort sort
 
   -- of joined parts
   pub picked-of : {A : Type 0} (o : ComponentOrigin) (xs : List A) → picked (map (λ x. (o, x)) xs) ≡ cond (same_origin origin o) xs []
@@ -89,14 +74,9 @@ module _ (origin : ComponentOrigin) where
   of-alone sort gs g alone = picked-joined sort gs ∙ ap (flat_map (λ g. sort g.1)) alone ∙ append-nil (sort g.1)
 
   of_origin-again : (p : PartsByOrigin) (g : ComponentOrigin × Parts) → filter (λ g. same_origin origin g.0) (with_origins p) ≡ g ∷ [] → of_origin origin (in_sections (sections_of p)) ≡ g.1
-  of_origin-again p g alone = of_origin-sections (sections_of p) ∙ (λ i. record {
-    directives = of-alone (λ d. d.directives) (with_origins p) g alone i;
-    names = of-alone (λ d. d.names) (with_origins p) g alone i;
-    fields = of-alone (λ d. d.fields) (with_origins p) g alone i;
-    values = of-alone (λ d. d.values) (with_origins p) g alone i;
-    input_fields = of-alone (λ d. d.input_fields) (with_origins p) g alone i;
-    roots = of-alone (λ d. d.roots) (with_origins p) g alone i;
-  })
+  of_origin-again p g alone =
+      of_origin-sections (sections_of p)
+      ∙ (λ i. with_lists (λ sort. of-alone (λ d. listed d sort) (with_origins p) g alone i))
 
 -- a mark for each of these
 abbrev pub marks : {A : Type 0} → List A → List (Unit {0})
@@ -110,8 +90,8 @@ pub has_some-picked : {A : Type 0} (id : ExtensionId) (xs : List (ComponentOrigi
 has_some-picked id [] = refl
 has_some-picked id (x ∷ xs) = grind (arith, has_some-picked id xs)
 
--- the parts of extensions are written in the order in which these tests take them, where what they see is
--- which of the identities there are
+-- the parts of extensions are written in the order in which these tests take them, where tests see which of
+-- the identities there are
 pub written-in_order : (cs : List SourcedPart) (tests : List (Parts → Bool)) (lists : List (List ExtensionId)) → ids_in cs ≡ flat_map (λ ids. ids) lists
     → map {B = ExtensionId → Bool} (λ t e. t (of_origin (Extension e) cs)) tests ≡ map (λ ids e. list_any (same_id e) ids) lists → in_order tests (map (λ e. e.1) (of_extensions cs)) ≡ true
 written-in_order cs tests lists listed seen =
@@ -121,13 +101,15 @@ written-in_order cs tests lists listed seen =
     ∙ first-in_order same_id same_id-equiv lists
 
 -- whether parts have some of each sort
-abbrev sorts : List (Parts → Bool)
-sorts = (λ d. has_some d.directives) ∷ (λ d. has_some d.names) ∷ (λ d. has_some d.fields) ∷ (λ d. has_some d.values) ∷ (λ d. has_some d.input_fields) ∷ (λ d. has_some d.roots) ∷ []
+abbrev have_some : List (Parts → Bool)
+have_some = map (λ sort d. has_some (listed d sort)) sorts
 
-sections-in_order : (s : Sections) → in_order sorts (map (λ e. e.1) (of_extensions (in_sections s))) ≡ true
+sections-in_order : (s : Sections) → in_order have_some (map (λ e. e.1) (of_extensions (in_sections s))) ≡ true
 sections-in_order s =
-    written-in_order (in_sections s) sorts (section_ids s) (ids_in-sections s) (ap (λ (f : ExtensionId → Parts). map (λ t e. t (f e)) sorts) (λ i e. of_origin-sections (Extension e) s i) ∙ (λ i. seen s.directives i
-    ∷ seen s.names i ∷ seen s.fields i ∷ seen s.values i ∷ seen s.input_fields i ∷ seen s.roots i ∷ []))
+    written-in_order (in_sections s) have_some (section_ids s) (ids_in-sections s)
+    (ap (λ (f : ExtensionId → Parts). map (λ t e. t (f e)) have_some)
+    (λ i e. of_origin-sections (Extension e) s i)
+    ∙ (λ i. map (λ sort. seen (s sort) i) sorts))
   where
     seen : {A : Type 0} (xs : List (ComponentOrigin × A)) → ◌≡◌ {A = ExtensionId → Bool} (λ e. has_some (picked (Extension e) xs)) (λ e. list_any (same_id e) (ids_in xs))
     seen xs = λ i e. has_some-picked e xs i
@@ -172,16 +154,25 @@ module _ (p : PartsByOrigin) (distinct : IsDistinct same_id (map (λ e. e.0) p.e
           ∙ map-each (λ e. (e.0, of_origin (Extension e.0) cs)) (λ e. e) p.extensions (each-weaken (λ e. of_origin (Extension e.0) cs ≡ e.1) (λ e. (e.0, of_origin (Extension e.0) cs) ≡ e) (λ e same. ap (λ d. (e.0, d)) same) p.extensions each)
           ∙ map-id p.extensions
 
-  written-again : in_order sorts (map (λ e. e.1) p.extensions) ≡ true → by_origin (in_sections (sections_of p)) ≡ p
+  written-again : in_order have_some (map (λ e. e.1) p.extensions) ≡ true → by_origin (in_sections (sections_of p)) ≡ p
   written-again ordered =
-      parts-again (in_sections (sections_of p)) all_marks (ids_in-sections (sections_of p) ∙ shown_all) (sym (in_order-map (λ e. e.1) sorts p.extensions) ∙ ordered) (of_origin-again Definition p (Definition, p.definition) (definition-alone p))
+      parts-again (in_sections (sections_of p)) all_marks (ids_in-sections (sections_of p) ∙ shown_all) (sym (in_order-map (λ e. e.1) have_some p.extensions) ∙ ordered) (of_origin-again Definition p (Definition, p.definition) (definition-alone p))
       (each-weaken (λ e. filter (λ h. same_id e.0 h.0) p.extensions ≡ e ∷ []) (λ e. of_origin (Extension e.0) (in_sections (sections_of p)) ≡ e.1) (λ e alone. of_origin-again (Extension e.0) p (Extension e.0, e.1) (extension-alone p e alone)) p.extensions each-alone)
     where
       all_marks : List (ExtensionId × Parts → List (Unit {0}))
-      all_marks = (λ e. marks e.1.directives) ∷ (λ e. marks e.1.names) ∷ (λ e. marks e.1.fields) ∷ (λ e. marks e.1.values) ∷ (λ e. marks e.1.input_fields) ∷ (λ e. marks e.1.roots) ∷ []
+      all_marks = map (λ sort e. marks (listed e.1 sort)) sorts
 
       shown_all : flat_map (λ ids. ids) (section_ids (sections_of p)) ≡ flat_map (λ m. shown (λ e. e.0) m p.extensions) all_marks
-      shown_all = (λ i. shown-joined p (λ d. d.directives) i ++ (shown-joined p (λ d. d.names) i ++ (shown-joined p (λ d. d.fields) i ++ (shown-joined p (λ d. d.values) i ++ (shown-joined p (λ d. d.input_fields) i ++ (shown-joined p (λ d. d.roots) i ++ []))))))
+      shown_all = λ i. flat_map (λ ids. ids) (map (λ sort. shown-joined p (λ d. listed d sort) i) sorts)
 
 pub written-parts-again : (s : Sections) (p : PartsByOrigin) → map (λ e. e.1) p.extensions ≡ map (λ e. e.1) (of_extensions (in_sections s)) → IsDistinct same_id (map (λ e. e.0) p.extensions) → by_origin (in_sections (sections_of p)) ≡ p
-written-parts-again s p same_parts distinct = written-again p distinct (ap (in_order sorts) same_parts ∙ sections-in_order s)
+written-parts-again s p same_parts distinct = written-again p distinct (ap (in_order have_some) same_parts ∙ sections-in_order s)
+
+-- what holds at all sorts holds at each
+pub at_sort : (Q : Sort → Type 0) → AllByRecursion Q sorts → (sort : Sort) → Q sort
+at_sort Q a Directives = a.0
+at_sort Q a Names = a.1.0
+at_sort Q a Fields = a.1.1.0
+at_sort Q a Values = a.1.1.1.0
+at_sort Q a InputFields = a.1.1.1.1.0
+at_sort Q a Roots = a.1.1.1.1.1.0

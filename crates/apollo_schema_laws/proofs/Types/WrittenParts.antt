@@ -1,34 +1,63 @@
 -- What a type is written out as, and types of a table, read as items of a list, and what that says of one
 -- name.
-use Rattle.apollo_schema_laws.proofs.Words.Lists.{◌≡◌, Bool, List, [], ◌∷◌, None, Option, map, refl, ℕ, true, false, cond, ◌++◌, filter, flat_map, ap, ◌∙◌, append-nil, map-append, filter-append, AllByRecursion, IsDistinct, list_any, option_map_or, map-map, arith, filter_map-unmade}
-use Rattle.apollo_schema_laws.proofs.Words.Syntax.{NameView, SourceSpan, TypeKind, type_definition, type_extension, directive_list, Parts, is_built_in, same, same_text, by_text, HasUniqueKeys, keys_of, values_of, lookup, Definition}
-use Rattle.apollo_schema_laws.proofs.Words.Types.{extension_location, by_origin, ExtensionId, PartsByOrigin, type_kind, type_name, type_location, type_description, type_components, write_type, ExtendedType}
-use Rattle.apollo_schema_laws.proofs.Words.Meaning.{Defined, Extended, item_of, added, added_items, ignorable_if, ListItem, added_item, TypePart, TypeBody, ScalarBody, ObjectBody, InterfaceBody, UnionBody, EnumBody, InputObjectBody, body_kind, part_at, write_held_type, TypeNamed, defined_part}
+use Rattle.apollo_schema_laws.proofs.Words.Lists.{◌≡◌, Bool, List, [], ◌∷◌, None, Option, map, refl, ℕ, true, false, cond, ◌++◌, filter, flat_map, sym, ap, subst, ◌∙◌, append_assoc, append-nil, map-append, filter-append, AllByRecursion, IsDistinct, list_any, option_map_or, map-map, arith, filter_map-unmade}
+use Rattle.apollo_schema_laws.proofs.Words.Syntax.{NameView, SourceSpan, TypeKind, type_definition, type_extension, Parts, is_built_in, same, same_text, by_text, HasUniqueKeys, keys_of, values_of, lookup, Definition}
+use Rattle.apollo_schema_laws.proofs.Words.Types.{extension_location, by_origin, of_origin, identities, origins_in, ComponentOrigin, ExtensionId, PartsByOrigin, type_kind, type_name, type_location, type_description, type_components, write_type, ExtendedType, Scalar, Object, Interface}
+use Rattle.apollo_schema_laws.proofs.Words.Meaning.{Defined, Extended, item_of, added, added_items, ignorable_if, ListItem, added_item, TypePart, write_held_type, TypeNamed, defined_part}
+use Rattle.apollo_schema_laws.proofs.Words.Written.{in_sections, type_sections}
 use Rattle.graphql_nodes.specs.declared.type_kind.TypeKind.TheVariants as kinds
+use Rattle.graphql_ast.specs.Parts.{Sort, Directives, has, listed, of_type}
+use Rattle.apollo_component.specs.declared.extension.ComponentOrigin.TheVariants as origins
 use Rattle.apollo_schema_laws.proofs.Lists.{new_to_these, each-made, filter-alike}
+use Rattle.apollo_schema_laws.proofs.Sections.{of_origin-sections, parts_in}
 use Rattle.apollo_schema_laws.proofs.Items.{about, is_about, lookup-past, defined_names, defined_names-append}
 
--- a body of a kind, of these parts
-abbrev pub body_of : TypeKind → Parts → TypeBody
-body_of kinds.Scalar d = ScalarBody
-body_of kinds.Object d = ObjectBody d.names d.fields
-body_of kinds.Interface d = InterfaceBody d.names d.fields
-body_of kinds.Union d = UnionBody d.names
-body_of kinds.Enum d = EnumBody d.values
-body_of kinds.InputObject d = InputObjectBody d.input_fields
+-- the components of a type are those of its sections
+pub components-sections : (t : ExtendedType) → type_components t ≡ in_sections (type_sections t)
+components-sections (Object n) = simp (map-map, append_assoc, append-nil)
+components-sections (Interface n) = simp (map-map, append_assoc, append-nil)
+components-sections t = simp (map-map, append-nil)
 
-pub kind-body : (k : TypeKind) (d : Parts) → body_kind (body_of k d) ≡ k
-kind-body k d = grind arith
+-- parts are nothing but what definitions and extensions of a kind have
+abbrev pub IsOfKind : TypeKind → Parts → Type 0
+IsOfKind kind parts = of_type kind parts ≡ parts
 
-abbrev pub part_from : TypeKind → Option SourceSpan → NameView → Option NameView → Parts → TypePart
-part_from k location name description d = part_at location name description (directive_list d) (body_of k d)
+sections-of_kind : (t : ExtendedType) (o : ComponentOrigin)
+    → IsOfKind (type_kind t) (parts_in o (type_sections t))
+sections-of_kind (Scalar n) o = refl
+sections-of_kind t o = refl
 
-item-defined : (k : TypeKind) (description : Option NameView) (name : NameView) (d : Parts) (location : Option SourceSpan)
-    → item_of (type_definition k description name d location) ≡ Defined (part_from k location name description d)
-item-defined k description name d location = grind arith
+-- so of a sort that the kind doesn't have they have nothing
+pub of_kind-listed : (kind : TypeKind) (parts : Parts) → IsOfKind kind parts → (s : Sort)
+    → cond (has kind s) (listed parts s) [] ≡ listed parts s
+of_kind-listed kind parts own Directives = ap (λ d. listed d Directives) own
+of_kind-listed kind parts own s = ap (λ d. listed d s) own
 
-item-extended : (k : TypeKind) (name : NameView) (d : Parts) (location : Option SourceSpan) → item_of (type_extension k name d location) ≡ Extended (part_from k location name None d)
-item-extended k name d location = grind arith
+-- the part that a definition or extension of a type is
+abbrev pub part_of : TypeKind → NameView → Option NameView → Option SourceSpan → Parts → TypePart
+part_of kind name description location parts = record {
+  kind = kind;
+  name = name;
+  location = location;
+  description = description;
+  parts = parts;
+  ignorable = false;
+}
+
+-- of a definition, and of an extension, that is made of such parts
+item-made : (kind : TypeKind) (name : NameView) (description : Option NameView) (location : Option SourceSpan)
+    (parts : Parts) → IsOfKind kind parts
+    → (item_of (type_definition kind description name parts location)
+    ≡ Defined (part_of kind name description location parts))
+    × (item_of (type_extension kind name parts location) ≡ Extended (part_of kind name None location parts))
+item-made kinds.Scalar name description location parts own = (
+  ap (λ d. Defined (part_of kinds.Scalar name description location d)) own,
+  ap (λ d. Extended (part_of kinds.Scalar name None location d)) own,
+)
+item-made kind name description location parts own = (
+  ap (λ d. Defined (part_of kind name description location d)) own,
+  ap (λ d. Extended (part_of kind name None location d)) own,
+)
 
 module _ (t : ExtendedType) where
   -- the parts of its definition and of its extensions
@@ -37,17 +66,38 @@ module _ (t : ExtendedType) where
 
   -- as parts of a list
   abbrev pub definition_part : TypePart
-  definition_part = part_from (type_kind t) (type_location t) (type_name t) (type_description t) written.definition
+  definition_part =
+      part_of (type_kind t) (type_name t) (type_description t) (type_location t) written.definition
 
   abbrev pub extension_of : ExtensionId × Parts → TypePart
-  extension_of e = part_from (type_kind t) (extension_location e.0) (type_name t) None e.1
+  extension_of e = part_of (type_kind t) (type_name t) None (extension_location e.0) e.1
 
-  pub items-extensions : (b : Bool) (es : List (ExtensionId × Parts))
-      → added_items (added b (map (λ e. type_extension (type_kind t) (type_name t) e.1 (extension_location e.0)) es)) ≡ map (λ e. Extended (extension_of e)) es
-  items-extensions b es = simp map-map (λ i. map (λ e. ignorable_if b (item-extended (type_kind t) (type_name t) e.1 (extension_location e.0) i)) es)
+  -- what is of one origin, by sections, is of the type's kind
+  pub of_sections : (o : ComponentOrigin) → of_origin o (type_components t) ≡ parts_in o (type_sections t)
+  of_sections o = ap (of_origin o) (components-sections t) ∙ of_origin-sections o (type_sections t)
 
-  pub items-written : (b : Bool) → added_items (added b (write_type t)) ≡ Defined (record definition_part { ignorable = b }) ∷ map (λ e. Extended (extension_of e)) written.extensions
-  items-written b = (λ i. ignorable_if b (item-defined (type_kind t) (type_description t) (type_name t) written.definition (type_location t) i) ∷ items-extensions b written.extensions i)
+  pub of_kind-origin : (o : ComponentOrigin) → IsOfKind (type_kind t) (of_origin o (type_components t))
+  of_kind-origin o = subst (IsOfKind (type_kind t)) (sym (of_sections o)) (sections-of_kind t o)
+
+  pub each-of_kind : AllByRecursion (λ e. IsOfKind (type_kind t) e.1) written.extensions
+  each-of_kind =
+      each-made (λ e. IsOfKind (type_kind t) e.1)
+      (λ e. (e, of_origin (origins.Extension e) (type_components t)))
+      (λ e. of_kind-origin (origins.Extension e)) (identities (origins_in (type_components t)))
+
+  items-extensions : (b : Bool) → added_items (added b (map
+      (λ e. type_extension (type_kind t) (type_name t) e.1 (extension_location e.0)) written.extensions))
+      ≡ map (λ e. Extended (extension_of e)) written.extensions
+  items-extensions b = simp map-map
+      (λ i. map (λ e. ignorable_if b ((item-made (type_kind t) (type_name t) None
+      (extension_location e) _ (of_kind-origin (origins.Extension e))).1 i))
+      (identities (origins_in (type_components t))))
+
+  items-written : (b : Bool) → added_items (added b (write_type t))
+      ≡ Defined (record definition_part { ignorable = b })
+      ∷ map (λ e. Extended (extension_of e)) written.extensions
+  items-written b = λ i. ignorable_if b ((item-made (type_kind t) (type_name t) (type_description t)
+      (type_location t) written.definition (of_kind-origin origins.Definition)).0 i) ∷ items-extensions b i
 
 -- the items of a document
 abbrev pub document_items : Bool → List Definition → List ListItem
@@ -65,7 +115,7 @@ module _ (c : Bool) where
   held_items t = cond (is_built_in (type_location t)) (extension_items t) (Defined (record (definition_part t) { ignorable = c }) ∷ extension_items t)
 
   items-held : (t : ExtendedType) → document_items c (write_held_type t) ≡ held_items t
-  items-held t = grind (arith, items-extensions t c (written t).extensions, items-written t c)
+  items-held t = grind (arith, items-extensions t c, items-written t c)
 
   pub items-types : (ts : List ExtendedType) → document_items c (flat_map write_held_type ts) ≡ flat_map held_items ts
   items-types [] = refl

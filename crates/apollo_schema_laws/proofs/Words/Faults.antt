@@ -2,6 +2,6 @@
 pub use Rattle.apollo_meaning.specs.Faults.Collisions.{Entry, Fault, collision, collision_at, collisions}
 pub use Rattle.apollo_meaning.specs.Faults.ListFaults.{faults_in, faults_of}
 pub use Rattle.apollo_meaning.specs.Faults.RootFaults.{root_fault, further_schema, root_faults, same_root, schema_faults, schema_orphan}
-pub use Rattle.apollo_meaning.specs.Faults.TypeFaults.{body_faults, field_names, input_field_names, interface_names, joining_fault, kind_mismatch, member_names, name_entries, orphan, part_faults, value_names}
+pub use Rattle.apollo_meaning.specs.Faults.TypeFaults.{collections_of, dropped_from, entries_of, joining_fault, kind_mismatch, held_sort, names_in, orphan, part_faults}
 pub use Rattle.apollo_meaning.specs.Steps.Joining.{schema_begun_faults, schema_joining_faults}
 pub use Rattle.apollo_meaning.specs.Steps.Prefixes.{found, found_at}

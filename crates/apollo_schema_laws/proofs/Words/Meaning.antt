@@ -4,11 +4,11 @@ pub use Rattle.apollo_meaning.specs.Completion.ImpliedSchema.{adopting_schema, c
 pub use Rattle.apollo_meaning.specs.Directives.{AreDirectivesOf, Directives, directive_definitions, directive_names, directive_of, directive_part, has_text, is_handed_in}
 pub use Rattle.apollo_meaning.specs.Items.ListItems.{Added, Defined, Extended, Folding, ListItem, OfSchema, OfType, Other, SchemaDefined, SchemaExtended, added, added_item, added_items, defined_part, defined_schema, extended_part, extended_schema, ignorable_if, item_of}
 pub use Rattle.apollo_meaning.specs.Items.Named.{extensions_of, first, first_schema, named, of_kind, schema_extensions}
-pub use Rattle.apollo_meaning.specs.Items.Parts.{EnumBody, InputObjectBody, InterfaceBody, ObjectBody, Root, ScalarBody, SchemaPart, TypeBody, TypePart, UnionBody, body_kind, key_of, kind_of, part_at, roots_in, same_kind}
+pub use Rattle.apollo_meaning.specs.Items.Parts.{Root, SchemaPart, TypePart, held_parts, key_of, kind_of, roots_in, same_kind}
 pub use Rattle.apollo_meaning.specs.Order.Places.{Family, Placed, extension_places, first_place, folded_when, folding_order, is_folded, is_met, met_when, once_if_defined, schemas, times_met, types}
 pub use Rattle.apollo_meaning.specs.Schema.Definition.{SourcedSchema, no_schema, of_schema, root_in, roots_of, same_operation, schema_definition_of, schema_directives_of, schema_extension_source, schema_from, schema_of, schema_parts}
 pub use Rattle.apollo_meaning.specs.Schema.Whole.{folds, whole}
-pub use Rattle.apollo_meaning.specs.Types.Components.{Sourced, body_fields, body_input_fields, body_interfaces, body_members, body_values, component, component_name, sourced_directives, distinct_entries, distinct_names, field_entry, fields_of, input_field_entry, input_fields_of, interfaces_of, members_of, same_component_name, value_entry}
+pub use Rattle.apollo_meaning.specs.Types.Components.{Sourced, component, component_name, sourced_directives, distinct_entries, distinct_names, fields_of, input_fields_of, names_of, same_component_name}
 pub use Rattle.apollo_meaning.specs.Types.Meaning.{AreTypesOf, extension_part, of_type, parts, type_of_kind, type_from, type_names, type_of}
 pub use Rattle.apollo_schema_laws.proofs.Subjects.{DirectiveNamed, NoSubject, Subject, TheSchema, TypeNamed, first-is, found_at-agree, in-subject, same_subject, subject, subject_laws}
 pub use Rattle.apollo_schema.specs.MeantSchema.{AreOf, MeansSchema}

@@ -14,7 +14,7 @@ pub use Rattle.graphql_nodes.proofs.Texts.{same-is, same-true, same-refl}
 pub use Rattle.graphql_ast.specs.Bare.{bare_directive}
 pub use Rattle.graphql_ast.specs.BareTypeSystem.{bare_directive_definition, bare_enum_value_definition, bare_field_definition, bare_input_value_definition}
 pub use Rattle.graphql_ast.specs.Declarations.{schema_definition, schema_extension, type_definition, type_extension}
-pub use Rattle.graphql_ast.specs.Parts.{directive_list, no_parts}
+pub use Rattle.graphql_ast.specs.Parts.{no_parts}
 pub use Rattle.graphql_ast.specs.declared.definition.Definition.{Definition}
 pub use Rattle.graphql_ast.specs.declared.parts.Part.{Part}
 pub use Rattle.graphql_ast.specs.declared.parts.Parts.{Parts}

@@ -1,4 +1,4 @@
 -- Words of sections, and of what is written of them.
 pub use Rattle.apollo_schema_laws.specs.Sections.{HasSameComponents, Sections, as_parts, in_sections, joined, sections_of, with_origins}
-pub use Rattle.apollo_schema_laws.specs.TypeSections.{HasEachNameOnce, HasWhatIsWritten, name_with_origin, no_components, node_with_origin, placed, type_sections}
+pub use Rattle.apollo_schema_laws.specs.TypeSections.{HasEachNameOnce, HasWhatIsWritten, HaveDistinctNames, is_keyed, name_of, name_with_origin, node_with_origin, placed, type_sections}
 pub use Rattle.apollo_schema_laws.specs.WrittenAgain.{IsMeantByList, with_built_ins, written_again}

@@ -31,11 +31,3 @@ returns-clause-added c = λ ks was.
     c.in_ok-is_new.ensures.keys
     ∙ (λ i. if list_any (same_component_name (key i)) (was i) then was i else was i ++ key i ∷ [])
     ∙ name-put ks x
-
-pub returns-clause-faults : goal.returns-clause-faults
-returns-clause-faults c = λ ks was.
-    let old = c.args.set.now in
-    let key = c.with_origin-component.result in
-    let there : list_any (same_component_name key) old ≡ true =
-    is-not (list_any (same_component_name key) old) c.in_ok-is_new.is_new c.in_ok-is_new.ensures.added ∙ ap not c.if-is_new.false in
-    c.in_ok-note_listed.ensures ks (c.in_ok-is_new.ensures.keys ∙ ap (λ b. if b then old else old ++ key ∷ []) there ∙ was)

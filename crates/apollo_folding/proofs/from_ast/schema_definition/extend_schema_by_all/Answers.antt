@@ -1,8 +1,7 @@
-use Rattle.apollo_meaning.proofs.Prelude.{◌≡◌, ℕ, ◌+◌, [], ◌∷◌, ◌++◌, map, length, take, sym, ap, ◌∙◌, append_assoc, arith, take_all, err_from_is_err_and, next_number, source_at, schema_extension_part, schema_from, schema_faults, schema_numbered, schema_joining_faults, each_after-push}
+use Rattle.apollo_meaning.proofs.Prelude.{◌≡◌, ℕ, ◌+◌, [], ◌∷◌, ◌++◌, map, length, take, sym, ap, ◌∙◌, append_assoc, arith, take_all, next_number, source_at, schema_extension_part, schema_from, schema_faults, schema_numbered, schema_joining_faults, each_after-push}
 use Rattle.std.proofs.lemmas.List.{length-map, length-take-le}
 use Rattle.apollo_meaning.proofs.Faults.KeptLemmas.{map-turn}
 use Rattle.apollo_folding.proofs.RootLemmas.{schema_numbered-more, schema_parts-numbered}
-use Rattle.apollo_folding.proofs.RefusalLemmas.{RefusedAs-weaker}
 use Rattle.apollo_folding.proofs.from_ast.schema_definition.extend_schema_by_all.Goals as goal
 
 pub loop-extension-preserved : goal.loop-extension-preserved
@@ -36,16 +35,6 @@ loop-extension-preserved c =
           let sum : next_number c.loop-extension.ids + 1 ≡ start + length (take (i + 1) xs) = omega (arith, at, size, size_after) in
           now.next ∙ ap source_at sum;
     }
-
-pub returns-in_err-extend_schema-clause-refused : goal.returns-in_err-extend_schema-clause-refused
-returns-in_err-extend_schema-clause-refused c =
-    let xs = c.args.extensions.now in
-    let i = c.loop-extension.extension-index in
-    let was = c.loop-extension.invariant in
-    let at : next_number c.loop-extension.ids ≡ next_number c.args.ids.now + length (take i xs) = ap next_number was.next in
-    let size : length (take i xs) ≡ i = length-take-le i xs (omega arith) in
-    let exit = err_from_is_err_and c.from_residual.result c.from_residual.ensures.1 in
-    rw (exit.1, exit.2) (RefusedAs-weaker c.in_err-extend_schema.field-0.0 _ _ (λ full. omega (arith, at, size, full)) c.in_err-extend_schema.ensures.refused)
 
 pub returns-clause-folded : goal.returns-clause-folded
 returns-clause-folded c = λ head done h.
