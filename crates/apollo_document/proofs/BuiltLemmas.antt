@@ -28,7 +28,9 @@ use Rattle.apollo_document.specs.AddedDefinitions.{DocumentItem, operations}
 use Rattle.apollo_document.specs.KeptDefinitions.{root_type_of, is_rooted, is_anonymous, first_if_anonymous, operation_under_name, kept_anonymous, kept_named, kept_fragments}
 use Rattle.apollo_document.specs.TypedDefinitions.{stripped_operation, stripped_fragment, IsOperationOf, IsFragmentOf}
 use Rattle.apollo_document.specs.Documents.{IsUnderName, IsDocumentOf}
-use Rattle.apollo_document.specs.Stands.{operation_from, root_or_none, typed_operation, fragment_on_type, typed_fragment, entries_by, Stands}
+use Rattle.apollo_document.specs.Noted.{noting}
+use Rattle.apollo_document.specs.Stands.{operation_over, operation_from, rooted_operation, fragment_if_typed, root_or_none, typed_operation, fragment_on_type, typed_fragment, entries_by, Stands}
+use Rattle.apollo_document.specs.declared.elaborating.Elaboration.{Elaboration}
 use Rattle.apollo_document.specs.declared.tables.Tables.{Tables}
 use Rattle.apollo_component.proofs.FirstOfEachLemmas.{each-first}
 
@@ -90,13 +92,17 @@ built_option : {A B : Type 0} (R : A → B → Type 0) (f : A → B) (o : Option
 built_option R f None made = tt
 built_option R f (Some a) made = (made a refl, tt)
 
-pub operation_faults_made : (s : Option Schema) (n : Op) (name : ExecutableDefinitionName) (root : NameView) (below : List ast.Selection) (path : SelectionPath) (before : List Fault) → root_type_of s n.value.operation_type ≡ Some root → below ≡ n.value.selection_set
-    → path ≡ record { root = name; nested_fields = [] } → before ++ faults_of_selections s root path below ≡ before ++ faults_in_operation s name n
-operation_faults_made s n name root below path before r selections is = (λ i. before ++ faults_of_selections s root (is i) (selections i)) ∙ ap (λ o. before ++ rooted_faults s name n o) (sym r)
+-- what an elaboration that begins with nothing wrong finds wrong
+pub all_noted : (f : SelectionPath → List Fault) (path : SelectionPath) (new done : Elaboration) → new.path ≡ path → new.faults ≡ [] → done ≡ noting (f new.path) new → done.faults ≡ f path
+all_noted f path new done at none is = ap (λ e. e.faults) is ∙ (λ i. none i ++ f (at i))
 
-pub fragment_faults_made : (s : Option Schema) (n : NodeView FragmentDefinition) (ty : NameView) (below : List ast.Selection) (path : SelectionPath) (before : List Fault) → has_type s n.value.type_condition ≡ true → ty ≡ n.value.type_condition → below ≡ n.value.selection_set
-    → path ≡ record { root = roots.Fragment n.value.name; nested_fields = [] } → before ++ faults_of_selections s ty path below ≡ before ++ faults_in_fragment s n
-fragment_faults_made s n ty below path before there is selections at = (λ i. before ++ faults_of_selections s (is i) (at i) (selections i)) ∙ ap (λ b. before ++ on_type_faults s n b) (sym there)
+pub operation_faults_made : (s : Option Schema) (n : Op) (name : ExecutableDefinitionName) (root : NameView) (below : List ast.Selection) → root_type_of s n.value.operation_type ≡ Some root → below ≡ n.value.selection_set
+    → faults_of_selections s root (record { root = name; nested_fields = [] }) below ≡ faults_in_operation s name n
+operation_faults_made s n name root below r selections = ap (faults_of_selections s root (record { root = name; nested_fields = [] })) selections ∙ ap (rooted_faults s name n) (sym r)
+
+pub fragment_faults_made : (s : Option Schema) (n : NodeView FragmentDefinition) (name : NameView) (ty : NameView) (below : List ast.Selection) → has_type s n.value.type_condition ≡ true → name ≡ n.value.name → ty ≡ n.value.type_condition → below ≡ n.value.selection_set
+    → faults_of_selections s ty (record { root = roots.Fragment name; nested_fields = [] }) below ≡ faults_in_fragment s n
+fragment_faults_made s n name ty below there named is selections = (λ i. faults_of_selections s (is i) (record { root = roots.Fragment (named i); nested_fields = [] }) (selections i)) ∙ ap (on_type_faults s n) (sym there)
 
 -- what the law of elaborated sets says
 pub record ElaboratedSetsLaw : Type 0 where
@@ -146,21 +152,19 @@ module _ (sets : ElaboratedSetsLaw) where
         fragments = subst (λ es. AllZip (IsUnderName (IsFragmentOf s)) (kept_fragments s xs) es) (sym (frags ∙ stands.fragments)) is.fragments;
       }
 
-  -- what the code makes of an operation and of a fragment
-  pub operation_made : (s : Option Schema) (n : Op) (g : OperationDefinition) (root : NameView) (below : List ast.Selection) (set : SelectionSet) (made : Operation) (node : NodeView Operation) → root_type_of s n.value.operation_type ≡ Some root
-      → g ≡ n.value → below ≡ n.value.selection_set → erased_set set ≡ stripped s root below → IsTypedSet s root set
-      → made ≡ record { operation_type = g.operation_type; name = g.name; variables = g.variables; directives = g.directives; selection_set = set } → node ≡ record { value = made; location = n.location }
-      → Some node ≡ option_map (λ (root : NameView). at_place (operation_from s root) n) (root_type_of s n.value.operation_type)
-  operation_made s n g root below set made node r same selections h typed m at =
-      let inner : set ≡ elaborated s root n.value.selection_set = sets.unique s root below set h typed ∙ ap (elaborated s root) selections in
-      let whole : made ≡ operation_from s root n.value = m ∙ (λ i. record { operation_type = (same i).operation_type; name = (same i).name; variables = (same i).variables; directives = (same i).directives; selection_set = inner i }) in
-      ap Some (at ∙ (λ i. record { value = whole i; location = n.location })) ∙ ap (option_map (λ (root : NameView). at_place (operation_from s root) n)) (sym r)
+-- what the code makes of an operation and of a fragment
+pub operation_made : (s : Option Schema) (n : Op) (g : OperationDefinition) (root : NameView) (below : List ast.Selection) (set : SelectionSet) (made : Operation) (node : NodeView Operation)
+    → root_type_of s n.value.operation_type ≡ Some root → g ≡ n.value → below ≡ n.value.selection_set → set ≡ elaborated s root below
+    → made ≡ operation_over g set → node ≡ record { value = made; location = n.location } → Some node ≡ rooted_operation s n
+operation_made s n g root below set made node r same selections typed m at =
+    let inner : set ≡ elaborated s root n.value.selection_set = typed ∙ ap (elaborated s root) selections in
+    let whole : made ≡ operation_from s root n.value = m ∙ (λ i. operation_over (same i) (inner i)) in
+    ap Some (at ∙ (λ i. record { value = whole i; location = n.location })) ∙ ap (option_map (λ (root : NameView). at_place (operation_from s root) n)) (sym r)
 
-  pub fragment_made : (s : Option Schema) (n : NodeView FragmentDefinition) (g : FragmentDefinition) (ty : NameView) (below : List ast.Selection) (set : SelectionSet) (made : Fragment) (node : NodeView Fragment) → has_type s n.value.type_condition ≡ true
-      → g ≡ n.value → ty ≡ n.value.type_condition → below ≡ n.value.selection_set → erased_set set ≡ stripped s ty below → IsTypedSet s ty set
-      → made ≡ record { name = g.name; directives = g.directives; selection_set = set } → node ≡ record { value = made; location = n.location }
-      → Some node ≡ cond (has_type s n.value.type_condition) (Some (typed_fragment s n)) None
-  fragment_made s n g ty below set made node there same is selections h typed m at =
-      let inner : set ≡ elaborated s n.value.type_condition n.value.selection_set = sets.unique s ty below set h typed ∙ (λ i. elaborated s (is i) (selections i)) in
-      let whole : made ≡ fragment_on_type s n.value = m ∙ (λ i. record { name = (same i).name; directives = (same i).directives; selection_set = inner i }) in
-      ap Some (at ∙ (λ i. record { value = whole i; location = n.location })) ∙ ap (λ b. cond b (Some (typed_fragment s n)) None) (sym there)
+pub fragment_made : (s : Option Schema) (n : NodeView FragmentDefinition) (g : FragmentDefinition) (ty : NameView) (below : List ast.Selection) (set : SelectionSet) (made : Fragment) (node : NodeView Fragment)
+    → has_type s n.value.type_condition ≡ true → g ≡ n.value → ty ≡ n.value.type_condition → below ≡ n.value.selection_set → set ≡ elaborated s ty below
+    → made ≡ record { name = g.name; directives = g.directives; selection_set = set } → node ≡ record { value = made; location = n.location } → Some node ≡ fragment_if_typed s n
+fragment_made s n g ty below set made node there same is selections typed m at =
+    let inner : set ≡ elaborated s n.value.type_condition n.value.selection_set = typed ∙ (λ i. elaborated s (is i) (selections i)) in
+    let whole : made ≡ fragment_on_type s n.value = m ∙ (λ i. record { name = (same i).name; directives = (same i).directives; selection_set = inner i }) in
+    ap Some (at ∙ (λ i. record { value = whole i; location = n.location })) ∙ ap (λ b. cond b (Some (typed_fragment s n)) None) (sym there)

@@ -1,9 +1,10 @@
 -- What elaboration gives of a field, an inline fragment and a list, by what it gives of what is below.
-use Rattle.std.proofs.Common.{◌≡◌, ◌∙◌, ℕ, ◌+◌, ◌<◌, ◌==◌, ap, sym, refl, List, [], ◌∷◌, ◌++◌, map, length, take, get_or, append-nil, unwrap_or, Option, Some, None, Result, Ok, Err}
+use Rattle.std.proofs.Common.{◌≡◌, ◌∙◌, ℕ, ◌+◌, ◌-◌, ◌<◌, ◌==◌, ap, sym, refl, List, [], ◌∷◌, ◌++◌, map, length, take, get_or, append-nil, arith, unwrap_or, Option, Some, None, Result, Ok, Err}
 use Rattle.std.specs.List.{filter_map, flat_map, cons_option}
-use Rattle.std.proofs.lemmas.List.{length-map, take_more, flat_map_more}
+use Rattle.std.proofs.lemmas.List.{length-append, length-map, take_more, flat_map_more}
 use Rattle.std.proofs.lemmas.List.Elements.{filter_map-append}
 use Rattle.std.proofs.lemmas.List.Folds.{flat_map-map}
+use Rattle.std.proofs.Math.Seq.{take-append_seam}
 use Rattle.graphql_nodes.specs.NameView.{NameView}
 use Rattle.graphql_nodes.specs.NodeView.{NodeView}
 use Rattle.graphql_nodes.specs.declared.source.SourceSpan.{SourceSpan}
@@ -131,6 +132,12 @@ fragment_made s ty f g below t set made h same selections typed m =
     let inner : set ≡ set_of t (typed_in s f.selection_set t) = typed ∙ (λ i. elaborated s t (selections i)) in
     ap Some (m ∙ (λ i. roll-InlineFragment (record { type_condition = (same i).type_condition; directives = (same i).directives; selection_set = inner i })))
     ∙ sym (fragment_stands s ty f t h)
+
+-- a list without what was pushed last
+pub unpushed : {A : Type 0} (xs old new : List A) (x : A) (size : ℕ) → size ≡ length old → old ≡ xs ++ x ∷ [] → new ≡ take (size - 1) old → new ≡ xs
+unpushed xs old new x size all is popped =
+    let less : length (xs ++ x ∷ []) - 1 ≡ length xs = ap (λ (n : ℕ). n - 1) (length-append xs (x ∷ [])) ∙ omega arith in
+    popped ∙ (λ i. take (all i - 1) old) ∙ (λ i. take (length (is i) - 1) (is i)) ∙ ap (λ (n : ℕ). take n (xs ++ x ∷ [])) less ∙ take-append_seam xs (x ∷ [])
 
 -- one more selection of a list
 pub kept_more : {X Y : Type 0} (h : X → Option Y) (bs cs : List Y) (xs : List X) (i : ℕ) (d : X) (o : Option Y) → i < length xs → bs ≡ filter_map h (take i xs) → o ≡ h (get_or xs i d) → cs ≡ bs ++ cons_option o [] → cs ≡ filter_map h (take (i + 1) xs)

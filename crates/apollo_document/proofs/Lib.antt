@@ -8,6 +8,7 @@ pub mod LeafLemmas
 mod ListLemmas
 mod OperationLemmas
 mod StandsLemmas
+mod TakenLemmas
 pub mod TypableLemmas
 pub mod TypingLemmas
 mod WrittenLemmas

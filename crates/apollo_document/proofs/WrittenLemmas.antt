@@ -1,5 +1,6 @@
--- A list that has an anonymous operation first, then named ones, then fragments, each name once, and each
--- without a fault of its own: what it keeps is all of it, and its faults are the ambiguities alone.
+-- A list that has an anonymous operation first, then named ones, then fragments. Each name is there once, and
+-- each is without a fault of its own. What the list keeps is all of it, and its faults are the ambiguities
+-- alone.
 use Rattle.std.proofs.Common.{◌≡◌, ◌∙◌, ap, sym, subst, refl, Bool, true, false, cond, not, ◌||◌, List, [], ◌∷◌, ◌++◌, map, Option, None, Some, option_map, is_some, append_assoc}
 use Rattle.std.specs.Cmp.{IsEquivalence}
 use Rattle.std.specs.List.{AllByRecursion, IsDistinct, flat_map, list_any}

@@ -69,8 +69,8 @@ faults_of_named s taken name n =
     unless_taken e.OperationNameCollision name taken
     (faults_in_operation s (NamedOperation n.value.operation_type name) n)
 
--- what is wrong with a named operation: after an anonymous one at this location if there is one; and where
--- its name is taken if it is
+-- what is wrong with a named operation: after an anonymous one at this location, if there is one. Its name is
+-- taken where this kept name stands, if it is taken
 abbrev pub named_faults : Option Schema → Option (Option SourceSpan) → Option NameView → NameView
     → NodeView OperationDefinition → List Fault
 named_faults s anonymous taken name n = ambiguous_if anonymous ++ faults_of_named s taken name n

@@ -1,13 +1,13 @@
 -- The operations and fragments that a document of a list of definitions has, over a schema value or without a
 -- schema: GraphQL specification of October 2021, sections 2.3 and 2.8. The roots are those of section 3.3.1.
 --
--- **Kept.** Of a list of definitions, each with whether one of the type system is at fault
--- (`DocumentItem`), these are kept:
+-- **Kept.** Of a list of definitions, each with whether one of the type system is at fault (`DocumentItem`),
+-- these are kept:
 --
--- - of the operations whose operation type has a root type (`root_type_of`: without a schema the default
---   name) the first of each name (`kept_named`), and the first of all if it is anonymous
---   (`kept_anonymous`);
--- - of the fragments whose condition names a type the first of each name (`kept_fragments`).
+-- - Of operations whose operation type has a root type the first of each name (`kept_named`), and the first
+--   of all if it is anonymous (`kept_anonymous`). The root type is that of `root_type_of`, and without a
+--   schema the default name.
+-- - Of fragments whose condition names a type the first of each name (`kept_fragments`).
 use Rattle.std.specs.Prelude.{Bool, ◌&&◌, cond, List, [], ◌∷◌, map, filter, filter_map, Option, None, Some}
 use Rattle.std.specs.Prelude.{option_map, is_some, not}
 use Rattle.std.specs.List.{find, list_any}

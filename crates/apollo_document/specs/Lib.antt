@@ -7,6 +7,7 @@ pub mod Documents
 pub mod Elaborated
 pub mod FieldSets
 pub mod KeptDefinitions
+pub mod Noted
 pub mod Parents
 pub mod PathTexts
 pub mod SelectionFaults

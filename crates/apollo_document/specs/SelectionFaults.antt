@@ -1,6 +1,6 @@
--- The faults of an untyped list in a type, in order: for each typable selection those of its subselections in
--- its child type, for each other one what is wrong with it; of a field, the path of both is longer by its
--- response key. GraphQL specification of October 2021, sections 2.4 to 2.8.
+-- The faults of an untyped list in a type, in order. For each typable selection they are those of its
+-- subselections in its child type. For each other one they are what is wrong with it. Of a field, the path of
+-- both is longer by its response key. GraphQL specification of October 2021, sections 2.4 to 2.8.
 --
 -- **Faults of selections.** `faults_of_selections` goes by the selections in order. A typable one has
 -- the faults of its subselections, in its child type. Any other one has what is wrong with it: of a

@@ -96,10 +96,10 @@ StandsWith s new before after = (xs : List DocumentItem) → Stands s xs before 
 
 -- what is seen of what a builder holds, and of the list that was added to it
 abbrev pub standing_of : List DocumentItem → State → Standing
-standing_of xs (state.Open tables) = Open xs tables.sources
+standing_of xs (state.Open held) = Open xs held.sources
 standing_of xs state.Failed = Failed
 
 -- what holds of what a builder holds: its tables are those of what was added; or a call was refused
 abbrev pub HoldsFor : Option Schema → List DocumentItem → State → Type 0
-HoldsFor schema xs (state.Open tables) = Stands schema xs tables
+HoldsFor schema xs (state.Open held) = Stands schema xs held.tables
 HoldsFor schema xs state.Failed = Unit {0}

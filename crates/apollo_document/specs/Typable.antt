@@ -4,8 +4,8 @@
 --
 -- **Typable.** Of a selection in a type, which is given by its name, over a schema value:
 --
--- - A field is typable (`typable_field`) under two conditions: the schema gives a definition for its name
---   there; and it has no subselections or the definition's inner name is that of no scalar and no enum.
+-- - A field is typable (`typable_field`) under two conditions. The schema gives a definition for its name
+--   there. And it has no subselections, or the definition's inner name is that of no scalar and no enum.
 -- - An inline fragment is typable (`typable_fragment`) if it has no condition, or one that names a type
 --   of the schema.
 -- - A spread is always typable.
@@ -55,8 +55,8 @@ unknown_field name =
       directives = record { 0 = [] };
     })
 
--- a field that isn't defined is at fault, at its name, if the schema has its type; the fault has the name
--- that the schema has that under
+-- a field that isn't defined is at fault, at its name, if the schema has its type. The fault has the name
+-- under which the schema has that type
 abbrev pub undefined : NameView → Option NameView → Wrong
 undefined name (Some key) location path = (name.location, e.UndefinedField key name path) ∷ []
 undefined name None location path = []

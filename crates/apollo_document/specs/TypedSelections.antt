@@ -1,6 +1,6 @@
--- Typed selections whose types are right over a schema value, or without a schema: each set is from the child
--- type of what holds it; each field has the definition that the schema gives for its name in that type; and
--- each selection is typable. GraphQL specification of October 2021, sections 2.4 to 2.8.
+-- Typed selections whose types are right over a schema value, or without a schema. Each set is from the child
+-- type of what holds it. Each field has the definition that the schema gives for its name in that type. Each
+-- selection is typable. GraphQL specification of October 2021, sections 2.4 to 2.8.
 use Rattle.std.specs.Prelude.{◌≡◌, Option, Ok}
 use Rattle.std.specs.List.{AllByRecursion}
 use Rattle.graphql_nodes.specs.NameView.{NameView}

@@ -6,8 +6,8 @@ use graphql_nodes::name::{Name, NamedType};
 use graphql_nodes::source::SourceSpan;
 use thiserror::Error;
 
-/// What a build of an executable document finds wrong: with a definition or a selection that it doesn't use,
-/// or with an anonymous operation that it keeps beside others. GraphQL specification of October 2021,
+/// What a build of an executable document finds wrong. It is with a definition or a selection that it doesn't
+/// use, or with an anonymous operation that it keeps beside others. GraphQL specification of October 2021,
 /// sections 2.2 to 2.8. The name of a kept definition has the location of the definition's name. The name of
 /// a type that lacks a field has the location of the type's name.
 ///
@@ -15,16 +15,16 @@ use thiserror::Error;
 /// location.
 #[derive(Debug, Drop, Clone, PartialEq, Eq, Error)]
 pub enum BuildError {
-    /// A definition of the type system, where such are faults: at its node, with its name, if it has one, and
-    /// what it is, as `an object type definition` (section 2.2).
+    /// A definition of the type system, where such are faults. It is at its node, with its name, if it has
+    /// one, and what it is, as `an object type definition` (section 2.2).
     #[error("an executable document must not contain {describe}")]
     TypeSystemDefinition {
         name: Option<Name>,
         describe: StaticText,
     },
     /// An anonymous operation beside others, at its node (section 2.3). It is reported of a kept one for each
-    /// named operation that comes after it, and once for the further anonymous ones; and of each anonymous
-    /// one that comes after a kept operation.
+    /// named operation that comes after it, and once for the further anonymous ones. It is also reported of
+    /// each anonymous one that comes after a kept operation.
     #[error("anonymous operation cannot be selected when the document contains other operations")]
     AmbiguousAnonymousOperation,
     /// An operation whose name a kept one has, at its name, with the kept name (section 2.3).
@@ -71,8 +71,8 @@ pub enum BuildError {
         type_name: NamedType,
         path: SelectionPath,
     },
-    /// A field that the type which it is selected from doesn't have: at its name, with the key of the type,
-    /// its name and the path (section 2.5).
+    /// A field that the type which it is selected from doesn't have. It is at its name, with the key of the
+    /// type, its name and the path (section 2.5).
     #[error("type `{type_name}` does not have a field `{field_name}`")]
     UndefinedField {
         type_name: NamedType,

@@ -7,7 +7,7 @@ ghost use Rattle.apollo_document.specs.BuilderStands.{building_over, refused, wi
 
 use crate::build_error::Faults;
 use crate::selection_laws::elaborated_sets;
-use crate::state::State;
+use crate::state::{Added, State};
 use crate::tables::Tables;
 use apollo_executable::document::ExecutableDocument;
 use apollo_folding::builder_error::BuilderError;
@@ -15,8 +15,11 @@ use apollo_schema::schema::Schema;
 use graphql_ast::added_list::AddedList;
 use graphql_ast::document::Document;
 use graphql_nodes::collections::hash_keys::HashKeys;
-use std::alloc::{AllocError, Global};
+use graphql_nodes::collections::table::Table;
+use graphql_nodes::source::merge_sources;
+use std::alloc::Global;
 use std::marker::Model;
+use std::mem;
 
 /// A builder of an executable document, over a schema or without one: GraphQL specification of October 2021,
 /// sections 2.2 to 2.8. Documents of syntax go in, in any number.
@@ -25,8 +28,8 @@ use std::marker::Model;
 /// if it is the first of all operations that have a root type. Of fragments the first of each name is kept
 /// whose condition is a type of the schema. Their selections are kept where they are typable, as
 /// [`elaborate_selections`](crate::elaboration::elaborate_selections) says. All else is at fault, with two
-/// exceptions: fields of a type that the schema lacks; and definitions of the type system where these are not
-/// at fault. A kept anonymous operation that isn't the only one is at fault too.
+/// exceptions. One is fields of a type that the schema lacks. The other is definitions of the type system
+/// where these are not at fault. A kept anonymous operation that isn't the only one is at fault too.
 ///
 /// When memory has run out the builder holds nothing, and each later call answers `Failed`.
 pub struct ExecutableDocumentBuilder<'schema> {
@@ -86,7 +89,7 @@ impl<'schema> ExecutableDocumentBuilder<'schema> {
     }
 
     /// A builder as [`new`](ExecutableDocumentBuilder::new) makes it, for a document whose tables hash by
-    /// these keys. No clause speaks of keys: answers and orders never depend on them. It takes no memory.
+    /// these keys. Answers and orders never depend on them. It takes no memory.
     pub fn with_keys(
         alloc: Global,
         schema: Option<&'schema Schema>,
@@ -94,9 +97,13 @@ impl<'schema> ExecutableDocumentBuilder<'schema> {
     ) -> ExecutableDocumentBuilder<'schema>
         ensures { result ≡ building_over (option_copied schema.entry) }
     {
+        let nothing = Added {
+            tables: Tables::new(alloc, keys),
+            sources: Table::with_keys(alloc, keys),
+        };
         ExecutableDocumentBuilder {
             schema,
-            state: State::Open(Tables::new(alloc, keys)),
+            state: State::Open(nothing),
             added: AddedList::none(),
         }
     }
@@ -121,18 +128,16 @@ impl<'schema> ExecutableDocumentBuilder<'schema> {
         ensures wants { OnErr result
             (document.now.definitions ≡ [] → document.now.sources ≡ [] → HasFailed self.old) }
     {
-        let schema = self.schema;
-        let State::Open(tables) = &mut self.state else {
+        let State::Open(mut held) = mem::replace(&mut self.state, State::Failed) else {
             return Err(BuilderError::Failed);
         };
-        if let Err(AllocError) = tables.take_document(
-            schema,
-            document,
+        held.tables.take(
+            self.schema,
+            document.definitions.as_slice(),
             type_system_definitions_are_errors,
-        ) {
-            self.state = State::Failed;
-            return Err(BuilderError::Memory);
-        }
+        )?;
+        merge_sources(&mut held.sources, &document.sources)?;
+        self.state = State::Open(held);
         self.added = AddedList::with(&self.added, type_system_definitions_are_errors, document);
         Ok(())
     }
@@ -152,7 +157,7 @@ impl<'schema> ExecutableDocumentBuilder<'schema> {
             added: _,
         } = self;
         match state {
-            State::Open(tables) => Ok(tables.into_document()),
+            State::Open(Added { tables, sources }) => Ok(tables.into_document(sources)),
             State::Failed => Err(BuilderError::Failed),
         }
     }

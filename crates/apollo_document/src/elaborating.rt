@@ -9,15 +9,15 @@ ghost use Rattle.apollo_executable.specs.SelectionParts.{response_key_of};
 ghost use Rattle.apollo_document.specs.Elaborated as spec;
 ghost use Rattle.apollo_document.specs.Elaborated.{elaborated, elaborated_selection, elaborated_field};
 ghost use Rattle.apollo_document.specs.Elaborated.{elaborated_fragment};
+ghost use Rattle.apollo_document.specs.Noted.{noting};
 ghost use Rattle.apollo_document.specs.Stripped.{in_place_of};
 ghost use Rattle.apollo_document.specs.SelectionFaults.{faults_of_selections, faults_of_selection};
 ghost use Rattle.apollo_document.specs.SelectionFaults.{faults_of_field, faults_of_fragment};
 ghost use Rattle.apollo_document.specs.Within.{faults_within};
 
-use crate::build_error::Fault;
+use crate::build_error::{Fault, Faults};
 use crate::parent::Parent;
-use crate::selection_path::SelectionPath;
-use crate::typable::{typable_field, typable_fragment};
+use crate::selection_path::{ExecutableDefinitionName, SelectionPath};
 use apollo_executable::selection::{
     Field, FragmentSpread, InlineFragment, Selection, SelectionSet,
 };
@@ -99,183 +99,204 @@ fn inline_fragment_over(
     })
 }
 
-/// The set of the typable selections from this type, typed. The faults of the others are noted.
-#[cycle(elaborate)]
-pub(crate) fn elaborate_set(
-    alloc: Global,
-    schema: Option<&Schema>,
-    ty: &NamedType,
-    selections: &[ast::Selection],
-    path: &mut SelectionPath,
-    faults: &mut Items<Fault>,
-) -> Result<SelectionSet, AllocError>
-    ensures set { IfOk result (λ set. set ≡ elaborated (option_copied schema.entry) ty.now selections.now) }
-    ensures faults { OnOk result (faults.new
-        ≡ faults.old ++ faults_of_selections (option_copied schema.entry) ty.now path.old selections.now) }
-    ensures path { path.new ≡ path.old }
-{
-    if selections.is_empty() {
-        return Ok(SelectionSet {
+/// Selections on their way to typed ones: where they stand, and what was found wrong so far.
+pub struct Elaboration {
+    pub alloc: Global,
+    pub path: SelectionPath,
+    pub faults: Items<Fault>,
+}
+
+impl Drop for Elaboration {
+    fn drop(self) {
+        let Self {
+            alloc: _,
+            path: _,
+            faults: _,
+        } = self;
+    }
+}
+
+impl Elaboration {
+    /// An elaboration of selections at this path, where nothing is wrong so far.
+    pub fn at(alloc: Global, path: SelectionPath) -> Elaboration
+        ensures path { result.path ≡ path }
+        ensures faults { result.faults ≡ [] }
+    {
+        Elaboration {
+            alloc,
+            path,
+            faults: Items::new(alloc),
+        }
+    }
+
+    /// An elaboration of the selections of this definition itself, where nothing is wrong so far.
+    pub fn of(alloc: Global, root: ExecutableDefinitionName) -> Elaboration
+        ensures path { result.path ≡ record { root = root; nested_fields = [] } }
+        ensures faults { result.faults ≡ [] }
+    {
+        let path = SelectionPath {
+            root,
+            nested_fields: Items::new(alloc),
+        };
+        Elaboration::at(alloc, path)
+    }
+
+    /// What was found wrong, in order.
+    pub fn into_faults(self) -> Faults
+        ensures { result.items ≡ self.faults }
+    {
+        let Elaboration {
+            alloc: _,
+            path: _,
+            faults,
+        } = self;
+        faults.into_vec()
+    }
+
+    /// The set of the typable selections from this type, typed. The faults of the others are noted.
+    #[cycle(elaborate)]
+    pub fn elaborate_set(
+        &mut self,
+        schema: Option<&Schema>,
+        ty: &NamedType,
+        selections: &[ast::Selection],
+    ) -> Result<SelectionSet, AllocError>
+        ensures set { IfOk result (λ set. set
+            ≡ elaborated (option_copied schema.entry) ty.now selections.now) }
+        ensures faults { OnOk result (self.new
+            ≡ noting (faults_of_selections (option_copied schema.entry) ty.now self.old.path selections.now)
+            self.old) }
+    {
+        if selections.is_empty() {
+            return Ok(SelectionSet {
+                ty: ty.clone()?,
+                selections: Items::new(self.alloc),
+            });
+        }
+        let parent = Parent::new(schema, ty);
+        let kept = self.elaborate_all(&parent, selections)?;
+        Ok(SelectionSet {
             ty: ty.clone()?,
-            selections: Items::new(alloc),
-        });
+            selections: kept,
+        })
     }
-    let parent = Parent::new(schema, ty);
-    let kept = elaborate_all(alloc, &parent, selections, path, faults)?;
-    Ok(SelectionSet {
-        ty: ty.clone()?,
-        selections: kept,
-    })
-}
 
-/// The typable selections from this type, typed. The faults of the others are noted.
-#[cycle(elaborate)]
-fn elaborate_all(
-    alloc: Global,
-    parent: &Parent,
-    selections: &[ast::Selection],
-    path: &mut SelectionPath,
-    faults: &mut Items<Fault>,
-) -> Result<Items<Selection>, AllocError>
-    ensures kept { IfOk result (λ kept. kept
-        ≡ filter_map (elaborated_selection (option_copied parent.now.schema) parent.now.ty.now)
-        selections.now) }
-    ensures faults { OnOk result (faults.new
-        ≡ faults.old
-        ++ faults_of_selections (option_copied parent.now.schema) parent.now.ty.now path.old selections.now) }
-    ensures path { path.new ≡ path.old }
-{
-    let mut kept = Items::new(alloc);
-    kept.reserve_exact(selections.len())?;
-    for selection in selections {
-        let typed = elaborate_selection(alloc, parent, selection, path, faults)?;
-        push_kept(&mut kept, typed)?;
+    /// The typable selections from this type, typed. The faults of the others are noted.
+    #[cycle(elaborate)]
+    fn elaborate_all(
+        &mut self,
+        parent: &Parent,
+        selections: &[ast::Selection],
+    ) -> Result<Items<Selection>, AllocError>
+        ensures kept { IfOk result (λ kept. kept
+            ≡ filter_map (elaborated_selection (option_copied parent.now.schema) parent.now.ty.now)
+            selections.now) }
+        ensures faults { OnOk result (self.new
+            ≡ noting (faults_of_selections (option_copied parent.now.schema) parent.now.ty.now self.old.path
+            selections.now) self.old) }
+    {
+        let mut kept = Items::new(self.alloc);
+        kept.reserve_exact(selections.len())?;
+        for selection in selections {
+            let typed = self.elaborate_selection(parent, selection)?;
+            push_kept(&mut kept, typed)?;
+        }
+        Ok(kept)
     }
-    Ok(kept)
-}
 
-/// The selection, typed, if it is typable.
-#[cycle(elaborate)]
-fn elaborate_selection(
-    alloc: Global,
-    parent: &Parent,
-    selection: &ast::Selection,
-    path: &mut SelectionPath,
-    faults: &mut Items<Fault>,
-) -> Result<Option<Selection>, AllocError>
-    ensures typed { IfOk result (λ kept. kept
-        ≡ elaborated_selection (option_copied parent.now.schema) parent.now.ty.now selection.now) }
-    ensures faults { OnOk result (faults.new
-        ≡ faults.old
-        ++ faults_of_selection (option_copied parent.now.schema) parent.now.ty.now path.old selection.now) }
-    ensures path { path.new ≡ path.old }
-{
-    match selection {
-        ast::Selection::Field(node) => {
-            let field = elaborate_field(alloc, parent, node, path, faults)?;
-            Ok(field.map(Selection::Field))
-        }
-        ast::Selection::FragmentSpread(node) => {
-            let spread = typed_spread(node)?;
-            Ok(Some(Selection::FragmentSpread(node.same_location(alloc, spread)?)))
-        }
-        ast::Selection::InlineFragment(node) => {
-            let inline = elaborate_fragment(alloc, parent, node, path, faults)?;
-            Ok(inline.map(Selection::InlineFragment))
+    /// The selection, typed, if it is typable.
+    #[cycle(elaborate)]
+    fn elaborate_selection(
+        &mut self,
+        parent: &Parent,
+        selection: &ast::Selection,
+    ) -> Result<Option<Selection>, AllocError>
+        ensures typed { IfOk result (λ kept. kept
+            ≡ elaborated_selection (option_copied parent.now.schema) parent.now.ty.now selection.now) }
+        ensures faults { OnOk result (self.new
+            ≡ noting (faults_of_selection (option_copied parent.now.schema) parent.now.ty.now self.old.path
+            selection.now) self.old) }
+    {
+        match selection {
+            ast::Selection::Field(node) => {
+                let field = self.elaborate_field(parent, node)?;
+                Ok(field.map(Selection::Field))
+            }
+            ast::Selection::FragmentSpread(node) => {
+                let spread = typed_spread(node)?;
+                Ok(Some(Selection::FragmentSpread(node.same_location(self.alloc, spread)?)))
+            }
+            ast::Selection::InlineFragment(node) => {
+                let inline = self.elaborate_fragment(parent, node)?;
+                Ok(inline.map(Selection::InlineFragment))
+            }
         }
     }
-}
 
-/// The field, typed, if it is typable. While it is looked at, its key is the last of the path.
-#[cycle(elaborate)]
-fn elaborate_field(
-    alloc: Global,
-    parent: &Parent,
-    node: &Node<ast::Field>,
-    path: &mut SelectionPath,
-    faults: &mut Items<Fault>,
-) -> Result<Option<Node<Field>>, AllocError>
-    ensures typed { IfOk result (λ kept. kept
-        ≡ option_map (in_place_of node.now)
-        (elaborated_field (option_copied parent.now.schema) parent.now.ty.now node.now.value)) }
-    ensures faults { OnOk result (faults.new
-        ≡ faults.old
-        ++ faults_of_field (option_copied parent.now.schema) parent.now.ty.now node.now.location path.old
-        node.now.value) }
-    ensures path { path.new ≡ path.old }
-{
-    path.nested_fields.push(response_key(node).clone()?)?;
-    let typed = elaborate_within(alloc, parent, node, path, faults);
-    path.nested_fields.pop();
-    let field = typed?;
-    Ok(field)
-}
+    /// The field, typed, if it is typable. While it is looked at, its key is the last of the path.
+    #[cycle(elaborate)]
+    fn elaborate_field(
+        &mut self,
+        parent: &Parent,
+        node: &Node<ast::Field>,
+    ) -> Result<Option<Node<Field>>, AllocError>
+        ensures typed { IfOk result (λ kept. kept
+            ≡ option_map (in_place_of node.now)
+            (elaborated_field (option_copied parent.now.schema) parent.now.ty.now node.now.value)) }
+        ensures faults { OnOk result (self.new
+            ≡ noting (faults_of_field (option_copied parent.now.schema) parent.now.ty.now node.now.location
+            self.old.path node.now.value) self.old) }
+    {
+        self.path.nested_fields.push(response_key(node).clone()?)?;
+        let field = self.elaborate_within(parent, node)?;
+        self.path.nested_fields.pop();
+        Ok(field)
+    }
 
-/// The field, typed, if it is typable, where its key is the last of the path.
-#[cycle(elaborate)]
-fn elaborate_within(
-    alloc: Global,
-    parent: &Parent,
-    node: &Node<ast::Field>,
-    path: &mut SelectionPath,
-    faults: &mut Items<Fault>,
-) -> Result<Option<Node<Field>>, AllocError>
-    ensures typed { IfOk result (λ kept. kept
-        ≡ option_map (in_place_of node.now)
-        (elaborated_field (option_copied parent.now.schema) parent.now.ty.now node.now.value)) }
-    ensures faults { OnOk result (faults.new
-        ≡ faults.old
-        ++ faults_within (option_copied parent.now.schema) parent.now.ty.now node.now.location path.old
-        node.now.value) }
-    ensures path { path.new ≡ path.old }
-{
-    let Some(definition) = typable_field(alloc, parent, node, path, faults)? else {
-        return Ok(None);
-    };
-    let child = definition.ty.inner_named_type();
-    let set = elaborate_set(
-        alloc,
-        parent.schema,
-        child,
-        node.selection_set.as_slice(),
-        path,
-        faults,
-    )?;
-    let field = field_over(node, definition, set)?;
-    let typed = node.same_location(alloc, field)?;
-    Ok(Some(typed))
-}
+    /// The field, typed, if it is typable, where its key is the last of the path.
+    #[cycle(elaborate)]
+    fn elaborate_within(
+        &mut self,
+        parent: &Parent,
+        node: &Node<ast::Field>,
+    ) -> Result<Option<Node<Field>>, AllocError>
+        ensures typed { IfOk result (λ kept. kept
+            ≡ option_map (in_place_of node.now)
+            (elaborated_field (option_copied parent.now.schema) parent.now.ty.now node.now.value)) }
+        ensures faults { OnOk result (self.new
+            ≡ noting (faults_within (option_copied parent.now.schema) parent.now.ty.now node.now.location
+            self.old.path node.now.value) self.old) }
+    {
+        let Some(definition) = self.typable_field(parent, node)? else {
+            return Ok(None);
+        };
+        let child = definition.ty.inner_named_type();
+        let set = self.elaborate_set(parent.schema, child, node.selection_set.as_slice())?;
+        let field = field_over(node, definition, set)?;
+        let typed = node.same_location(self.alloc, field)?;
+        Ok(Some(typed))
+    }
 
-/// The inline fragment, typed, if it is typable.
-#[cycle(elaborate)]
-fn elaborate_fragment(
-    alloc: Global,
-    parent: &Parent,
-    node: &Node<ast::InlineFragment>,
-    path: &mut SelectionPath,
-    faults: &mut Items<Fault>,
-) -> Result<Option<Node<InlineFragment>>, AllocError>
-    ensures typed { IfOk result (λ kept. kept
-        ≡ option_map (in_place_of node.now)
-        (elaborated_fragment (option_copied parent.now.schema) parent.now.ty.now node.now.value)) }
-    ensures faults { OnOk result (faults.new
-        ≡ faults.old
-        ++ faults_of_fragment (option_copied parent.now.schema) parent.now.ty.now node.now.location path.old
-        node.now.value) }
-    ensures path { path.new ≡ path.old }
-{
-    let Some(child) = typable_fragment(parent.schema, &*parent.ty, node, path, faults)? else {
-        return Ok(None);
-    };
-    let set = elaborate_set(
-        alloc,
-        parent.schema,
-        child,
-        node.selection_set.as_slice(),
-        path,
-        faults,
-    )?;
-    let inline = inline_fragment_over(node, set)?;
-    let typed = node.same_location(alloc, inline)?;
-    Ok(Some(typed))
+    /// The inline fragment, typed, if it is typable.
+    #[cycle(elaborate)]
+    fn elaborate_fragment(
+        &mut self,
+        parent: &Parent,
+        node: &Node<ast::InlineFragment>,
+    ) -> Result<Option<Node<InlineFragment>>, AllocError>
+        ensures typed { IfOk result (λ kept. kept
+            ≡ option_map (in_place_of node.now)
+            (elaborated_fragment (option_copied parent.now.schema) parent.now.ty.now node.now.value)) }
+        ensures faults { OnOk result (self.new
+            ≡ noting (faults_of_fragment (option_copied parent.now.schema) parent.now.ty.now node.now.location
+            self.old.path node.now.value) self.old) }
+    {
+        let Some(child) = self.typable_fragment(parent.schema, &*parent.ty, node)? else {
+            return Ok(None);
+        };
+        let set = self.elaborate_set(parent.schema, child, node.selection_set.as_slice())?;
+        let inline = inline_fragment_over(node, set)?;
+        let typed = node.same_location(self.alloc, inline)?;
+        Ok(Some(typed))
+    }
 }

@@ -7,7 +7,7 @@ ghost use Rattle.apollo_document.specs.Stripped.{stripped};
 ghost use Rattle.apollo_document.specs.TypedSelections.{IsTypedSet};
 
 use crate::build_error::Fault;
-use crate::elaborating::elaborate_set;
+use crate::elaborating::Elaboration;
 use crate::selection_path::SelectionPath;
 use apollo_executable::selection::SelectionSet;
 use apollo_schema::schema::Schema;
@@ -19,11 +19,11 @@ use std::alloc::{AllocError, Global};
 /// The typable ones of these selections from this type, typed, each with its own selections treated likewise.
 /// The faults of the others are added at the end, in order, each with its path, which begins with `path`.
 ///
-/// A field is typable under two conditions: the schema's [`type_field`](Schema::type_field) gives a
-/// definition for its name in the type; and it has no selections or isn't of a scalar or enum type. Its
+/// A field is typable under two conditions. The schema's [`type_field`](Schema::type_field) gives a
+/// definition for its name in the type. And it has no selections or isn't of a scalar or enum type. Its
 /// selections are from the type that the definition names, inside all lists. Where the schema lacks the type
 /// itself, its fields are left out without a fault. An inline fragment is typable if its condition is the
-/// name of a type; its selections are from that, or without a condition from the same type. A spread always
+/// name of a type. Its selections are from that, or without a condition from the same type. A spread always
 /// is. Without a schema every selection is typable, and each field has a definition of its name, whose type
 /// is `UNKNOWN`.
 ///
@@ -45,8 +45,8 @@ pub fn elaborate_selections(
     ensures unchanged { OnErr result (faults.new ≡ faults.old) }
     ensures path { path.new ≡ path.old }
 {
-    let mut found = Items::new(alloc);
-    let set = elaborate_set(alloc, schema, ty, selections, path, &mut found)?;
-    faults.append(&mut found)?;
+    let mut elaboration = Elaboration::at(alloc, path.clone()?);
+    let set = elaboration.elaborate_set(schema, ty, selections)?;
+    faults.append(&mut elaboration.faults)?;
     Ok(set)
 }

@@ -9,12 +9,11 @@ ghost use Rattle.apollo_document.specs.Stripped.{stripped};
 ghost use Rattle.apollo_document.specs.TypedSelections.{IsTypedSet};
 
 use crate::build_error::Faults;
-use crate::elaboration::elaborate_selections;
-use crate::selection_path::{ExecutableDefinitionName, SelectionPath};
+use crate::elaborating::Elaboration;
+use crate::selection_path::ExecutableDefinitionName;
 use apollo_executable::selection::SelectionSet;
 use apollo_schema::schema::Schema;
 use graphql_ast::selection as ast;
-use graphql_nodes::collections::items::Items;
 use graphql_nodes::collections::table::Table;
 use graphql_nodes::name::NamedType;
 use graphql_nodes::operation_type::OperationType;
@@ -51,8 +50,9 @@ impl Clone for FieldSet {
 
 impl FieldSet {
     /// The typable ones of these selections from the type of this name, without sources, and the faults of
-    /// the others, in order. The typable ones are typed as [`elaborate_selections`] says. Each path begins as
-    /// that of an anonymous query.
+    /// the others, in order. The typable ones are typed as
+    /// [`elaborate_selections`](crate::elaboration::elaborate_selections) says. Each path begins as that of
+    /// an anonymous query.
     ///
     /// The error is out of memory, and drops the name.
     pub fn from_ast(
@@ -68,24 +68,14 @@ impl FieldSet {
         ensures faults { IfOk result (λ made. made.1.items
             ≡ faults_of_selections (Some schema.now) ty field_set_path selections.now) }
     {
-        let mut faults = Items::new(alloc);
-        let mut path = SelectionPath {
-            root: ExecutableDefinitionName::AnonymousOperation(OperationType::Query),
-            nested_fields: Items::new(alloc),
-        };
-        let selection_set = elaborate_selections(
-            alloc,
-            Some(schema),
-            &ty,
-            selections,
-            &mut path,
-            &mut faults,
-        )?;
+        let root = ExecutableDefinitionName::AnonymousOperation(OperationType::Query);
+        let mut elaboration = Elaboration::of(alloc, root);
+        let selection_set = elaboration.elaborate_set(Some(schema), &ty, selections)?;
         let set = FieldSet {
             sources: Table::with_keys(alloc, schema.types.hash_keys()),
             selection_set,
         };
-        Ok((set, faults.into_vec()))
+        Ok((set, elaboration.into_faults()))
     }
 
     /// The selections as syntax, in order. The error is out of memory, which a set without selections doesn't

@@ -37,7 +37,7 @@ pub fn document_again()
     typed_sets();
 }
 
-/// Every list of definitions means a document, over any schema value and without a schema: so what is said of
+/// Every list of definitions means a document, over any schema value and without a schema. So what is said of
 /// the documents that a list means is said of one. GraphQL specification of October 2021, sections 2.2 to
 /// 2.8.
 pub fn every_list_means_a_document()

@@ -1,7 +1,7 @@
 //! Executable documents built from documents of syntax, over a schema or without one: GraphQL specification
 //! of October 2021, sections 2.2 to 2.8.
 //!
-//! Proved: `build` answers exactly the typed document and its faults; exactly the selections that have a type
+//! Proved: `build` answers exactly the typed document and its faults. Exactly the selections that have a type
 //! are kept; what is written out builds again to itself.
 #![tactic(auto)]
 
@@ -10,15 +10,14 @@ pub mod document_builder;
 mod elaborating;
 pub mod elaboration;
 pub mod field_set;
-mod fragments;
 pub mod laws;
-mod operations;
 mod parent;
 pub mod selection_laws;
 pub mod selection_path;
 mod state;
 mod tables;
 mod typable;
+mod typed_definitions;
 
 pub use crate::build_error::{BuildError, Fault, Faults};
 pub use crate::document_builder::ExecutableDocumentBuilder;

@@ -1,4 +1,4 @@
-//! Laws of elaboration, for those who build on it; and what `==` answers at paths and the errors of a build,
+//! Laws of elaboration, for those who build on it. Also what `==` answers at paths and the errors of a build,
 //! and what clones of these errors are.
 //!
 //! Each law is a function that does nothing. A proof cites it by a call, and finds its clauses there.
@@ -34,9 +34,9 @@ use apollo_executable::selection::{Field, SelectionSet};
 use apollo_schema::schema::Schema;
 use graphql_ast::selection::Selection;
 
-/// The selections that a typed set is erased to are all typable in its type, so nothing of them is at fault;
-/// and no two typed sets from one type are erased to the same selections. GraphQL specification of October
-/// 2021, sections 2.4 to 2.8.
+/// The selections that a typed set is erased to are all typable in its type, so nothing of them is at fault.
+/// No two typed sets from one type are erased to the same selections. GraphQL specification of October 2021,
+/// sections 2.4 to 2.8.
 pub fn typed_sets()
     ensures stripped { (schema : Option Schema) (ty : NameView) (set : SelectionSet)
         → IsTypedSet schema ty set → stripped schema ty (erased_set set) ≡ erased_set set }
@@ -59,14 +59,14 @@ pub fn elaborated_sets()
         → set ≡ elaborated schema ty xs }
 {}
 
-/// What is typable in a type, plainly. Over a schema, a field is typable under two conditions (`field`): the
-/// type has a field of its name; and it has no subselections or the name inside all lists of its type is no
-/// scalar or enum. An inline fragment without a condition is typable, from that type (`without_condition`).
-/// One with a condition is typable if the schema has a type of that name, from that (`condition`). A spread
-/// always is (`spread`). Without a schema each selection is, and the type of each field is `UNKNOWN`
-/// (`any_field`). So a list is stripped: each selection alone, a field from the inner type of its definition,
-/// an inline fragment from its child type (`stripped_field`, `stripped_fragment`). GraphQL specification of
-/// October 2021, sections 2.4 to 2.8.
+/// What is typable in a type, plainly. Over a schema, a field is typable if the type has a field of its name,
+/// and one of two more holds (`field`). It has no subselections, or the name inside all lists of its type is
+/// no scalar or enum. An inline fragment without a condition is typable, from that type
+/// (`without_condition`). One with a condition is typable if the schema has a type of that name, from that
+/// (`condition`). A spread always is (`spread`). Without a schema each selection is, and the type of each
+/// field is `UNKNOWN` (`any_field`). So a list is stripped. Each selection is so alone, a field from the
+/// inner type of its definition, an inline fragment from its child type (`stripped_field`,
+/// `stripped_fragment`). GraphQL specification of October 2021, sections 2.4 to 2.8.
 pub fn what_is_typable()
     ensures field { (s : Schema) (ty name : NameView) (bare : Bool) (d : NodeView FieldDefinition)
         → (typable_field (Some s) ty name bare ≡ Ok d)

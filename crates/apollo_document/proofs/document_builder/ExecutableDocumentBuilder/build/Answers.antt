@@ -21,11 +21,11 @@ returns-in-Open-clause-built c =
     } in
     let schema = option_copied c.self.inside.schema in
     let list = c.self.inside.added.items in
-    let tables = c.in-Open.tables in
+    let held = c.in-Open.field-0 in
     let built = c.into_document.result in
     let stands = subst (HoldsFor schema list) c.in-Open.is c.self.invariant in
-    let is : IsBuiltOfList schema list tables.sources built.0 built.1.items = record {
-      means = built_document sets schema list tables _ stands
+    let is : IsBuiltOfList schema list held.sources built.0 built.1.items = record {
+      means = built_document sets schema list held.tables _ stands
           (ap (λ d. d.operations) c.into_document.ensures.document)
           (ap (λ d. d.fragments) c.into_document.ensures.document);
       its_sources = ap (λ d. d.sources) c.into_document.ensures.document;

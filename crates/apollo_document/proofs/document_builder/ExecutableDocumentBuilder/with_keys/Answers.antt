@@ -6,4 +6,4 @@ use Rattle.apollo_document.proofs.document_builder.ExecutableDocumentBuilder.wit
 pub invariant_of-result : goal.invariant_of-result
 invariant_of-result c =
     subst (λ xs. Stands (option_copied c.args.schema) xs c.new.result) (sym c.none.ensures)
-    (c.new.ensures.stands (option_copied c.args.schema))
+    (c.new.ensures (option_copied c.args.schema))
