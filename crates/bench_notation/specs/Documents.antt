@@ -120,8 +120,8 @@ pub record AreDividedDocumentsOf (text : List ℕ) (schema executable : List Doc
   -- the documents behind that line
   pub behind : executable ≡ (document_ended end).documents
 
--- read from a state of the reading, the refused line is one of these lines; those before it say something,
--- and where they lead, it says nothing that may stand there
+-- read from a state of the reading, the refused line is one of these lines. Those before it say something.
+-- Where they lead, it says nothing that may stand there
 pub record IsFirstRefusedFrom (start : DocumentReader) (lines : List (List ℕ)) (refused : RefusedLine) :
     Type 0 where
   -- how many lines stand before the refused one

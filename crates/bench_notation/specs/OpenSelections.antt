@@ -7,8 +7,8 @@ use Rattle.bench_notation.specs.declared.selection_line.SelectionLine.{Selection
 use Rattle.bench_notation.specs.declared.nesting.OpenSelection.{OpenSelection}
 use Rattle.bench_notation.specs.declared.nesting.Nesting.{Nesting}
 
--- the selections of a depth, of which the first of these is open; each further one is open in the one before
--- it; and of the last one these are known
+-- the selections of a depth, of which the first of these is open. Each further one is open in the one before
+-- it. Of the last one these selections and lines are known
 abbrev pub combined_at : ℕ → List OpenSelection → List Selection → List SelectionLine → List Selection
 combined_at depth [] selections lines = selections ++ selections_at depth lines
 combined_at depth (outer ∷ inner) selections lines =

@@ -1,6 +1,6 @@
 //! What has been read of the definition or extension that is being read.
 ghost use Rattle.std.specs.Prelude.{◌≡◌, IfOk, OnOk};
-ghost use Rattle.bench_notation.specs.Components.{is_input_object};
+ghost use Rattle.bench_notation.specs.Components.{definition_with, is_input_object, with_last};
 
 use crate::above::Above;
 use crate::directive_parts::DirectiveParts;
@@ -172,11 +172,29 @@ impl OpenItem {
         ensures { OnOk result (self.new ≡ with_component (Field name ty) location self.old) }
     {
         let next = OpenField::new(alloc, name, ty, location);
-        let is_input = is_input_object(&self.header);
-        match mem::replace(&mut self.last_field, Some(next)) {
-            Some(field) => self.parts.push(field.close_as_part(alloc, is_input)?),
-            None => Ok(()),
-        }
+        let last = mem::replace(&mut self.last_field, Some(next));
+        add_last(alloc, &self.header, last, &mut self.parts)
+    }
+
+    /// Hands out the definition or extension, in whose place the item of this header begins. The error is out
+    /// of memory.
+    pub fn begin_next(
+        &mut self,
+        alloc: Global,
+        header: Header,
+        location: SourceSpan,
+    ) -> Result<Definition, AllocError>
+        ensures ended { IfOk result (λ definition. definition ≡ whole_item self.old) }
+        ensures begun { OnOk result (self.new ≡ header_alone header location) }
+    {
+        let last = self.last_field.take();
+        add_last(alloc, &self.header, last, &mut self.parts)?;
+        let header = mem::replace(&mut self.header, header);
+        let location = mem::replace(&mut self.location, location);
+        let parts = mem::replace(&mut self.parts, Parts::new(alloc));
+        let directive = mem::replace(&mut self.directive, DirectiveParts::new(alloc));
+        let selections = mem::replace(&mut self.selections, Items::new(alloc));
+        definition_with(alloc, header, parts, directive, selections, location)
     }
 
     /// The definition or extension. The error is out of memory.
@@ -191,36 +209,63 @@ impl OpenItem {
             last_field,
             selections,
         } = self;
-        if let Some(field) = last_field {
-            parts.push(field.close_as_part(alloc, is_input_object(&header))?)?;
+        add_last(alloc, &header, last_field, &mut parts)?;
+        definition_with(alloc, header, parts, directive, selections, location)
+    }
+}
+
+/// Adds the last field of the item of this header, if there is one, to the parts. The error is out of memory.
+fn add_last(
+    alloc: Global,
+    header: &Header,
+    field: Option<OpenField>,
+    parts: &mut Parts,
+) -> Result<(), AllocError>
+    ensures { OnOk result (parts.new ≡ with_last (is_input_object header.now) field parts.old) }
+{
+    match field {
+        Some(field) => parts.push(field.close_as_part(alloc, is_input_object(header))?),
+        None => Ok(()),
+    }
+}
+
+/// The definition or extension of a header with these components. The error is out of memory.
+fn definition_with(
+    alloc: Global,
+    header: Header,
+    parts: Parts,
+    directive: DirectiveParts,
+    lines: Items<SelectionLine>,
+    location: SourceSpan,
+) -> Result<Definition, AllocError>
+    ensures { IfOk result (λ definition. definition ≡ definition_with header parts directive lines location) }
+{
+    match header {
+        Header::Type(role, kind, name) => {
+            let declaration = TypeDeclaration {
+                kind,
+                name,
+                is_extension: role.is_extension(),
+                description: None,
+                location: Some(location),
+                parts,
+            };
+            declaration.into_definition(alloc)
         }
-        match header {
-            Header::Type(role, kind, name) => {
-                let declaration = TypeDeclaration {
-                    kind,
-                    name,
-                    is_extension: role.is_extension(),
-                    description: None,
-                    location: Some(location),
-                    parts,
-                };
-                declaration.into_definition(alloc)
-            }
-            Header::Directive(name) => directive.into_definition(alloc, name, location),
-            Header::Schema(role) => {
-                let declaration = SchemaDeclaration {
-                    is_extension: role.is_extension(),
-                    description: None,
-                    location: Some(location),
-                    parts,
-                };
-                declaration.into_definition(alloc)
-            }
-            Header::Executable(header) => {
-                let directives = mem::replace(&mut parts.directives, Items::new(alloc));
-                let selections = nested(alloc, selections)?;
-                header.into_definition(alloc, DirectiveList(directives), selections, location)
-            }
+        Header::Directive(name) => directive.into_definition(alloc, name, location),
+        Header::Schema(role) => {
+            let declaration = SchemaDeclaration {
+                is_extension: role.is_extension(),
+                description: None,
+                location: Some(location),
+                parts,
+            };
+            declaration.into_definition(alloc)
+        }
+        Header::Executable(header) => {
+            let Parts { directives, .. } = parts;
+            let selections = nested(alloc, lines)?;
+            header.into_definition(alloc, DirectiveList(directives), selections, location)
         }
     }
 }

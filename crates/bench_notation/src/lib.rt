@@ -4,6 +4,11 @@
 //! definitions.
 //!
 //! Proved: what is read is what the lines say; no line that could be read is refused; printing is exact.
+//!
+//! Not proved: why a line is refused, which tests compare.
+//!
+//! No clause: `Names::new`, `Names::alloc`, `hash_of`, `mixed` and `index_of`, as which names are kept, and
+//! where, changes no answer.
 #![tactic(auto)]
 
 pub mod above;

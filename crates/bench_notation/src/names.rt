@@ -1,4 +1,4 @@
-//! Names, each of which shares its text with one that was read before, where that is still at hand.
+//! Names, each of which shares its text with one that was read before, where that is still kept.
 ghost use Rattle.std.specs.Prelude.{◌≡◌, IfErr, IfOk, OnOk};
 ghost use Rattle.graphql_nodes.specs.NameSyntax.{IsName};
 ghost use Rattle.bench_notation.specs.Line.{IsNameAt};
@@ -9,10 +9,10 @@ use graphql_nodes::name::Name;
 use graphql_nodes::source::SourceSpan;
 use std::alloc::{AllocError, Global};
 
-/// How many names are at hand at most: so few that they stay near in memory.
+/// How many names are kept at most: so few that they stay near in memory.
 const MOST_NAMES: usize = 4096;
 
-/// A name that is at hand, with the hash of its text.
+/// A name that is kept, with the hash of its text.
 struct Kept {
     hash: u64,
     name: Name,
@@ -25,7 +25,7 @@ impl Drop for Kept {
     }
 }
 
-/// The names that are at hand. Each has a place that goes by its text, and the first name of that place keeps
+/// The names that are kept. Each has a place that goes by its text, and the first name of that place keeps
 /// it.
 pub struct Names {
     places: Vec<Option<Kept>>,
@@ -38,8 +38,7 @@ impl Drop for Names {
 }
 
 impl Names {
-    /// Room for about this many names, none of which is at hand yet. The error is out of memory.
-    /// No clause: which names are at hand changes no answer.
+    /// Room for about this many names, none of which is kept yet. The error is out of memory.
     pub fn new(alloc: Global, count: usize) -> Result<Names, AllocError> {
         let count = count.min(MOST_NAMES);
         let mut places = Vec::with_capacity(alloc, count)?;
@@ -48,7 +47,6 @@ impl Names {
     }
 
     /// The allocator of the names.
-    /// No clause: an allocator has no state.
     pub fn alloc(&self) -> Global {
         *self.places.allocator()
     }
@@ -63,7 +61,7 @@ impl Names {
         Ok(self.shared(word)?.with_location(location))
     }
 
-    /// The name that a word is, which is at hand from now on if its place is free. What is at hand was looked
+    /// The name that a word is, which is kept from now on if its place is free. What is kept was looked
     /// at before.
     fn shared(&mut self, word: &str) -> Result<Name, LineError>
         ensures text { IfOk result (λ name. name.text ≡ word.now) }

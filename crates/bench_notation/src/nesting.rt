@@ -121,7 +121,7 @@ impl Nesting {
 }
 
 /// The selections that lines say. One of depth 0 stands in no other. Any other stands in the nearest one
-/// above it that is less deep, if that is less deep by one and no spread; else it is left out, with what
+/// above it that is less deep, if that is less deep by one and no spread. Else it is left out, with what
 /// stands in it.
 ///
 /// The error is out of memory, and drops the lines.

@@ -137,14 +137,23 @@ impl DocumentReader {
         ensures { OnOk result (self.new
             ≡ record (item_ended self.old) { item = Some (header_alone header location) }) }
     {
-        self.end_item(alloc, Some(OpenItem::new(alloc, header, location)))
+        match &mut self.item {
+            Some(item) => {
+                let ended = item.begin_next(alloc, header, location)?;
+                self.document.definitions.push(ended)
+            }
+            None => {
+                self.item = Some(OpenItem::new(alloc, header, location));
+                Ok(())
+            }
+        }
     }
 
-    /// Ends the item that is being read, after which the next is read, if there is one.
-    fn end_item(&mut self, alloc: Global, next: Option<OpenItem>) -> Result<(), AllocError>
-        ensures { OnOk result (self.new ≡ record (item_ended self.old) { item = next }) }
+    /// Ends the item that is being read, if there is one.
+    fn end_item(&mut self, alloc: Global) -> Result<(), AllocError>
+        ensures { OnOk result (self.new ≡ item_ended self.old) }
     {
-        match mem::replace(&mut self.item, next) {
+        match self.item.take() {
             Some(item) => self.document.definitions.push(item.close(alloc)?),
             None => Ok(()),
         }
@@ -153,7 +162,7 @@ impl DocumentReader {
     fn end_document(&mut self, alloc: Global) -> Result<(), AllocError>
         ensures { OnOk result (self.new ≡ document_ended self.old) }
     {
-        self.end_item(alloc, None)?;
+        self.end_item(alloc)?;
         let document = mem::replace(&mut self.document, Document::new(alloc));
         self.documents.push(document)
     }

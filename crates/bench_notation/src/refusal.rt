@@ -68,8 +68,8 @@ pub struct RefusedLine {
     pub reason: Reason,
 }
 
-/// Why a whole text is not read: a line is refused, no line divides it, or there is out of memory, which says
-/// nothing of the text.
+/// Why a whole text is not read: a line is refused, no line divides it, or memory ran out, which says nothing
+/// of the text.
 #[derive(Debug, Clone, Copy, PartialEq, Eq, Error)]
 pub enum ReadError {
     #[error(transparent)]

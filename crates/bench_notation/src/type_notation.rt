@@ -17,7 +17,7 @@ use std::alloc::AllocError;
 pub const MOST_BRACKETS: u8 = 200;
 
 /// The type that a word is, with its name at this location. A word that is no type, or opens more than
-/// `brackets` brackets, is refused as a bad word; `Memory` is out of memory, and says nothing of the word.
+/// `brackets` brackets, is refused as a bad word. `Memory` is out of memory, and says nothing of the word.
 pub fn read_type(
     names: &mut Names,
     word: &str,

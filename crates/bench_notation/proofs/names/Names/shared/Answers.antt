@@ -1,4 +1,4 @@
--- What is at hand is a name, so a word of the same text is one.
+-- What is kept is a name, so a word of the same text is one.
 use Rattle.std.proofs.Common.{◌≡◌, rules, subst}
 use Rattle.graphql_nodes.specs.NameSyntax.{IsName}
 use Rattle.bench_notation.proofs.NameWords.{not_no_name}
