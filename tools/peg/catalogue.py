@@ -183,8 +183,21 @@ def entry(heading, said, report, mend):
     yield from (f"{name}: {sentence}\n" for name, sentence in mend.items() if name != "Case")
 
 
+def index(lines):
+    """A list of the headings of these lines, each with a link to it."""
+    headings = (re.match(r"##(#?) (.*)", line) for line in lines)
+    links = ((found[1], found[2]) for found in headings if found)
+    return [f"{'  ' if inner else ''}- [{said}](#{layout.slug(said)})" for inner, said in links]
+
+
 def page():
+    lines = list(entries())
     yield from ("# Faults and refusals", "", layout.MADE, "", layout.head("faults"), "")
+    yield from (*index(lines), "", *lines)
+
+
+def entries():
+    """The sections of the page, entry by entry."""
     for kind in KINDS:
         yield from (f"## {kind.heading}", "", kind.said, "")
         crate = kind.file.split("/")[0]

@@ -64,6 +64,12 @@ class Words:
             crate, module = self.taken[crate, module][name]
         return crate, module, name
 
+    def named(self, top):
+        """The words that the definitions of a module mention beside its own, above what is below, in order."""
+        own = [key for key in self.homes if key[:2] == top]
+        homes = (self.home(*top, name) for key in own for name in sorted(self.homes[key].names))
+        return dict.fromkeys(it for it in homes if it and it not in own and it[0] not in BELOW)
+
     def closure(self, top):
         """The definitions of a module and all that they stand on above what is below, nearest first."""
         found = [key for key in self.homes if key[:2] == top]
@@ -78,12 +84,22 @@ def pages():
     yield "laws/headline_words.md", page()
 
 
+def in_short(words):
+    """A table of the words that the headline's module names, each with its comment."""
+    yield from ("## In short", "", layout.head("headline_in_short"), "", "| word | what it is |", "|---|---|")
+    for key in words.named(TOP_MODULE):
+        lines = (line.removeprefix("--").strip() for line in words.homes[key].comment)
+        yield f"| `{key[2]}` | {' '.join(lines)} |"
+    yield ""
+
+
 def page():
     words = Words()
     by_module = {}
     for key in words.closure(TOP_MODULE):
         by_module.setdefault(key[:2], []).append(key)
     yield from ("# The words of the headline", "", layout.MADE, "", layout.head("headline_words"), "")
+    yield from in_short(words)
     for (crate, module), keys in by_module.items():
         file = CRATES / crate / "specs" / f"{module.replace('.', '/')}.antt"
         yield from (f"## {module} of {crate}", "")

@@ -39,7 +39,7 @@ def command(*words):
 
 
 def run(jobs, side_by_side=2):
-    """Runs all jobs, tells of each in their order, and answers how many parts of all passed, failed and were skipped."""
+    """Runs all jobs, reports each in their order, and answers how many parts of all passed, failed and were skipped."""
     sums, pool = [0, 0, 0], concurrent.futures.ThreadPoolExecutor(side_by_side)
     try:
         for job, future in [(job, pool.submit(job.run)) for job in jobs]:

@@ -14,8 +14,8 @@ LIMIT = 300
 
 UNBUILT = """{name}: not built from these sources. It is compiled first, for some 60 seconds of the processor, and run unproved.
 {name}: this way output over 1 MiB is cut, and so is input over 64 MiB or behind two silent seconds; a terminal isn't read, and
-{name}: a stream that fails isn't seen to fail. `cd crates/{name} && rt run` proves and builds it: from nothing, in some 80 minutes
-{name}: of the processor. Then it starts at once."""
+{name}: a stream that fails isn't seen to fail. The last two lines are of `rt try`. `cd crates/{name} && rt run` proves and
+{name}: builds it: from nothing, in some 80 minutes of the processor. Then it starts at once."""
 
 
 class Run(NamedTuple):
@@ -114,14 +114,20 @@ def start(name, words):
             say(usage(name))
             return 2
         say(UNBUILT.format(name=name))
-        # The program is run in a folder of its own, which gets the files that are named, without their folders.
-        given = {word: os.path.basename(word) for word in words if not usage(name) and os.path.isfile(word)}
+        # The program is run in a folder of its own, which gets the files that are named.
+        given = {word: inner(word) for word in words if not usage(name) and os.path.isfile(word)}
         named = [part for word, own in given.items() for part in ("--data", f"{own}={os.path.abspath(word)}")]
         os.chdir(CRATES / name)
         os.execvp("rt", ["rt", "try", *named, "--", *(given.get(word, word) for word in words)])
     if words and os.isatty(0):
         say(f"{name}: reads from the terminal, up to the end of the input (Ctrl-D)")
     os.execv(path(name), [name, *words])
+
+
+def inner(path):
+    """A path as it is inside a folder: one that leads out of it is cut to its name."""
+    is_outside = os.path.isabs(path) or os.path.normpath(path).startswith("..")
+    return os.path.basename(path) if is_outside else path
 
 
 def say(text):

@@ -1,4 +1,4 @@
-"""What each run of `gqltool` promises, as far as one program can tell: `broken` names what a run doesn't keep."""
+"""What each run of `gqltool` promises, as far as one program can see: `broken` names what a run doesn't keep."""
 import re
 
 from peg import notation, programs
@@ -144,8 +144,8 @@ def broken_schema(_, lines, answer, __):
 def broken_coord(case, lines, answer, faults):
     """What the coordinate points to, by the schema's write-out, which has no built-in definitions."""
     asked = case.words[1].decode()
-    written, told = answered(b"schema", lines)
-    if faults != told:
+    written, reported = answered(b"schema", lines)
+    if faults != reported:
         yield "other faults than those of the schema"
     form = next(form for form, marks in FORMS if re.match(marks, asked))
     if len(answer) != 2 or answer[0] != f"{form} {asked}":
@@ -233,8 +233,8 @@ def walks(written):
 
 def broken_walk(_, lines, answer, faults):
     """Walks over what `doc` writes, and its faults."""
-    written, told = answered(b"doc", lines)
-    if told != faults:
+    written, reported = answered(b"doc", lines)
+    if reported != faults:
         yield "other faults than those of the document"
     if answer != list(walks(written)):
         yield "walks over the document give something else"

@@ -15,8 +15,8 @@ use Rattle.apollo_document.specs.WrittenAgain.{ambiguous_again}
 use Rattle.apollo_canonical_text.specs.FromTexts.{Reading, Reads}
 use Rattle.apollo_canonical_documents.specs.EqualDocuments.{AreEqualDocuments, AreEqualInOrder, bare_faults}
 
--- a text that is added to a document: how it is read, what it is read as, and whether definitions of the
--- type system in it are at fault
+-- a text that is added to a document: how it is read and what it is read as. The flag says whether
+-- definitions of the type system in it are at fault
 pub record AddedDocumentText : Type 0 where
   pub reading : Reading
   pub definitions : List Definition
@@ -41,16 +41,16 @@ pub record IsDocumentOfTexts (schema : Option Schema) (document : ExecutableDocu
 abbrev pub document_text : ExecutableDocument → List ℕ
 document_text document = definitions_text (erased_definitions document)
 
--- a reading of the document's text in which nothing is refused for its size: it may nest as deep as the
+-- a reading of the document's text in which nothing is refused for its size. The text may nest as deep as the
 -- write-out does, and have as many tokens as it has bytes
 pub record IsReadingOfDocument (document : ExecutableDocument) (r : Reading) : Type 0 where
   pub text : r.text ≡ document_text document
   pub deep : document_nesting (erased_definitions document) ≤ r.depth
   pub long : length r.text ≤ r.allowed
 
--- definitions that mean a document that is equal to this one and has its text: over the schema that this one
--- was typed over, or without one if it was typed without; whether or not definitions of the type system are
--- at fault
+-- definitions that mean a document that is equal to this one and has its text. That is over the schema that
+-- this one was typed over, or without one if it was typed without. It is so whether or not definitions of the
+-- type system are at fault
 pub record BuildDocumentAgain (schema : Option Schema) (document : ExecutableDocument)
     (definitions : List Definition) : Type 0 where
   -- there is a document that they mean
@@ -68,7 +68,7 @@ pub record BuildDocumentAgain (schema : Option Schema) (document : ExecutableDoc
   pub text : (errors : Bool) (again : ExecutableDocument)
       → IsDocumentOf schema (document_list errors definitions) again
       → document_text again ≡ document_text document
-  -- what is wrong with them is what is wrong with the write-out: the operation without a name is ambiguous,
+  -- what is wrong with them is what is wrong with the write-out. The operation without a name is ambiguous,
   -- once for each named one that stands beside it
   pub faults : (errors : Bool)
       → bare_faults (document_faults schema (document_list errors definitions))

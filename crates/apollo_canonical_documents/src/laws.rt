@@ -59,10 +59,12 @@ pub fn equal_definitions_mean_equal_documents()
 
 /// From text to text. Texts that are read mean a document, typed over any schema or without one, whole or
 /// what could be built of them with faults. The text of its write-out is read again, in any file but that of
-/// the built-in definitions, under two conditions: something is written; and no operation, fragment or inline
-/// fragment was left without a selection. Whatever it is read as means, over the same schema, an equal
-/// document with the same text. Nothing is wrong with it, but that an operation without a name is ambiguous
-/// where named ones stand beside it. GraphQL specification of October 2021, sections 2.2 to 2.8.
+/// the built-in definitions. Whatever it is read as means, over the same schema, an equal document with the
+/// same text. Nothing is wrong with it, but that an operation without a name is ambiguous where named ones
+/// stand beside it. GraphQL specification of October 2021, sections 2.2 to 2.8.
+///
+/// Premise: that of [`canonical_text`](apollo_canonical_text::laws::canonical_text), and no operation,
+/// fragment or inline fragment was left without a selection.
 pub fn canonical_document_text()
     ensures read { (schema : Option Schema) (document : ExecutableDocument)
         → IsDocumentOfTexts schema document

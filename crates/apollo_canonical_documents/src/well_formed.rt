@@ -24,13 +24,13 @@ pub fn executables_are_well_formed_by_their_definitions()
         → HasWellFormedExecutables (document_list errors ds) }
 {}
 
-/// Well-formed goes through the typed document: where each operation and fragment of a list is well-formed,
+/// Well-formed goes through the typed document. Where each operation and fragment of a list is well-formed,
 /// so is each definition that the document of the list is written out as. It holds over any schema and
 /// without one, and for a list with faults too. For that no operation, fragment or inline fragment may have
-/// been left without a selection: what isn't typable is left out, and the grammar wants one there at least.
+/// been left without a selection. What isn't typable is left out, and the grammar wants one there at least.
 /// Where anything is written, the document that is written is well-formed. No less will do: of any document
-/// whose definitions are written well-formed, each of these has a selection. GraphQL specification of
-/// October 2021, sections 2.2 to 2.8.
+/// whose definitions are written well-formed, each of these has a selection. GraphQL specification of October
+/// 2021, sections 2.2 to 2.8.
 pub fn an_erased_document_is_well_formed()
     ensures each { (schema : Option Schema) (xs : List DocumentItem) (document : ExecutableDocument)
         → IsDocumentOf schema xs document → HasWellFormedExecutables xs → IsFilledDocument document

@@ -24,8 +24,8 @@ use Rattle.apollo_compiler.specs.Lists.{handed_in, schema_list}
 use Rattle.apollo_compiler.specs.declared.compile_options.CompileOptions.{CompileOptions}
 use Rattle.apollo_compiler.specs.declared.compiled.Compiled.{Compiled}
 
--- what laws of lists of definitions say: all extensions of a name's kind are folded for it, all of the
--- schema's for that, and the names of types are the first of each text, and no two extensions have one number
+-- what laws of lists of definitions say. All extensions of a name's kind are folded for it, and all of the
+-- schema's for that. The names of types are the first of each text, and no two extensions have one number
 pub record ListLaws : Type 0 where
   pub folded : (start : ℕ) (xs : List ListItem) (n : List ℕ) (d : TypePart) → first xs n ≡ Some d
       → map (λ s. s.1) (extensions_with_origin n start (folding_order xs)) ≡ of_kind (kind_of d) (extensions_of xs n)

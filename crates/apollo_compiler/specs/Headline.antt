@@ -154,8 +154,9 @@ kept_definitions s xs =
     filter_map (operation_stripped s) (kept_operations s xs)
     ++ map (fragment_stripped s) (values_of (kept_fragments s xs))
 
--- there is one walk over a set: these fields, each that is reached exactly as often as it stands there, in
--- the order of walks; in so many turns, which are at most two for each selection in reach, and one
+-- there is one walk over a set. It gives these fields: each that is reached exactly as often as it stands
+-- there, in the order of walks. It takes so many turns, which are at most two for each selection in reach,
+-- and one
 pub record HasOneWalk (deep : Bool) (document : ExecutableDocument) (set : SelectionSet) : Type 0 where
   -- the fields that the walk gives
   pub fields : List (NodeView Field)

@@ -3,8 +3,8 @@
 /// How the documents of a schema are taken.
 #[derive(Debug, Clone, Copy, PartialEq, Eq)]
 pub struct CompileOptions {
-    /// What has extensions and no definition is taken as defined: a type, empty, at its first extension; and
-    /// the schema itself, without a location, with the default roots unless an extension names a root
+    /// What has extensions and no definition is taken as defined. A type is then empty, at its first
+    /// extension. The schema itself has no location, and the default roots unless an extension names a root
     /// (sections 3.3.2 and 3.4.3).
     pub adopt_orphan_extensions: bool,
     /// A further definition of a name whose type is built-in is passed over without a fault (sections 3.3 and

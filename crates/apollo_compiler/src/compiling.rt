@@ -31,9 +31,9 @@ use std::alloc::Global;
 /// The sources of `schema` and of `document` are those of their documents, merged: of two files of one number
 /// the later stays. `rebuilt` and `erased` have none.
 ///
-/// The rebuild has no faults, equals `schema` and is written out the same, under two conditions: no
-/// definition that is handed in is marked built-in; and each schema definition names a root. What else is
-/// promised is said by [`headline`].
+/// Where no definition that is handed in is marked built-in and each schema definition names a root, the
+/// rebuild has no faults. It then equals `schema` and is written out the same. What else is promised is said
+/// by [`headline`].
 ///
 /// `Memory` is out of memory; `ExtensionIds` comes only where the numbers don't suffice for the extensions of
 /// the schema documents. No other error comes. The documents are as they were.

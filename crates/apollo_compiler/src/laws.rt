@@ -30,7 +30,7 @@ pub use graphql_nodes::laws as nodes;
 // GraphQL text: words spell one tree at most, which is well-formed; refusals are of all words so far.
 pub use graphql_productions::laws as text;
 
-// What is printed: the text of a well-formed tree is read as an equal tree, equal trees have one text, and
+// What is printed: the text of a well-formed tree is read as an equal tree. Equal trees have one text, and
 // formatting twice is formatting once.
 pub use graphql_round_trip::laws as round_trip;
 
@@ -45,11 +45,11 @@ pub use apollo_component::laws as component;
 pub use apollo_types::laws as types;
 
 // What a list of definitions means: each type is its first definition with all its kind's extensions, in
-// order; its faults, in order; what is adopted, and which extensions have numbers; worked lists, computed.
+// order. Its faults, in order; what is adopted, and which extensions have numbers; worked lists, computed.
 pub use apollo_meaning::laws as meaning;
 
 // Lists of equal definitions: what each name means is equal. Lists whose definitions change places: so it is
-// there, and the faults are the same in some order; and which faults are of what is dropped.
+// there, and the faults are the same in some order. And which faults are of what is dropped.
 pub use apollo_schema_laws::rearrangement;
 
 // Schemas and builders: a list means one schema; every builder stands for a list or has failed; subtypes are
@@ -73,7 +73,7 @@ pub use apollo_canonical_documents::well_formed as well_formed_documents;
 // same text.
 pub use apollo_canonical_text::laws::canonical_text;
 
-// So is the text of a typed document that texts make, where no selections were left without one: over the
+// So is the text of a typed document that texts make, where no selections were left without one. Over the
 // same schema it builds an equal document with the same text. Equal definitions mean equal documents.
 pub use apollo_canonical_documents::laws::{
     canonical_document_text, equal_definitions_mean_equal_documents,
@@ -134,17 +134,19 @@ use apollo_walks::laws::{
 };
 use graphql_nodes::node::Node;
 
-/// Every list of documents builds to the schema in which each name's type is its first definition with all
-/// its kind's extensions folded in, in order, wherever they stand, each under an identity of its own, and in
-/// which each name that is defined has a type, and no other (`means`, `schema`), with exactly one fault for
-/// each thing that is dropped (`faults`). The schema's write-out rebuilds with adoption, without fault, to an
-/// equal schema and the same write-out (`rebuilds`). Kept operations and fragments erase to exactly their
-/// typable selections (`keeps`). And a walk gives each field that is reached exactly as often as it stands
-/// there, in one order, within two turns for each selection in reach and one (`walks`, `begins`). GraphQL
-/// specification of October 2021, sections 2.2 to 2.8, 3, 3.4.3 and 6.3.2.
+/// Every list of documents builds to the schema that it means (`means`). In it each name that is defined has
+/// a type, and no other name has one. Each type is the first definition of its name, with all extensions of
+/// its kind folded in (`schema`). They are folded in order, wherever they stand, and each has an identity of
+/// its own. There is exactly one fault for each thing that is dropped (`faults`).
+///
+/// The schema's write-out rebuilds with adoption, without fault, to an equal schema and the same write-out
+/// (`rebuilds`). Kept operations and fragments erase to exactly their typable selections (`keeps`). A walk
+/// gives each field that is reached exactly as often as it stands there, in one order (`walks`, `begins`). It
+/// takes two turns at most for each selection in reach, and one more. GraphQL specification of October 2021,
+/// sections 2.2 to 2.8, 3, 3.4.3 and 6.3.2.
 ///
 /// Nothing is assumed of a call. Every list means a schema (`means`), and no two but for their sources
-/// ([`a_list_means_one_schema`](apollo_schema::laws::a_list_means_one_schema)): faulty lists too, with
+/// ([`a_list_means_one_schema`](apollo_schema::laws::a_list_means_one_schema)). Faulty lists do so too, with
 /// adoption or without, and with extensions numbered from any number. So it is with documents (`typed`,
 /// [`document_again`](apollo_document::laws::document_again)). What is at fault is left out, and weakens none
 /// of this. That `compile` answers that schema, its faults, its rebuild and that document is its contract.
@@ -154,10 +156,9 @@ use graphql_nodes::node::Node;
 /// definition the schema has where none is written, and with which roots, says
 /// [`schema_definitions_by_cases`](apollo_meaning::laws::schema_definitions_by_cases).
 ///
-/// `rebuilds` alone has premises: the built-in definitions stand first, none behind them is marked built-in,
-/// and each schema definition names a root. `keeps` takes any schema value, or none; each operation that is
-/// kept has a root type (`rooted`). `walks` takes any document, also one that was made by hand, with cycles
-/// of fragments. The walks of `begins` are those that
+/// Premise: that of [`canonical`](apollo_schema_laws::write_out::canonical), of `rebuilds` alone. `keeps`
+/// takes any schema value, or none. Each operation that is kept has a root type (`rooted`). `walks` takes any
+/// document, also one that was made by hand, with cycles of fragments. The walks of `begins` are those that
 /// [`SelectionSet::root_fields`](apollo_executable::selection::SelectionSet::root_fields) and `all_fields`
 /// make. What their `next` gives call by call, and that the turns are within that bound at every moment, says
 /// [`walks_by_their_calls`](apollo_executable::laws::calls_of_walks::walks_by_their_calls).

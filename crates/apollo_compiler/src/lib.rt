@@ -1,9 +1,13 @@
 //! Documents compiled in one call: the schema of documents of the type system, its write-out built again, and
-//! the typed document of executable documents over the schema. GraphQL specification of October 2021,
-//! sections 2.2 to 2.8 and 3.
+//! the typed document of executable ones. GraphQL specification of October 2021, sections 2.2 to 2.8 and 3.
 //!
 //! Proved: one call answers the schema, its write-out, that built again, the typed document, that as syntax,
 //! and all faults.
+//!
+//! Not proved: that the Rust crate answers the same.
+//!
+//! No clause: `Prepared::new`, as the invariant of the type says what each value stands for, and no clause
+//! sees keys.
 #![tactic(auto)]
 
 pub mod building;

@@ -33,7 +33,7 @@ impl Model for Prepared {
 
 impl Prepared {
     /// A builder that hashes by these keys, and draws its numbers from a new source. The error is out of
-    /// memory. No clause: what each value of the type stands for is its invariant, and no clause sees keys.
+    /// memory.
     pub fn new(alloc: Global, keys: HashKeys) -> Result<Prepared, AllocError> {
         let bare = SchemaBuilder::with_keys(alloc, keys)?;
         Ok(Prepared { bare })

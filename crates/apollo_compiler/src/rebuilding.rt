@@ -38,8 +38,8 @@ fn written(alloc: Global, schema: &Schema) -> Result<Document, AllocError>
     Ok(document)
 }
 
-/// The write-out of a schema, and the schema that is built of that alone, with adoption and numbers from 0:
-/// an extension of a built-in type has no definition in a write-out, and neither has one of a schema whose
+/// The write-out of a schema, and the schema that is built of that alone, with adoption and numbers from 0.
+/// An extension of a built-in type has no definition in a write-out, and neither has one of a schema whose
 /// definition is implied.
 ///
 /// `Memory` is out of memory; `ExtensionIds` comes only where the numbers don't suffice for the extensions of

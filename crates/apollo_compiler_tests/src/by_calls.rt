@@ -1,5 +1,5 @@
-//! What documents that are made by calls are compiled to: arguments of directives, names that are no names of
-//! GraphQL, and nodes that are marked built-in.
+//! What documents that are made by calls are compiled to. They have arguments of directives, names that are
+//! no names of GraphQL, and nodes that are marked built-in.
 
 use crate::compiling::{PLAIN, expect_told, told, told_of_both};
 use crate::making::{marked, name, products, unchecked_fragment, unchecked_names};
@@ -54,7 +54,7 @@ fn definitions_that_are_marked_built_in_are_compiled(rt: HostRuntime) {
     );
 }
 
-/// Whether the coordinate of the field `→` of the type of the empty name is printed so; and whether it is
+/// Whether the coordinate of the field `→` of the type of the empty name is printed so. And whether it is
 /// there in the schema of such names.
 fn is_arrow_found(alloc: Global) -> Result<bool, CompileError> {
     let names = unchecked_names(alloc)?;

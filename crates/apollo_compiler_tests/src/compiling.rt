@@ -40,8 +40,8 @@ fn push_schema(alloc: Global, text: &mut String, compiled: &Compiled) -> Result<
     )
 }
 
-/// Adds whether the executable documents are without fault and equal to the first of them, and the typed
-/// document: each field with its definition, that with its directives.
+/// Adds whether the executable documents are without fault and equal to the first of them. Adds the typed
+/// document, each field with its definition, that with its directives.
 fn push_document(
     text: &mut String,
     compiled: &Compiled,

@@ -1,4 +1,4 @@
-//! The examples as GraphQL text and in the notation: they say the same, and are compiled to the same, but for
+//! The examples as GraphQL text and in the notation. They say the same, and are compiled to the same, but for
 //! what the notation has no line for. `tools/checked_examples` sees to it that these are the texts of
 //! `examples`.
 
@@ -298,7 +298,7 @@ fn told(
     Some(text)
 }
 
-/// What the store's texts and the text of an executable document tell.
+/// What the store's texts and the text of an executable document are compiled to, as text.
 fn told_of_text(alloc: Global, executable: &str) -> Option<String> {
     let store = read(alloc, FileId(1), STORE)?;
     let reviews = read(alloc, FileId(2), REVIEWS)?;
@@ -306,8 +306,8 @@ fn told_of_text(alloc: Global, executable: &str) -> Option<String> {
     told(alloc, &[store, reviews], &[executable], "")
 }
 
-/// What the store and an executable document tell that are written in the notation, as if the definition of
-/// the schema were written out.
+/// What the store and an executable document in the notation are compiled to, as text, as if the definition
+/// of the schema were written out.
 fn told_of_notation(alloc: Global, executable: &str) -> Option<String> {
     let text = format!(in alloc; "{STORE_NOTATION}===\n{executable}").ok()?;
     let documents = read_divided(alloc, text.as_str()).ok()?;

@@ -32,8 +32,8 @@ fn is_built_keyed(alloc: Global, options: CompileOptions, documents: &[Document]
     }
 }
 
-/// Which of all that is built and compiled hash by these keys: the schema that is built, the one that is
-/// compiled, the one that is rebuilt, the typed document.
+/// Which of all that is built and compiled hash by these keys. That is the schema that is built, the one that
+/// is compiled, the one that is rebuilt, and the typed document.
 fn keyed_parts(
     alloc: Global,
     options: CompileOptions,

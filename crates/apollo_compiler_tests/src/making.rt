@@ -1,5 +1,5 @@
-//! Documents that are made by calls, of what the notation can't say: arguments of directives, names that are
-//! no names of GraphQL, and nodes that are marked built-in.
+//! Documents that are made by calls, of what the notation can't say. That is arguments of directives, names
+//! that are no names of GraphQL, and nodes that are marked built-in.
 
 use graphql_ast::{
     Argument, Definition, Directive, DirectiveList, Document, Field, FieldDefinition,
@@ -139,8 +139,8 @@ fn selections(alloc: Global) -> Result<Items<Selection>, AllocError> {
     Ok(selections)
 }
 
-/// A document of a fragment of the name of a space on the type of the empty name: the field `→` under an
-/// alias of two words, and a spread of the fragment itself.
+/// A document of a fragment of the name of a space on the type of the empty name. It has the field `→` under
+/// an alias of two words, and a spread of the fragment itself.
 pub fn unchecked_fragment(alloc: Global) -> Result<Document, AllocError> {
     let names = both(name(alloc, " "), name(alloc, ""));
     let ((name, ty), selections) = both(names, selections(alloc))?;

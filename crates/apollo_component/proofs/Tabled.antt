@@ -1,5 +1,5 @@
--- Tables that have at each key what a function gives of it, tables with the same under each key, and what
--- tables give, key by key.
+-- Tables that have at each key what a function gives of it. Tables with the same under each key. What tables
+-- give, key by key.
 use Rattle.std.proofs.Common.{◌≡◌, Bool, true, false, cond, not, ◌||◌, List, [], ◌∷◌, ◌++◌, Option, Some, None, is_some, map, filter, refl, sym, ap, subst, ◌∙◌, true≢false}
 use Rattle.std.specs.List.{list_any, flat_map, IsDistinct, AllByRecursion}
 use Rattle.std.specs.Map.{lookup, set_value}

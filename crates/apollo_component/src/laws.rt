@@ -16,7 +16,7 @@ use crate::extension::{ComponentOrigin, ExtensionId, ExtensionSource, IdsSpent};
 use graphql_nodes::collections::key_set::KeySet;
 use graphql_nodes::source::SourceSpan;
 
-/// Each place of a list has one of the first elements or one of the later ones: the first of each are the
+/// Each place of a list has one of the first elements or one of the later ones. The first of each are the
 /// elements at the places that have no later one, in order. And each later one is the same as one of the
 /// first, which is found among them.
 pub fn each_is_first_or_later<T>()

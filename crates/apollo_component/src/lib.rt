@@ -3,6 +3,8 @@
 //!
 //! Proved: each component knows its origin; extensions of one source have distinct numbers; of one name the
 //! first is kept.
+//!
+//! Not proved: that identities of two sources differ, as a number has no memory of its source.
 #![tactic(auto)]
 
 pub mod component;

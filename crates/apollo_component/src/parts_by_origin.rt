@@ -1,4 +1,4 @@
-//! The components of a type or of a schema's definition, put under their origins and written out: GraphQL
+//! The components of a type or of a schema's definition, put under their origins and written out. GraphQL
 //! specification of October 2021, sections 3.3.2 and 3.4.3.
 ghost use Rattle.std.specs.Prelude.{◌≡◌, List, [], ◌∷◌, ◌++◌, map, IfOk, OnOk};
 ghost use Rattle.apollo_component.specs.Beginnings.{Begins};

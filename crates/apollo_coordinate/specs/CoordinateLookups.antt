@@ -1,9 +1,9 @@
 -- What the lookups of coordinates answer, over the maps of any schema value alone: Schema Coordinates RFC,
 -- and the GraphQL specification of October 2021, sections 3.5 to 3.10, 3.13, 4.1 and 4.2.
 --
--- **Attribute.** The attribute a of a name T, over any schema value: the enum value or input field a
--- that the type of T declares, or else the *field* a of T, which may be a meta-field. (So a value
--- `__schema` of an enum that is the query root is found before the meta-field.)
+-- **Attribute.** The attribute a of a name T, over any schema value: the enum value or input field a that the
+-- type of T declares. Else it is the *field* a of T, which may be a meta-field. (So a value `__schema` of an
+-- enum that is the query root is found before the meta-field.)
 use Rattle.std.specs.Prelude.{◌≡◌, ◌⊎◌, Bool, true, false, Option, None, Some, option_map, IsSome}
 use Rattle.std.specs.Option.{option_map_or}
 use Rattle.graphql_nodes.specs.NameView.{NameView}
@@ -109,8 +109,8 @@ IsMissingHere declares type a (MissingAttribute n) = (n.now ≡ a) × (declares 
 IsMissingHere declares type a (InvalidType other) = (other.now ≡ type) × (declares ≡ false)
 IsMissingHere declares type a _ = ⊥
 
--- there is no type of the name; or it is of a kind that declares what is looked for, but has none of the
--- name; or it is of another kind
+-- there is no type of the name. Or it is of a kind that declares what is looked for, but has none of the
+-- name. Or it is of another kind
 abbrev pub IsMissingAttribute : (ExtendedType → Bool) → Types → NameView → NameView
     → SchemaLookupError → Type 0
 IsMissingAttribute declares types t a (MissingType n) = (n.now ≡ t) × (type_at types t ≡ None)
@@ -120,7 +120,7 @@ IsMissingAttribute declares types t a (InvalidType type) =
     (type_at types t ≡ Some type.now) × (declares type.now ≡ false)
 IsMissingAttribute declares types t a _ = ⊥
 
--- an argument: the attribute is an enum value or an input field; or the field has no argument of the name; or
+-- an argument: the attribute is an enum value or an input field. Or the field has no argument of the name. Or
 -- there is no attribute of the name, as in its own lookup
 abbrev pub IsMissingFieldArgument : Schema → NameView → NameView → NameView → SchemaLookupError → Type 0
 IsMissingFieldArgument s t f a (InvalidArgumentAttribute n) =

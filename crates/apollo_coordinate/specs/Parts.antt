@@ -1,5 +1,5 @@
--- The parts of a text, borrowed from it: the coordinate that they make, its names at no location, and the
--- error that a refusal is answered as, where there is memory for it. Schema Coordinates RFC.
+-- The parts of a text, borrowed from it: the coordinate that they make, and its names at no location. Also
+-- the error that a refusal is answered as, where there is memory for it. Schema Coordinates RFC.
 use Rattle.std.specs.Prelude.{None}
 use Rattle.graphql_nodes.specs.NameView.{plain_name}
 use Rattle.apollo_coordinate.specs.declared.coordinates.TypeAttributeCoordinate.{TypeAttributeCoordinate}

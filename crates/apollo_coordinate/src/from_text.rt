@@ -1,8 +1,8 @@
 //! Coordinates from texts: the Schema Coordinates RFC of GraphQL.
 //!
 //! A text is first read into its parts, in place. Only if all of it is of the form are they made names, from
-//! the left: a text that is read takes memory for its names alone. A refused text takes memory for the one
-//! text that `InvalidName` carries, and for `InvalidFormat` none: where the format is refused, it is whatever
+//! the left. A text that is read takes memory for its names alone. A refused text takes memory for the one
+//! text that `InvalidName` carries, and for `InvalidFormat` none. Where the format is refused, it is whatever
 //! memory there is. `Memory` says nothing more of the text than that.
 ghost use Rattle.std.specs.Prelude.{◌≡◌, Err, IfOk, IfErr, OnOk};
 ghost use Rattle.apollo_coordinate.specs.CoordinateText.{IsCoordinateText, SaysCoordinate};

@@ -152,8 +152,8 @@ impl TypeCoordinate {
 }
 
 impl TypeAttributeCoordinate {
-    /// The attribute that the coordinate points to: an enum value or an input field of the name, or else the
-    /// field that [`Schema::type_field`] finds, which may be a meta-field.
+    /// The attribute that the coordinate points to. It is an enum value or an input field of the name, or
+    /// else the field that [`Schema::type_field`] finds, which may be a meta-field.
     ///
     /// [`MissingType`](SchemaLookupError::MissingType) is a name without a type. Where the type has no such
     /// attribute, the error is [`InvalidType`](SchemaLookupError::InvalidType) for a scalar or a union, and

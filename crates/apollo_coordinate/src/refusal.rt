@@ -1,4 +1,4 @@
-//! Why a text is no coordinate, told by what stands in the text: only the error that is answered takes
+//! Why a text is no coordinate, seen from what stands in the text: only the error that is answered takes
 //! memory.
 ghost use Rattle.std.specs.Prelude.{◌≡◌};
 ghost use Rattle.apollo_coordinate.specs.Parts.{error_of};

@@ -92,8 +92,8 @@ fn push_refusal(text: &mut String, error: &SchemaCoordinateParseError) -> Result
     write!(text, "{error}, {copy}\n")
 }
 
-/// Adds each refusal: those of a text that is no name, as a coordinate, as a name, and as the part that the
-/// latter has; and others.
+/// Adds each refusal. A text that is no name is refused as a coordinate, as a name, and as the part that the
+/// latter has. Then come others.
 fn push_refusals(alloc: Global, text: &mut String, input: &str) -> Result<(), AllocError> {
     if let Err(error) = TypeCoordinate::from_str(alloc, input) {
         push_refusal(text, &error)?;

@@ -18,8 +18,8 @@ use std::test::Fail;
 use telling::Tell;
 use telling::containers::tell_all;
 
-/// The selections of operations, from the type `Query` in the query `Q`, over the schema or without one; and
-/// copies of the field sets of the selections of fragments, from the types of their conditions: whole, or as
+/// The selections of operations, from the type `Query` in the query `Q`, over the schema or without one. Then
+/// copies of the field sets of the selections of fragments, from the types of their conditions, whole or as
 /// they are written out alone.
 #[derive(Drop)]
 pub struct Elaborated {

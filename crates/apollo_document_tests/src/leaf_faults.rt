@@ -1,6 +1,6 @@
-//! Leaf faults over the schema of the input, and over one of no documents: of what its documents build over
-//! its schema or without one, and of a document that is made by calls; and their places, and which of them
-//! are there since a build dropped what was selected below.
+//! Leaf faults over the schema of the input, and over one of no documents. They are of what its documents
+//! build over its schema or without one, and of a document made by calls. Shown are their places too, and
+//! which are there since a build dropped what was selected below.
 
 use crate::building::{Built, View};
 use crate::by_calls::document_of;
@@ -96,7 +96,7 @@ const UNKNOWN: [(&str, &str); 2] = [
         "def object Query\nfield id ID\nfield user User\ndef object User\n===\noperation query -\nsel 0 field id\nsel 1 field user\n",
         "elsewhere:\n",
     ),
-    // The schema at hand may have the unknown type.
+    // The schema of the input may have the unknown type.
     (
         "def union UNKNOWN\n===\nfragment F Gone\nsel 0 field a\nsel 1 field b\n",
         "`b`: a field of object, interface or union type must have subselections\nelsewhere:\n",

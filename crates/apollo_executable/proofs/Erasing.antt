@@ -1,5 +1,5 @@
--- What a field, an inline fragment and a set are erased to, by what their parts are; and that a document with
--- a fragment is not erased to nothing.
+-- What a field, an inline fragment and a set are erased to, by what their parts are. A document with a
+-- fragment is not erased to nothing.
 use Rattle.std.proofs.Common.{◌≡◌, ◌≢◌, ◌<◌, ◌∙◌, ap, arith, sym, ℕ, List, [], ◌++◌, map, length, length-append}
 use Rattle.std.proofs.lemmas.List.{length-map}
 use Rattle.graphql_nodes.specs.Tables.{values_of}

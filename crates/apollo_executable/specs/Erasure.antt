@@ -1,11 +1,12 @@
--- The untyped trees of typed ones: the definitions of fields and the types of sets are left out, and the
+-- The untyped trees of typed ones. The definitions of fields and the types of sets are left out, and the
 -- condition of a fragment is the type of its set. All else stays, locations too. GraphQL specification of
 -- October 2021, sections 2.2 to 2.8.
 --
 -- **Erased.** A typed value is erased (`erased`, `erased_set`, `erased_operation`, ..) to the untyped one.
--- That has no type of a set and no definition of a field, and all else the same: names, aliases, arguments,
--- directives, variables and selections in order, and every location. A named fragment keeps its condition as
--- the type of its set. A document is erased to its operations, then its fragments in order, without sources.
+-- That has no type of a set and no definition of a field, and all else the same. So it has the same names,
+-- aliases, arguments, directives, variables and selections in order, and every location. A named fragment
+-- keeps its condition as the type of its set. A document is erased to its operations, then its fragments in
+-- order, without sources.
 use Rattle.std.specs.Prelude.{List, [], ◌++◌, map}
 use Rattle.graphql_nodes.specs.NodeView.{NodeView}
 use Rattle.graphql_nodes.specs.Tables.{values_of}

@@ -23,8 +23,8 @@ with_requested m (Some name) o =
     record { anonymous = m.anonymous; named = set_value (same_text name) m.named o }
 with_requested m None o = with_only m.anonymous m o
 
--- once the borrow r ends, the node of the operation that was asked for is the last one written; all else is
--- as it was; at `None` the map is unchanged
+-- once the borrow r ends, the node of the operation that was asked for is the last one written. All else is
+-- as it was. At `None` the map is unchanged
 abbrev pub LendsNode : MutBor OperationMap → Option NameView → Option (MutBor (NodeView Operation)) → Fml
 LendsNode m name r =
     LendsSo map.the_row (node.the_row operation.the_row) m r
@@ -35,8 +35,8 @@ abbrev pub operation_location : Option (NodeView Operation) → Option SourceSpa
 operation_location (Some o) = o.location
 operation_location None = None
 
--- once the borrow r ends, the operation that was asked for is the last value written, where it stood; all
--- else is as it was; at `Err` the map is unchanged
+-- once the borrow r ends, the operation that was asked for is the last value written, where it stood. All
+-- else is as it was. At `Err` the map is unchanged
 abbrev pub LendsOperation : MutBor OperationMap → Option NameView → {E : Type 0}
     → Result (MutBor Operation) E → Fml
 LendsOperation m name r =

@@ -1,5 +1,5 @@
-//! What `==` answers at each type of this crate: whether the two are one with locations and sources left out,
-//! and operations and fragments in any order; and that clones are the originals.
+//! What `==` answers at each type of this crate: whether the two are one with locations and sources left out.
+//! Operations and fragments stand in any order. Clones are the originals.
 //!
 //! Each law is a function that does nothing. A proof cites it by a call, and finds a clause for each type
 //! there. That equal values have equal hashes is part of each type's `Hash`.
@@ -52,8 +52,8 @@ pub fn equality_of_documents()
 }
 
 /// Errors of requests are equal exactly where they are of one sort and their names have one text. Those of
-/// new fields are where their sorts and texts are the same, and their types are equal as `==` of types says:
-/// without locations and origins, and what stands under names in any order.
+/// new fields are where their sorts and texts are the same, and their types are equal as `==` of types says.
+/// That is without locations and origins, and what stands under names in any order.
 pub fn equality_of_errors<'a>()
     ensures request_error { ComparesBy ⟦<RequestError<'a> as PartialEq>⟧.eq bare_request_error }
     ensures new_field_error { ComparesBy ⟦<NewFieldError<'a> as PartialEq>⟧.eq bare_new_field_error }

@@ -6,6 +6,8 @@
 //!
 //! Proved: walks field by field; which queries are introspection; the operation that a request names; typed
 //! values as syntax.
+//!
+//! Not proved: that `is_introspection` looks at nothing after the first other field, which a test shows.
 #![tactic(auto)]
 
 mod appending;

@@ -147,7 +147,7 @@ impl OperationMap {
     }
 
     /// The operation that a request asks for, to write to, as [`get`](OperationMap::get) finds it. When the
-    /// loan ends, it is what was written: its location, its place in the map and the key that it stands under
+    /// loan ends, it is what was written. Its location, its place in the map and the key that it stands under
     /// stay, and so do all other operations.
     ///
     /// An operation that is shared is copied first: [`RequestError::Memory`] is out of memory for that, and

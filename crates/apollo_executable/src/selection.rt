@@ -1,6 +1,6 @@
 //! Typed selections: GraphQL specification of October 2021, sections 2.4 to 2.8.
 //!
-//! They are those of the syntax tree, with two differences: a set knows the name of the type that it selects
+//! They are those of the syntax tree, with two differences. A set knows the name of the type that it selects
 //! from, and a field its definition in the schema. All fields are public: any value may be made, whether a
 //! schema has such types and fields or not.
 //!

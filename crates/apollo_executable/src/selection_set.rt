@@ -55,7 +55,7 @@ impl SelectionSet {
     /// the schema's [`type_field`](Schema::type_field) gives in the type of this set. Its own set selects
     /// from the type which that definition names, inside all lists.
     ///
-    /// [`NewFieldError::Lookup`] says that the schema has no such type, or the type no such field;
+    /// [`NewFieldError::Lookup`] says that the schema has no such type, or the type no such field.
     /// [`NewFieldError::Memory`] is out of memory, and comes only where the type has the field. Either drops
     /// the name.
     pub fn new_field<'schema>(

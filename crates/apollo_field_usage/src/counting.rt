@@ -47,7 +47,7 @@ impl fmt::Display for FieldUsage {
 /// below fields. Each stands there once, in the order in which they are reached first, with how often it
 /// is reached.
 ///
-/// Fields are reached as [`all_fields`](Operation::all_fields) gives them: a fragment counts once, however
+/// Fields are reached as [`all_fields`](Operation::all_fields) gives them. A fragment counts once, however
 /// often it is spread, and nothing is looked for where a spread names no fragment. The type of a coordinate
 /// is that of the set in which the field stands. So a field in a fragment goes by the fragment's type.
 /// Directives such as `@skip` change nothing.

@@ -30,7 +30,7 @@ use crate::counting::FieldUsage;
 use apollo_coordinate::laws::{clones_of_coordinates_are_exact, equality_of_coordinates};
 
 /// What [`field_usage`](crate::counting::field_usage) counts is what walks over all fields give, with the
-/// types of the sets: the fields are those of a whole walk (`walk`), and without the types they are what
+/// types of the sets. The fields are those of a whole walk (`walk`), and without the types they are what
 /// [`collect_all`](apollo_executable::selection::SelectionSet::collect_all) answers (`fields`, `all`).
 /// GraphQL specification of October 2021, sections 2.4 and 2.8.
 pub fn field_usage_is_of_the_walk()
@@ -42,10 +42,10 @@ pub fn field_usage_is_of_the_walk()
         → AreWalked true document set fields → map (λ o. o.field) (reached document set) ≡ fields }
 {}
 
-/// The type of a field is that of the set in which it stands, by the kind of the first selection: a field
-/// has the type of the set, and those below it have that of its own; a spread has none, whatever its
-/// fragment has; those of an inline fragment have the type of its own set; and those of a named fragment
-/// have that of the fragment. GraphQL specification of October 2021, sections 2.4 to 2.8.
+/// The type of a field is that of the set in which it stands, by the kind of the first selection. A field has
+/// the type of the set, and those below it have that of its own. A spread has none, whatever its fragment
+/// has. Those of an inline fragment have the type of its own set, and those of a named fragment have that of
+/// the fragment. GraphQL specification of October 2021, sections 2.4 to 2.8.
 pub fn types_by_kind_of_selection()
     ensures none { (ty : NameView) → placed ty [] ≡ none }
     ensures field { (ty : NameView) (n : NodeView Field) (others : List Selection)

@@ -14,8 +14,8 @@ abbrev pub OfSaid : {A : Type 0} → Option A → (A → Type 0) → Type 0
 OfSaid (Some said) Fact = Fact said
 OfSaid {A} None Fact = (something : A) × Fact something
 
--- a text is the report of a fault at a location: of its sentence, as it is shown, and of what else reports
--- say of it
+-- a text is the report of a fault at a location. It is made of the fault's sentence, as it is shown, and of
+-- what else reports say of the fault
 abbrev pub IsReport : {E : Type 0} → (E → Option (List ℕ)) → (E → AboutView) → Files → Option SourceSpan → E
     → List ℕ → Type 0
 IsReport sentence_of about_of files location fault text =

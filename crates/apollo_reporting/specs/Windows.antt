@@ -44,8 +44,8 @@ goes_on count text =
     nat_lt (ahead_by count text) (length text)
     && not (begins_line_end (slice_index text (ahead_by count text)))
 
--- whether the line of an offset is too long to be shown whole: more characters begin before the offset, or
--- together with those the line has more behind
+-- whether the line of an offset is too long to be shown whole. It is so if more characters begin before the
+-- offset, or if together with those the line has more behind it
 abbrev pub is_long : List ℕ → ℕ → Bool
 is_long text offset = nat_lt whole_line (column_of text offset - 1)
     || goes_on (whole_line - (column_of text offset - 1)) (drop offset text)

@@ -8,12 +8,12 @@ use crate::sources::Sources;
 use graphql_nodes::source::SourceSpan;
 use std::alloc::{AllocError, Global};
 
-/// The JSON of a fault, in one line without a line end: an object with the members `kind`, `message`, `file`,
-/// `line`, `column`, `end_line`, `end_column`, `path`, and the details of the fault, in this order.
+/// The JSON of a fault, in one line without a line end. It is an object with the members `kind`, `message`,
+/// `file`, `line`, `column`, `end_line`, `end_column`, `path`, and the details of the fault, in this order.
 ///
-/// `file` is the path of the file, lines and columns count from 1, columns by characters, and `path` is an
-/// array of strings: the definition, as `query Page`, then the response keys. What is not known, or isn't
-/// there, is null. The error is out of memory.
+/// `file` is the path of the file. Lines and columns count from 1, columns by characters. `path` is an array
+/// of strings: the definition, as `query Page`, then the response keys. What is not known, or isn't there, is
+/// null. The error is out of memory.
 ///
 /// For many faults make [`SourceLines`](crate::source_lines::SourceLines) of the sources first.
 #[tactic(auto, unfolding(crate::specs::MemberTexts::data_text), using(crate::proofs::SaidLemmas::of_said))]

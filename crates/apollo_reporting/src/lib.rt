@@ -1,9 +1,9 @@
-//! Faults as compilers report them: with the line and a mark under it, an earlier place and a path where
-//! there are such, and as JSON. The faults of builds and the refusals of texts can be reported, and so can a
-//! caller's own: see [`Reported`].
+//! Faults as compilers report them, with the line, a mark under it, and an earlier place and a path if there
+//! are; and as JSON. The faults of builds and the refusals of texts can be reported, and so can a caller's
+//! own: see [`Reported`].
 //!
 //! Proved: a report is exactly its sentence, place, marked line or a part of it, path and earlier place,
-//! without control characters but tab; its JSON is one object with these.
+//! without control characters but tab. Its JSON is one object with these.
 #![tactic(auto)]
 
 pub mod about;

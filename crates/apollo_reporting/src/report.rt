@@ -36,7 +36,7 @@ use std::fmt::{Formatter, Write};
 ///    = path: query Page → book → pages
 /// ```
 ///
-/// The marks stand under the span, one for each character, and one where it is empty; of a span of several
+/// The marks stand under the span, one for each character, and one where it is empty. Of a span of several
 /// lines they stand under the first. A tab before them stays a tab. Of a line of more than 160 characters 60
 /// are shown before the marks and 100 from the first mark on. `...` stands where something is left out, and
 /// no marks stand under what isn't shown. An earlier place that the fault has to do with follows in the same

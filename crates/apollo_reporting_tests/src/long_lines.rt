@@ -8,8 +8,8 @@ use std::alloc::{AllocError, Global};
 /// How many bytes `√` has.
 const WIDTH: usize = 3;
 
-/// A line of so many `√`, a fault from one of them up to another, and what is shown: so many of them before
-/// the marks and in all, with dots before and behind, and so many marks.
+/// A line of so many `√`, a fault from one of them up to another, and what is shown. That is so many of them
+/// before the marks and in all, with dots before and behind, and so many marks.
 struct Row {
     line: usize,
     start: usize,

@@ -1,5 +1,5 @@
-//! Schemas that differ in one thing each, and whether they are equal: the order of directives and of
-//! arguments counts, that of types, fields and other members doesn't, and neither do locations and origins.
+//! Schemas that differ in one thing each, and whether they are equal. The order of directives and of
+//! arguments counts. That of types, fields and other members doesn't, and neither do locations and origins.
 
 use crate::building::{ADOPTING, is_built_of};
 use apollo_schema::schema::Schema;
@@ -16,8 +16,8 @@ fn expect(rt: &(impl Abort + AllocGlobal), one: &str, other: &str, are_equal: bo
 
 #[test]
 fn schemas_that_differ_in_one_value_are_unequal(rt: HostRuntime) {
-    // A directive of a type, of a field and of the schema; the order of directives; the type, the order of
-    // arguments and the name of a field; a root and its name; a member; a type and its kind; a location of a
+    // A directive of a type, of a field and of the schema. The order of directives. The type, the order of
+    // arguments and the name of a field. A root and its name. A member. A type and its kind. A location of a
     // directive definition.
     for (one, other) in [
         (
@@ -52,8 +52,8 @@ fn schemas_that_differ_in_one_value_are_unequal(rt: HostRuntime) {
 
 #[test]
 fn schemas_that_differ_in_order_origin_or_location_are_equal(rt: HostRuntime) {
-    // The order of types, of directive definitions, of fields, of interfaces, of members and of values; the
-    // origin of a field, of a directive and of a root, each on its own line; locations alone, and documents.
+    // The order of types, of directive definitions, of fields, of interfaces, of members and of values. The
+    // origin of a field, of a directive and of a root, each on its own line. Locations alone, and documents.
     for (one, other) in [
         ("def scalar S\ndef scalar T", "def scalar T\ndef scalar S"),
         (

@@ -1,6 +1,6 @@
--- What `==` compares of types and of a schema's definition: no location and no origin, directives in order,
--- and what stands under a name as a function of its text. GraphQL specification of October 2021, sections 3.3
--- to 3.10.
+-- What `==` compares of types and of a schema's definition. That is no location and no origin, but directives
+-- in order, and what stands under a name as a function of its text. GraphQL specification of October 2021,
+-- sections 3.3 to 3.10.
 use Rattle.std.specs.Prelude.{ℕ, Bool, List, Option, option_map}
 use Rattle.graphql_nodes.specs.NameView.{NameView}
 use Rattle.graphql_nodes.specs.Comparing.{bare_name, entries_by_text, members_by_text}

@@ -5,8 +5,8 @@
 -- components. Each component counts, so one origin may come more than once.
 --
 -- **Components in order.** The components of a type are one list, each with its origin: directives,
--- interfaces, fields; or directives, then members, values or input fields; of a schema definition
--- directives, then the roots of query, mutation and subscription.
+-- interfaces, fields. Or it is directives, then members, values or input fields. That of a schema definition
+-- is directives, then the roots of query, mutation and subscription.
 use Rattle.std.specs.Prelude.{List, [], map}
 use Rattle.std.specs.Map.Iter.{ShowsInOrder, deref}
 use Rattle.std.specs.Slice.Iter.{iter_rest}

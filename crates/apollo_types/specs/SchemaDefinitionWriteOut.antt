@@ -4,9 +4,9 @@
 -- name does. The definition alone is left out, never an extension, where
 --
 -- - no root is of the origin "definition", whatever else the definition holds; or
--- - it would be implied: there is no description, no directive and no extension, and each operation has
---   just the root that it would have without a schema definition. That is the type of the default name
---   where the schema has an object type of this name, and else none.
+-- - it would be implied: there is no description, no directive and no extension. And each operation has just
+--   the root that it would have without a schema definition. That is the type of the default name where the
+--   schema has an object type of this name, and else none.
 use Rattle.std.specs.Prelude.{ℕ, List, ◌++◌, map, length, Option, None, Some, option_map, is_none, nat_eq}
 use Rattle.std.specs.Prelude.{Bool, false, not, ◌&&◌, ◌==◌, if◌then◌else◌}
 use Rattle.std.specs.List.{list_any, list_all}

@@ -1,8 +1,8 @@
 -- What types are written out as: GraphQL specification of October 2021, sections 3.4.3 and 3.5 to 3.10.
 --
--- **Write-out of a type.** Its definition, at the given location, with the type's description and name
--- and the components of the origin "definition"; then, for each identity in order, an extension at that
--- identity's location, with the type's name and the components of that identity. The definition is
+-- **Write-out of a type.** First comes its definition, at the given location, with the type's description and
+-- name and the components of the origin "definition". Then, for each identity in order, comes an extension at
+-- that identity's location. It has the type's name and the components of that identity. The definition is
 -- written even where it holds nothing. An extension of which no component is left is not written.
 use Rattle.std.specs.Prelude.{List, ◌++◌, map, Option}
 use Rattle.std.specs.Option.{option_copied}

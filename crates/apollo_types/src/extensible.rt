@@ -25,8 +25,8 @@ pub trait Extensible {
         ensures rest { result ≡ sourced self.now }
         ensures runs { ComponentsInOrder };
 
-    /// The origins of the components, in their order: those of directives, then of interfaces and fields, or
-    /// of members, values, input fields, or the roots of query, mutation and subscription.
+    /// The origins of the components, in their order. They are those of directives, then of interfaces and
+    /// fields, or of members, values, input fields, or the roots of query, mutation and subscription.
     final fn iter_origins(&self) -> Origins<'_>
         ensures rest { result ≡ origins_in (sourced self.now) }
         ensures runs { OriginsInOrder }

@@ -1,5 +1,5 @@
-//! What `==` answers at each type of this crate: whether the two are one with locations, origins and the
-//! order of what stands under names left out.
+//! What `==` answers at each type of this crate. It is whether the two are one with locations, origins and
+//! the order of what stands under names left out.
 //!
 //! Each law is a function that does nothing. A proof cites it by a call, and finds a clause for each type
 //! there.
@@ -20,9 +20,9 @@ use graphql_nodes::collections::table::Table;
 use graphql_nodes::name::Name;
 
 /// Types are equal exactly where their kinds, names, descriptions and directives are, the latter in order,
-/// and what each has under each name: fields, values, interfaces and members in any order; and tables of
-/// types where they have equal types under each name, in any order. GraphQL specification of October 2021,
-/// sections 3.4 to 3.10.
+/// and what each has under each name. Fields, values, interfaces and members stand in any order. Tables of
+/// types are equal where they have equal types under each name, in any order. GraphQL specification of
+/// October 2021, sections 3.4 to 3.10.
 pub fn equality_of_types()
     ensures scalar_type { ComparesBy ⟦<ScalarType as PartialEq>⟧.eq bare_scalar }
     ensures object_type { ComparesBy ⟦<ObjectType as PartialEq>⟧.eq bare_object }

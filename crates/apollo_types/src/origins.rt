@@ -12,9 +12,9 @@ use apollo_component::extension::ComponentOrigin;
 use std::iter::FusedIterator;
 use std::marker::Model;
 
-/// The origins of the components of a type or of a schema's definition, in order: those of directives, then
-/// of names that it lists, then of what stands under names, or of roots. Contracts see the list of those that
-/// are still to come.
+/// The origins of the components of a type or of a schema's definition, in order. They are those of
+/// directives, then of names that it lists, then of what stands under names, or of roots. Contracts see the
+/// list of those that are still to come.
 #[derive(Drop)]
 pub struct Origins<'a> {
     components: Components<'a>,

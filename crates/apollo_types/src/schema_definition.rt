@@ -32,8 +32,8 @@ pub(crate) const OPERATION_TYPES: [OperationType; 3] = [
     OperationType::Subscription,
 ];
 
-/// The definition of a schema, and its extensions (section 3.3): the root of each operation type, which is to
-/// be the name of an object type (section 3.3.1), and may be any name. Equality leaves out locations and
+/// The definition of a schema, and its extensions (section 3.3): the root of each operation type. It is to be
+/// the name of an object type (section 3.3.1), and may be any name. Equality leaves out locations and
 /// origins, but directives are compared in order.
 #[derive(Debug, PartialEq, Eq)]
 pub struct SchemaDefinition {
@@ -110,11 +110,10 @@ impl SchemaDefinition {
     /// query, mutation, subscription. A root has the location of its name.
     ///
     /// The schema definition is left out where none of its roots is the definition's, and where it says
-    /// nothing: it has no description, no directive and no extension, and each operation type has just the
-    /// root that it would have without a schema definition. That is the type of the default name (`Query`,
-    /// `Mutation` or `Subscription`) where `types` has an object type of this name, and else none. Where it
-    /// has no root of its own, its description and its own directives are not written. The extensions are
-    /// always there.
+    /// nothing. It says nothing if it has no description, directive or extension, and each operation type has
+    /// just the root that it would have without it. That is the type of the default name (`Query`, `Mutation`
+    /// or `Subscription`) where `types` has an object type of this name, and else none. Where it has no root
+    /// of its own, its description and its own directives are not written. The extensions are always there.
     ///
     /// The error is out of memory.
     pub fn to_ast(

@@ -30,9 +30,9 @@ pub trait TypeOfKind: Extensible {
         ensures description { option_copied result.description ≡ description self.now }
         ensures name { result.name.now ≡ name self.now };
 
-    /// The type as syntax: its definition, at this location, with the components of the definition, then an
-    /// extension for each identity of [`extensions`](Extensible::extensions), with that identity's components
-    /// and location. Each list is in the type's own order. The error is out of memory.
+    /// The type as syntax: its definition, at this location, with the components of the definition. Then
+    /// comes an extension for each identity of [`extensions`](Extensible::extensions), with that identity's
+    /// components and location. Each list is in the type's own order. The error is out of memory.
     final fn to_ast(
         &self,
         alloc: Global,

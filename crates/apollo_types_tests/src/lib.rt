@@ -1,5 +1,5 @@
 //! Tests of components and types, and of lookups in schemas, of what the proofs don't show: that calls
-//! succeed with memory, and texts; and what tests of schemas and coordinates make, too.
+//! succeed with memory, and texts. Also what tests of schemas and coordinates make, too.
 //!
 //! What stands here serves tests: calls have no clause.
 #![tactic(auto)]

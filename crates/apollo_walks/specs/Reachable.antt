@@ -1,12 +1,12 @@
 -- The fragments that selections lead to, and the fields that are reached: GraphQL specification of October
 -- 2021, sections 2.8 and 6.3.2.
 --
--- **Reachable.** The reachable names, to which selections lead, are the least set that has these: the names
--- of fragments which are spread there; and, with each fragment in it, those which are spread in that
--- fragment. The **reachable occurrences** are the occurrences of the selections together with those of each
--- reachable fragment, each fragment once; the selections count by themselves, also where they are those of a
--- fragment that is reachable. **N** (`selections_in_reach`) is the number of all selections, nested ones too,
--- of the start and of each reachable fragment.
+-- **Reachable.** The reachable names, to which selections lead, are the least set of which two things hold.
+-- It has the names of fragments which are spread there. And with each fragment in it, it has those which are
+-- spread in that fragment. The **reachable occurrences** are the occurrences of the selections together with
+-- those of each reachable fragment, each fragment once. The selections count by themselves, also where they
+-- are those of a fragment that is reachable. **N** (`selections_in_reach`) is the number of all selections,
+-- nested ones too, of the start and of each reachable fragment.
 use Rattle.std.specs.Prelude.{◌≡◌, ◌⊎◌, ℕ, true, List, [], ◌∷◌, ◌++◌, flat_map, Option, None, Some}
 use Rattle.apollo_walks.specs.Selections.{Selections, Fragments, Names, fragment_of, occurrences}
 use Rattle.apollo_walks.specs.Selections.{spread_names}
@@ -21,8 +21,8 @@ abbrev pub EachOnce : {A : Type 0} → List A → Type 0
 EachOnce [] = Unit {0}
 EachOnce (x ∷ xs) = (Among x xs → ⊥) × EachOnce xs
 
--- the names that s leads to: the least set that has the names of fragments which are spread in s; and with
--- each fragment in it those which are spread in that fragment
+-- the names that s leads to: the least set of which two things hold. It has the names of fragments which are
+-- spread in s. And with each fragment in it, it has those which are spread in that fragment
 pub data Reachable {F : Type 0} (fragments : Fragments F) (s : Selections F) : List ℕ → Type 0 where
   spread_at_the_start : {n : List ℕ} {set : Selections F} → Among n (spread_names s) → fragment_of fragments n
       ≡ Some set → Reachable fragments s n
@@ -60,7 +60,7 @@ module _ {F : Type 0} where
   occurrences_in fragments = flat_map (λ n. at_fragment [] occurrences (fragment_of fragments n))
 
   -- the fields that are reached from s, as often as each stands there, where these are the names that s leads
-  -- to: those of s and those of each fragment, each fragment once
+  -- to. They are those of s and those of each fragment, each fragment once
   abbrev pub reachable_occurrences : Fragments F → Selections F → List (List ℕ) → List F
   reachable_occurrences fragments s names = occurrences s ++ occurrences_in fragments names
 

@@ -1,10 +1,10 @@
 -- What is still to come of a walk that has some lists open.
 --
 -- **To come.** Take a walk that has some lists open, the innermost first, and some names opened. What is to
--- come of it (`IsToCome`) is what the *order of walks* gives for these lists, one after the other: fields,
--- and names that are still to be opened. So many turns are still to come as the lists have, and each fragment
--- that is opened from them. `AreTurnByTurn` says what the next turn does, by what the innermost list begins
--- with.
+-- come of it (`IsToCome`) is what the *order of walks* gives for these lists, one after the other. That is
+-- fields, and names that are still to be opened. So many turns are still to come as the lists have, and each
+-- fragment that is opened from them. `AreTurnByTurn` says what the next turn does, by what the innermost list
+-- begins with.
 use Rattle.std.specs.Prelude.{◌≡◌, ℕ, ◌+◌, List, [], ◌∷◌}
 use Rattle.apollo_walks.specs.Selections.{Selections, none, inline, Fragments, Names, with_names}
 use Rattle.apollo_walks.specs.Turns.{whole_turns, total}

@@ -1,5 +1,5 @@
--- What is to come of a walk that has some lists open, turn by turn: what its next turn does, by what the
--- innermost list begins with.
+-- What is to come of a walk that has some lists open, turn by turn. The innermost list says what the next
+-- turn does, by what it begins with.
 use Rattle.std.specs.Prelude.{◌≡◌, ◌⊎◌, ◌↔◌, ◌<◌, ℕ, suc, true, false, List, [], ◌∷◌, None, Some}
 use Rattle.apollo_walks.specs.Selections.{Selections, none, field, spread, inline, Fragments, Names}
 use Rattle.apollo_walks.specs.Selections.{with_name, fragment_of}

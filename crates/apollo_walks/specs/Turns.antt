@@ -2,9 +2,9 @@
 -- empty and closed. A list is opened for each inline fragment, for each fragment that is opened, and for each
 -- field that has selections.
 --
--- **All turns.** All turns (`AreAllTurns`) of a walk are the sum of these: one; one for each reachable
--- fragment; and, of the start and of each reachable fragment, one for each selection, for each inline
--- fragment and for each field that has selections.
+-- **All turns.** All turns (`AreAllTurns`) of a walk are a sum. It has one turn, and one for each reachable
+-- fragment. Of the start and of each reachable fragment it has one for each selection. It has one more for
+-- each inline fragment there, and for each field there that has selections.
 use Rattle.std.specs.Prelude.{◌≡◌, ◌≤◌, ℕ, suc, ◌+◌, ◌*◌, List, sum_by}
 use Rattle.apollo_walks.specs.Selections.{Selections, none, field, spread, inline, Fragments, fragment_of}
 use Rattle.apollo_walks.specs.Reachable.{AreReachable, at_fragment}

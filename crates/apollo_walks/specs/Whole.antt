@@ -1,8 +1,8 @@
 -- What a whole walk over selections gives.
 --
--- **Whole walk.** The fields of a whole walk (`IsWalk`) are in the order of walks, from no opened name;
--- they are the reachable occurrences, each exactly as often as it stands there; and the names that are
--- opened are the reachable ones.
+-- **Whole walk.** The fields of a whole walk (`IsWalk`) are in the order of walks, from no opened name. They
+-- are the reachable occurrences, each exactly as often as it stands there. The names that are opened are the
+-- reachable ones.
 use Rattle.std.specs.Prelude.{ℕ, List}
 use Rattle.std.specs.List.Sorted.{IsPermutation}
 use Rattle.apollo_walks.specs.Selections.{Selections, Fragments, no_names}

@@ -54,8 +54,8 @@ pub fn walks_open_what_is_reached<F>()
         → (set : Selections F) × (fragment_of fragments n ≡ Some set) }
 {}
 
-/// What is to come of a walk that has some lists open leaves no choice, and comes turn by turn: an empty list
-/// is closed; a field is given, and what is below it opened; the list of an inline fragment is opened; and a
+/// What is to come of a walk that has some lists open leaves no choice, and comes turn by turn. An empty list
+/// is closed. A field is given, and what is below it opened. The list of an inline fragment is opened. A
 /// spread is passed over where its name is opened or has no fragment, and else opens both. There is a turn
 /// left while a list is open. A walk begins with one list, and then all of it is to come.
 pub fn walks_go_turn_by_turn<F>()
@@ -68,8 +68,8 @@ pub fn walks_go_turn_by_turn<F>()
         → IsToCome fragments no_names (s ∷ []) x → IsAllToCome fragments s x }
 {}
 
-/// The turns of a walk over any selections: one, and one for each fragment that is reached, and those of the
-/// selections and of each of these fragments. They are at most two for each selection in reach, and one.
+/// The turns of a walk over any selections. They are one, one for each fragment that is reached, and those of
+/// the selections and of each of these fragments. They are at most two for each selection in reach, and one.
 pub fn walks_take_few_turns<F>()
     ensures all { (fragments : Fragments F) (s : Selections F) → (turns : ℕ) × AreAllTurns fragments s turns }
     ensures few { (fragments : Fragments F) (s : Selections F) (turns : ℕ) → AreAllTurns fragments s turns

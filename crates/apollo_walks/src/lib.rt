@@ -3,7 +3,7 @@
 //!
 //! It speaks of selections as plain values. What walks over those of a document stands in a crate above.
 //!
-//! Proved: a walk opens each fragment once and gives each field in reach as often as it is written; for N
+//! Proved: a walk opens each fragment once and gives each field in reach as often as it is written. For N
 //! selections it takes at most 2N + 1 turns.
 #![tactic(auto)]
 

@@ -1,6 +1,6 @@
-//! What a registry runs on each upload: one schema of several files of GraphQL text, refused where it has
-//! faults, and else written in its canonical form. A service may extend types that no file defines: they are
-//! taken as defined.
+//! What a registry runs on each upload. It makes one schema of several files of GraphQL text, refused where
+//! it has faults, and else written in its canonical form. A service may extend types that no file defines:
+//! they are taken as defined.
 #![tactic(auto)]
 
 use anyhow::{Context, Result, ensure};

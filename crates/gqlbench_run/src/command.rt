@@ -40,8 +40,8 @@ pub struct Command {
     pub repeat: usize,
 }
 
-/// The command that these words are: the word of its work, then `--json` or not, `--random-keys` or not, the
-/// options of a build, and a number from 1 on. Other words are none. It takes no memory.
+/// The command that these words are. They are the word of its work, then `--json` or not, `--random-keys` or
+/// not, the options of a build, and a number from 1 on. Other words are none. It takes no memory.
 pub fn read_command(words: &[&str]) -> Option<Command> {
     let (word, rest) = words.split_first()?;
     let (number, choices) = rest.split_last()?;

@@ -20,7 +20,7 @@ pub enum Failure {
     /// The input is no GraphQL text: what is wrong first, at this byte.
     #[error("byte {start}: {kind}")]
     Text { start: usize, kind: ParseErrorKind },
-    /// Memory or numbers are wanting.
+    /// Memory or numbers ran out.
     #[error(transparent)]
     Compile(#[from] CompileError),
     #[error("out of memory")]

@@ -3,7 +3,7 @@
 use std::alloc::Global;
 use std::{fs, io};
 
-/// What tells how the process stands.
+/// What says how the process stands.
 pub trait ProcessStatus {
     /// The text that says it, as Linux writes it in `/proc/self/status`. The error is a system that has
     /// none, or out of memory.
@@ -16,7 +16,7 @@ impl ProcessStatus for HostRuntime {
     }
 }
 
-/// The kilobytes of memory that the process had at its highest, where the system tells.
+/// The kilobytes of memory that the process had at its highest, where the system says so.
 pub fn peak_memory<P: ProcessStatus>(alloc: Global, system: &P) -> Option<u64> {
     let status = system.status_text(alloc).ok()?;
     let (_, after) = status.split_once("\nVmHWM:")?;

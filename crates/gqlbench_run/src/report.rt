@@ -1,8 +1,8 @@
-//! What a report tells, and its text.
+//! What a report says, and its text.
 
 use std::alloc::{AllocError, Global};
 
-/// Something that a report tells.
+/// Something that a report says.
 #[derive(Clone, Copy)]
 pub enum Value {
     /// How many there are of something.

@@ -22,14 +22,14 @@ use std::time::Clock;
 /// `Done`: the report stands on `output`, behind what was there. `Refused` and `Exhausted`: nothing was
 /// written on `output`. Words that are no command are refused before anything is read. `NotWritten`: there
 /// was a report, and the writer failed, or its flush did; nothing is said of what went out. `Faults` doesn't
-/// come: a report tells how many faults there are.
+/// come: a report says how many faults there are.
 ///
 /// The output is written only once all of it is there. What is wrong is said on `errors`, in one line, and so
-/// is how far a long run is; that it cannot be said there changes nothing. A clock that can't be read ends
+/// is how far a long run is. That it cannot be said there changes nothing. A clock that can't be read ends
 /// the run as running out of memory does. So does a system that gives no random keys where the words ask for
 /// them. They are drawn once, before anything is read; without the word nothing is drawn, and tables hash by
-/// fixed keys. How much memory the process had is asked last; where the system doesn't tell, the report has
-/// no line of it.
+/// fixed keys. How much memory the process had is asked last; where the system doesn't say, the report has no
+/// line of it.
 pub fn run<S: Clock + RandomSource + ProcessStatus, R: Read, O: Write, E: Write>(
     alloc: Global,
     system: &S,

@@ -59,7 +59,7 @@ fn write_out(rt: &HostRuntime, text: &str) -> io::Result<()> {
     output.flush()
 }
 
-/// Writes what was said, or says why nothing was. `Done` is the answer where memory was ample; `Exhausted`
+/// Writes what was said, or says why nothing was. `Done` is the answer where memory was ample. `Exhausted`
 /// where a request was refused and all stands that is promised after that; `Faults` where something else
 /// came.
 fn ended(rt: &HostRuntime, told: Result<bool, Stop>, text: &str) -> Status {

@@ -49,8 +49,9 @@ fn differences_of(alloc: Global, row: &Row<'_>) -> Result<String, AllocError> {
     Ok(report)
 }
 
-/// Runs rows, in order, and reports on them: for each that differs its title and what came, and then how many
-/// rows there are and how many differ. The status is `Done` where none differs, and `Faults` where one does.
+/// Runs rows, in order, and reports on them. For each that differs it gives its title and what came, and then
+/// how many rows there are and how many differ. The status is `Done` where none differs, and `Faults` where
+/// one does.
 pub fn report_on(alloc: Global, rows: &[Row<'_>]) -> Result<(String, Status), AllocError> {
     let mut report = String::new(alloc);
     let mut differing: usize = 0;

@@ -4,8 +4,8 @@ use crate::stop::Stop;
 use bench_notation::words::lines_of;
 use std::alloc::{AllocError, Global};
 
-/// A row: the words and the input of a run, and what is to come of it: its status, its output, what stands on
-/// standard error.
+/// A row: the words and the input of a run, and what is to come of it. That is its status, its output, what
+/// stands on standard error.
 #[derive(Drop)]
 pub struct Row<'a> {
     pub title: &'a str,

@@ -21,7 +21,7 @@ struct Source {
 /// expect, and how many.
 ///
 /// `Done` is the answer where none differs, `Faults` where one does. `Refused` is the answer where a file
-/// can't be read or one of its lines is refused, and `Exhausted` where memory is wanting: then nothing was
+/// can't be read or one of its lines is refused, and `Exhausted` where memory runs out. Then nothing was
 /// written on `output`. `NotWritten` is the answer where the report can't be written. What is wrong is said
 /// on `errors`, in one line; that it can't be said there changes nothing.
 pub fn run_rows<F: Files + AllocGlobal, R: Read + Drop, O: Write, E: Write>(

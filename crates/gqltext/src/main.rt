@@ -4,7 +4,7 @@
 //!
 //! The input is texts, each behind a line with the number of its bytes. The output is a line for each: `tree`
 //! and the tree, or `refused`, where, and why. With `print` it is `text` in place of `tree`, the text that is
-//! printed, escaped, and `again`: that text is read as an equal tree, of which the same is printed. Where it
+//! printed, escaped, and `again`. That text is read as an equal tree, of which the same is printed. Where it
 //! isn't, `another tree`, `another text` or a refusal stands there. The status is 0, or 2 for words or an
 //! input that say something else. It is 3 where memory ran out, and 4 where the output can't be written.
 #![tactic(auto)]

@@ -1,5 +1,5 @@
-//! Trees, in full and in order. A node is the bytes that it stands at, and then what it holds; a name, a text
-//! or a keyword is a word; `-` is what isn't there, and a list stands in brackets. Each word has a space
+//! Trees, in full and in order. A node is the bytes that it stands at, and then what it holds. A name, a text
+//! or a keyword is a word. `-` is what isn't there, and a list stands in brackets. Each word has a space
 //! behind it.
 
 use graphql_ast::directive::{Argument, Directive, DirectiveList};

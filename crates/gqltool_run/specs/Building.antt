@@ -33,8 +33,8 @@ abbrev pub IsCompiledInput : CompileOptions → List ℕ → Compiled → Type 0
 IsCompiledInput options input compiled = (documents : List Document)
     × (AreDocumentsOf input documents × IsCompiled options documents [] true compiled)
 
--- why nothing is built of an input with these options: a line says nothing where it stands, or the
--- extensions spend the numbers; that memory ran out says nothing of the input
+-- why nothing is built of an input with these options. A line says nothing where it stands, or the extensions
+-- spend the numbers. That memory ran out says nothing of the input
 abbrev pub IsCause : CompileOptions → List ℕ → Failure → Type 0
 IsCause options input (failures.RefusedLine refused) = IsFirstRefused (lines_of input) refused
 IsCause options input failures.Memory = Unit {0}

@@ -27,9 +27,9 @@ IsAnswerOf tasks.Doc input text has_faults = IsDocAnswer input text has_faults
 IsAnswerOf tasks.Walk input text has_faults = IsWalkAnswer input text has_faults
 IsAnswerOf tasks.Leaf input text has_faults = IsLeafAnswer input text has_faults
 
--- the text is such as is answered where nothing is at fault: of `schema` and `doc` the print of definitions;
--- of `coord` the lines of the coordinate and of something found; of `walk` the walks over a document; of
--- `leaf` nothing
+-- the text is such as is answered where nothing is at fault. Of `schema` and `doc` it is the print of
+-- definitions. Of `coord` it is the lines of the coordinate and of something found. Of `walk` it is the walks
+-- over a document, and of `leaf` nothing
 abbrev pub IsPrintOf : Task → List ℕ → Type 0
 IsPrintOf (tasks.Schema options) text = (definitions : List Definition)
     × (text ≡ printed_definitions definitions)

@@ -50,8 +50,9 @@ IsFindingLine schema c true line = (found : SchemaCoordinateLookup)
 IsFindingLine schema c false line = (error : SchemaLookupError)
     × (PointsToNothing schema c error × ((said : List ℕ) × (line ≡ missing_line said)))
 
--- the text is the line of the coordinate and that of what it points to in the schema that the input means;
--- then come those of the schema's faults; something is at fault unless it was found and there is no fault
+-- the text is the line of the coordinate and that of what it points to in the schema that the input means.
+-- Then come those of the schema's faults. Something is at fault unless what the coordinate points to was
+-- found and there is no fault
 pub record IsCoordAnswer (coordinate : SchemaCoordinate) (input text : List ℕ) (has_faults : Bool) :
     Type 0 where
   pub schema : Schema

@@ -20,8 +20,8 @@ use Rattle.bench_notation.specs.declared.refusal.ReadError.TheVariants as readin
 use Rattle.gqltool_run.specs.declared.failure.Failure.{Failure}
 use Rattle.gqltool_run.specs.declared.failure.Failure.TheVariants as failures
 
--- the schema that the input means, which has no options; its typed document over that; the faults of the
--- schema; and those of the document, in which definitions of the type system are at fault
+-- the schema that the input means, which has no options, and its typed document over that. Then the faults of
+-- the schema, and those of the document, in which definitions of the type system are at fault
 pub record IsBuiltDocument (input : List ℕ) (schema : Schema) (document : ExecutableDocument)
     (schema_faults : List Fault) (faults : List DocumentFault) : Type 0 where
   -- the documents before the line that divides the input
@@ -44,8 +44,8 @@ IsCompiledDivided input compiled = (before : List Document)
     × ((behind : List Document)
     × (AreDividedDocumentsOf input before behind × IsCompiled no_options before behind true compiled))
 
--- why no document is built of an input: a line says nothing where it stands, none divides it, or the
--- schema's extensions spend the numbers; that memory ran out says nothing of the input
+-- why no document is built of an input. A line says nothing where it stands, none divides the input, or the
+-- schema's extensions spend the numbers. That memory ran out says nothing of the input
 abbrev pub IsDocumentCause : List ℕ → Failure → Type 0
 IsDocumentCause input (failures.RefusedLine refused) =
     IsDividedReadError (lines_of input) (reading.Refused refused)

@@ -23,8 +23,8 @@ abbrev pub leaf_line : LeafFault → List ℕ
 leaf_line fault = codes "leaf " ++ location_line fault.location ++ codes " " ++ fault.response_key.text
     ++ codes " " ++ leaf_kind_word fault.kind ++ codes "\n"
 
--- the text has a line for each leaf fault of the typed document that the input means, over its schema; then
--- come those of the schema's faults and the document's own; something is at fault unless there is no line
+-- the text has a line for each leaf fault of the typed document that the input means, over its schema. Then
+-- come those of the schema's faults and the document's own. Something is at fault unless there is no line
 pub record IsLeafAnswer (input text : List ℕ) (has_faults : Bool) : Type 0 where
   pub schema : Schema
   pub document : ExecutableDocument

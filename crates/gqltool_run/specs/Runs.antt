@@ -14,8 +14,8 @@ use Rattle.gqltool_run.specs.Tasks.{AreNoCommand, AreWalkWords, Ask, AskNoCoordi
 
 -- In all of this `held` says which bytes an input may hold, and `may_fail` whether reading it may fail.
 
--- why there is no answer to what was asked and an input: it can't be read, or what was read has none; that
--- memory ran out says nothing of the input
+-- why there is no answer to what was asked and an input. The input can't be read, or what was read has none.
+-- That memory ran out says nothing of the input
 abbrev pub IsCauseOver : Task → (List ℕ → Type 0) → Type 0 → Failure → Type 0
 IsCauseOver task held may_fail failures.CannotRead = CannotBeRead held may_fail
 IsCauseOver task held may_fail failures.Memory = Unit {0}
@@ -32,7 +32,7 @@ abbrev pub HaveCause : List (List ℕ) → (List ℕ → Type 0) → Type 0 → 
 HaveCause words held may_fail status = (failure : Failure)
     × ((status_of failure ≡ status) × IsCauseTo words held may_fail failure)
 
--- a run that has its whole answer ends so: the text is appended, and whether there are faults decides; or the
+-- a run that has its whole answer ends so. The text is appended, and whether there are faults decides. Or the
 -- writer failed, or its flush did, and a beginning of the text is appended
 abbrev pub IsWritten : List ℕ → Bool → Option (List ℕ) → Option (List ℕ) → Status → Type 0
 IsWritten text has_faults old new s.Done = (has_faults ≡ false) × Appends old new text
@@ -45,8 +45,8 @@ abbrev pub IsSentOut : List ℕ → Bool → Option (List ℕ) → Option (List 
 IsSentOut text has_faults old new s.Exhausted = IsBegun text old new
 IsSentOut text has_faults old new status = IsWritten text has_faults old new status
 
--- a run on these words and an input may end so: what it writes is their answer, or a beginning of it, or
--- there is a cause for which it has none
+-- a run on these words and an input may end so. What it writes is their answer, or a beginning of it. Or
+-- there is a cause for which there is no answer
 abbrev pub MayEnd : List (List ℕ) → (List ℕ → Type 0) → Type 0 → Option (List ℕ) → Option (List ℕ) → Status
     → Type 0
 MayEnd words held may_fail old new s.Done = HoldsSome held (AppendAnswer words false old new)

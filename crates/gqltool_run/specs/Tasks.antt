@@ -50,7 +50,7 @@ pub record AreNoCommand (words : List (List ℕ)) : Type 0 where
 abbrev pub AskNoCoordinate : List (List ℕ) → Type 0
 AskNoCoordinate words = (text : List ℕ) × (AreCoordWords words text × ¬ IsCoordinateText text)
 
--- why a text is not read: it is of no coordinate, and is reported without the `@` that it may begin with; or
+-- why a text is not read. It is of no coordinate, and is reported without the `@` that it may begin with. Or
 -- memory ran out
 abbrev pub IsTextRefusal : List ℕ → Failure → Type 0
 IsTextRefusal text (failures.NoCoordinate error) = ¬ IsCoordinateText text

@@ -1,7 +1,7 @@
 //! What a command answers.
 
-/// What is to be written, and whether there are faults, or nothing is found where something was looked up:
-/// then a run ends with status 1, else with 0.
+/// What is to be written, and whether there are faults, or nothing is found where something was looked up.
+/// Then a run ends with status 1, else with 0.
 pub struct Answer {
     pub text: String,
     pub has_faults: bool,

@@ -19,9 +19,9 @@ use apollo_schema::schema::Schema;
 use graphql_nodes::collections::hash_keys::HashKeys;
 use std::alloc::{AllocError, Global};
 
-/// The answer of `coord` to an input: the line of the coordinate, and the line of what it points to in the
-/// schema of the input's documents. Then comes a line for each fault. The coordinate is looked up where there
-/// are faults too.
+/// The answer of `coord` to an input. It is the line of the coordinate, and the line of what it points to in
+/// the schema of the input's documents. Then comes a line for each fault. The coordinate is looked up where
+/// there are faults too.
 ///
 /// The errors are those of [`build_input`]. What was built is left to the end of the process, but after an
 /// error.

@@ -13,8 +13,8 @@ use bench_notation::printing::print;
 use graphql_nodes::collections::hash_keys::HashKeys;
 use std::alloc::Global;
 
-/// The answer of `doc` to an input: the print of the typed document's write-out, then a line for each fault
-/// of the schema, and then one for each fault of the document.
+/// The answer of `doc` to an input: the print of the typed document's write-out. Then comes a line for each
+/// fault of the schema, and then one for each fault of the document.
 ///
 /// The errors are those of [`compile_documents`]. What was built is left to the end of the process, but after
 /// an error.

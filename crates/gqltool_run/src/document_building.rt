@@ -22,12 +22,12 @@ pub fn has_faults(compiled: &Compiled) -> bool
     !(compiled.schema_faults.is_empty() && compiled.document_faults.is_empty())
 }
 
-/// What an input is compiled to, without options: the typed document of what it says behind its division,
-/// over the schema of what it says before that. Where the schema has faults it is the partial one.
+/// What an input is compiled to, without options. It is the typed document of what it says behind its
+/// division, over the schema of what it says before that. Where the schema has faults it is the partial one.
 /// Definitions of the type system are faults of the document. All tables hash by these keys.
 ///
-/// `RefusedLine` tells the first line that says nothing where it stands; `NoDivision` comes where no line
-/// divides the input; `ExtensionIds` comes only where the numbers don't suffice for the extensions of the
+/// `RefusedLine` names the first line that says nothing where it stands. `NoDivision` comes where no line
+/// divides the input. `ExtensionIds` comes only where the numbers don't suffice for the extensions of the
 /// schema; `Memory` is out of memory. There is no other error. Without an error the documents that were read
 /// are left to the end of the process.
 pub fn compile_documents(alloc: Global, keys: HashKeys, input: &str) -> Result<Compiled, Failure>

@@ -19,7 +19,7 @@ pub fn push_faults<E: Display>(
 {
     match say_faults(alloc, text, &mut Kept, faults) {
         Ok(()) => Ok(()),
-        // Nothing goes out, so memory is all that can be wanting.
+        // Nothing goes out, so only memory can run out.
         Err(_) => Err(AllocError),
     }
 }

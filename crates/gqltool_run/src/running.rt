@@ -24,15 +24,15 @@ use std::io::Write;
 ///
 /// `Done` and `Faults`: exactly the answer of [`answer_to`](crate::answering::answer_to) stands on `output`,
 /// behind what was there, and nothing was written on `errors`. The output is written only once all of it is
-/// there; but that of `walk`, which may be long, goes out piece by piece while it is made, once nothing can
+/// there. But that of `walk`, which may be long, goes out piece by piece while it is made, once nothing can
 /// be refused any more.
 ///
 /// `Refused` and `Exhausted`: nothing was written on `output`, for an error that `answer_to` has. Where
-/// memory is wanting while the answer of `walk` is made, a beginning of it may be written. The message of the
+/// memory runs out while the answer of `walk` is made, a beginning of it may be written. The message of the
 /// error is written on `errors`, as one line, or as more where the text of `coord` has line feeds. Words that
 /// are no command, and `coord` with a text of no coordinate, are refused before anything is read.
 ///
-/// `NotWritten`: there was an answer, and the writer failed, or its flush did: what went out is a beginning
+/// `NotWritten`: there was an answer, and the writer failed, or its flush did. What went out is a beginning
 /// of the answer, perhaps all of it. `cannot write output` is written on `errors`.
 ///
 /// That something cannot be said on `errors` changes nothing, and but for `Done` and `Faults` no clause says

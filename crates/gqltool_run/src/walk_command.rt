@@ -29,9 +29,9 @@ use apollo_walks::laws::{walks_reach_each_field_once, walks_take_few_turns};
 use graphql_nodes::node::Node;
 use std::alloc::{AllocError, Global};
 
-/// The answer of `walk` on what an input is compiled to: for each operation and then each fragment of the
-/// typed document the lines of its walks. Then comes a line for each fault of the schema, and then one for
-/// each fault of the document.
+/// The answer of `walk` on what an input is compiled to. For each operation and then each fragment of the
+/// typed document it has the lines of its walks. Then comes a line for each fault of the schema, and then one
+/// for each fault of the document.
 ///
 /// Its text goes out while it is made, and what is still held of it is answered. The error is out of memory,
 /// or the outlet's: then a beginning of the text went out.
@@ -74,7 +74,7 @@ pub(crate) fn whole_walk_answer(alloc: Global, compiled: Compiled) -> Result<Ans
             leave_to_exit(compiled);
             Ok(answer)
         }
-        // Nothing goes out, so memory is all that can be wanting.
+        // Nothing goes out, so only memory can run out.
         Err(_) => Err(Failure::Memory),
     }
 }

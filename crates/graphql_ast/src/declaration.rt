@@ -1,5 +1,5 @@
-//! What a definition or extension of a type or of the schema says, whatever its kind, and the definition
-//! that is made of it: GraphQL specification of October 2021, sections 3.3 and 3.5 to 3.10.
+//! What a definition or extension of a type or of the schema says, whatever its kind, and the definition that
+//! is made of it. GraphQL specification of October 2021, sections 3.3 and 3.5 to 3.10.
 ghost use Rattle.std.specs.Prelude.{◌≡◌, IfOk};
 
 use crate::definition::Definition;

@@ -1,5 +1,5 @@
-//! What `==` answers at each type of the tree, which is whether the two are one with every location left out;
-//! and that clones are the originals.
+//! What `==` answers at each type of the tree, which is whether the two are one with every location left out.
+//! Clones are the originals.
 //!
 //! Each law is a function that does nothing. A proof cites it by a call, and finds a clause for each type
 //! there. That equal values have equal hashes is part of each type's `Hash`.
@@ -128,8 +128,8 @@ pub fn clones_of_containers_are_exact<T: Eq + Hash + Clone, V: Clone>()
     ensures key_set { IsExact T.is_clone → IsExact ⟦<KeySet<T> as Clone>⟧.is_clone }
 {}
 
-/// Each clone of a part of a tree is the original, with its locations and the sources of a document; and so
-/// is each clone of a location, a kind, keys or an error.
+/// Each clone of a part of a tree is the original, with its locations and the sources of a document. So is
+/// each clone of a location, a kind, keys or an error.
 ///
 /// The `Clone` of the other types says so itself.
 pub fn clones_are_exact()
@@ -171,8 +171,9 @@ pub fn clones_are_exact()
     ensures document { IsExact ⟦<Document as Clone>⟧.is_clone }
 {}
 
-/// What a definition says, made into a definition, is the definition again; and what is made of a declaration
-/// says what a definition can say of it: the parts that its kind has, and of an extension no description.
+/// What a definition says, made into a definition, is the definition again. What is made of a declaration
+/// says what a definition can say of it. These are the parts that its kind has, and of an extension no
+/// description.
 pub fn declarations_are_definitions()
     ensures made_again { (definition : Definition) → made (declaration_of definition) ≡ definition }
     ensures read_again { (declaration : Declaration)

@@ -1,4 +1,4 @@
-//! What stands in a definition or extension of a type or of the schema, whatever its kind: GraphQL
+//! What stands in a definition or extension of a type or of the schema, whatever its kind. GraphQL
 //! specification of October 2021, sections 3.3 and 3.5 to 3.10.
 ghost use Rattle.std.specs.Prelude.{◌≡◌, OnOk, OnErr};
 ghost use Rattle.graphql_ast.specs.Parts.{no_parts, with_part};

@@ -1,6 +1,6 @@
--- What ends a value: where nothing comes next that may go on with it, what is spelled is read; and what the
--- value would have taken never comes next behind what was read. Both depend on the value: an optional part
--- that is left out would have been taken, and one that is there is not taken twice.
+-- What ends a value. Where nothing comes next that may go on with it, what is spelled is read. What the value
+-- would have taken never comes next behind what was read. Both depend on the value: an optional part that is
+-- left out would have been taken, and one that is there is not taken twice.
 use Rattle.std.proofs.Common.{◌≡◌, ℕ, Bool, true, false, not, cond, List, [], ◌∷◌, ◌++◌, Option, Some, None, Ok, inl, inr, refl, sym, ap, subst, ◌∙◌, append_assoc}
 use Rattle.graphql_grammar.specs.declared.kind.Kind.{Kind}
 use Rattle.graphql_grammar.specs.Kinds.{Kinds, each_kind, none}

@@ -10,7 +10,7 @@ use Rattle.graphql_grammar.proofs.WholeBlind.{refusal_law}
 use Rattle.graphql_grammar.proofs.WholeLaws.{all_again, all_sound}
 use Rattle.graphql_grammar.proofs.WholeViable.{viable_law}
 
--- what is read is spelled so, and the other way round; what is refused is refused for all words so far, and
+-- what is read is spelled so, and the other way round. What is refused is refused for all words so far, and
 -- those before it begin what is spelled further
 pub record Judged {A : Type 0} (p : Piece A) (spells further : A → List WordView → Type 0) : Type 0 where
   pub found : (words : List WordView) (x : A) → read_all p words ≡ Ok x → spells x words

@@ -67,8 +67,8 @@ module _ {A : Type 0} (p : Piece A) (pb : Blind p) where
   unread_at front [] e h here = λ x read. refused_whole (front ++ []) e h x (subst (λ (l : List WordView). reads p x l) (sym (append-nil front)) read)
   unread_at front (w ∷ ws) e h here = not_read_from front ws w e h here
 
-  -- where words are refused, no words that are the same up to the refused one, that one included, are read;
-  -- and there are such words before it
+  -- where words are refused, no words that are the same up to the refused one, that one included, are read.
+  -- And there are such words before it
   pub unread_law : (words : List WordView) (e : Refusal) → read_all p words ≡ Err e → RefusedWith (reads p) words e
   unread_law words e h =
       let g : EndOf e.left words = refused_within words e h in
@@ -81,7 +81,7 @@ module _ {A : Type 0} (p : Piece A) (pl : Lawful p) where
   unspelled front (w ∷ ws) h = λ x others spelled. h x others (all_again p pl (front ++ w ∷ others) x spelled)
 
   -- where words are refused, no words that are the same up to the refused one, that one included, spell
-  -- anything; and there are such words before it
+  -- anything. And there are such words before it
   pub refusal_law : Blind p → (words : List WordView) (e : Refusal) → read_all p words ≡ Err e → RefusedWith p.spells words e
   refusal_law pb words e h =
       let r : RefusedWith (reads p) words e = unread_law p pb words e h in

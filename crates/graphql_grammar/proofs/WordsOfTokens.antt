@@ -1,4 +1,4 @@
--- The words of a text are the words at its tokens where it has tokens, and no more than are allowed; else not
+-- The words of a text are the words at its tokens where it has tokens, and no more than are allowed. Else not
 -- all of them are tokens.
 use Rattle.std.proofs.Common.{◌≡◌, ℕ, zero, suc, ◌+◌, ◌-◌, ◌<◌, ◌≤◌, true, List, [], ◌∷◌, length, map, take, drop, None, Some, Ok, Err, ◌⊎◌, inl, inr, refl, sym, ap, subst, ◌∙◌, arith}
 use Rattle.std.specs.Prelude.{slice_range}

@@ -1,8 +1,9 @@
 -- What a grammar is made of. A piece says which words spell a value, and how it is read.
 --
 -- Pieces are made of pieces: one after the other (`seq`), one or none (`optional`), any number (`many`), one
--- or more (`some`), by the kind of the first word (`branch`). So they are between signs that may nest so deep
--- (`nested`), and with where the words stand (`located`). `read_all` reads a piece and nothing behind it.
+-- or more (`some`). They are made by the kind of the first word too (`branch`). So they are between signs
+-- that may nest so deep (`nested`), and with where the words stand (`located`). `read_all` reads a piece and
+-- nothing behind it.
 use Rattle.std.specs.Prelude.{◌≡◌, ℕ, zero, suc, List, [], ◌∷◌, ◌++◌, length, Bool, true, false, ◌&&◌}
 use Rattle.std.specs.Prelude.{if◌then◌else◌, Option, Some, None, Result, Ok, Err}
 use Rattle.graphql_grammar.specs.Kinds.{Kinds, either_of, none, only}

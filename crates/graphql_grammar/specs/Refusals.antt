@@ -7,8 +7,8 @@ use Rattle.graphql_grammar.specs.Pieces.{Piece, Refusal, read_all}
 abbrev pub EndOf : List WordView → List WordView → Type 0
 EndOf part whole = (front : List WordView) × (whole ≡ front ++ part)
 
--- no words that begin with this front and have the next word, are such for any value; nor is the front alone,
--- where no word is next
+-- no words that begin with this front and have the next word, are such for any value. Where no word is next,
+-- nor is the front alone
 abbrev pub Unspelled : {A : Type 0} → (A → List WordView → Type 0) → List WordView → List WordView → Type 0
 Unspelled {A} spells front [] = (x : A) → spells x front → ⊥
 Unspelled {A} spells front (w ∷ ws) = (x : A) (others : List WordView) → spells x (front ++ w ∷ others) → ⊥

@@ -105,7 +105,7 @@ words_within (suc size) allowed total text =
 unfoldable pub words_at : ℕ → ℕ → List ℕ → List WordView
 words_at allowed total text = words_within (suc (length text)) allowed total text
 
--- the words of a whole text, of which so many are allowed: its tokens; where it stops being tokens, or has
--- more, a last word that nothing is spelled with
+-- the words of a whole text, of which so many are allowed: its tokens. Where it stops being tokens, or has
+-- more, comes a last word that nothing is spelled with
 abbrev pub words_of : ℕ → List ℕ → List WordView
 words_of allowed text = words_at allowed (length text) text

@@ -6,9 +6,9 @@
 -- the two bare values are the same (`ComparesBy`). So equality keeps the order of lists, and sees all
 -- texts, and the locations that a `BuildError` has beside its names.
 --
--- **Bare table.** A table is compared as a function: of a key, or of the text of a name, the bare value
--- that stands under it, if one does (`entries_by_key`, `entries_by_text`). So order is left out, as it
--- is of a set. (Of equal keys, which no table has, the first would count.)
+-- **Bare table.** A table is compared as a function of a key, or of the text of a name. It gives the bare
+-- value that stands under that, if one does (`entries_by_key`, `entries_by_text`). So order is left out, as
+-- it is of a set. (Of equal keys, which no table has, the first would count.)
 use Rattle.std.specs.Prelude.{◌≡◌, ℕ, Bool, List, Option, None, option_map, IsTrue, ◌↔◌}
 use Rattle.graphql_nodes.specs.KeySets.{has_key}
 use Rattle.graphql_nodes.specs.NameView.{NameView}

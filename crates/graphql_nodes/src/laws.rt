@@ -1,5 +1,5 @@
-//! What `==` answers at each type of this crate: whether the two are one with locations left out, lists in
-//! order, tables and sets without order.
+//! What `==` answers at each type of this crate. It is whether the two are one with locations left out, lists
+//! in order, tables and sets without order.
 //!
 //! Each law is a function that does nothing. A proof cites it by a call, and finds a clause for each type
 //! there.
@@ -36,7 +36,8 @@ pub fn equality_of_containers<T: PartialEq>()
 {}
 
 /// Tables are equal where what stands under each key is, and where nothing stands under it in one, nothing
-/// does in the other; sets where they have the same keys. The order of entries and of keys is left out.
+/// does in the other. Sets are equal where they have the same keys. The order of entries and of keys is left
+/// out.
 pub fn equality_of_tables_and_sets<K: Eq + Hash, V: PartialEq>()
     ensures table { (f : V → V) → ComparesBy V.eq f
         → ComparesBy ⟦<Table<K, V> as PartialEq>⟧.eq (entries_by_key K.eq f) }

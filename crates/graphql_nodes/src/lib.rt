@@ -5,8 +5,12 @@
 //! [`Node::make_mut`](node::Node::make_mut) writes to a node without changing those that share its value.
 //!
 //! Proved: names are those of the grammar; `==` ignores locations; ordered tables, sets and lists do what
-//! their comments say; an offset has the right line and column, also by an index; what is shown of a text has
+//! their comments say. An offset has the right line and column, also by an index; what is shown of a text has
 //! no control character but tab.
+//!
+//! No clause: `HashKeys::drawn`, as the trait of sources promises nothing of the bytes, nor of when it fails.
+//! `Table::hash_keys` and `KeySet::hash_keys`, as no clause sees keys. `SeenNames::new`, as which names were
+//! seen changes no answer.
 #![tactic(auto)]
 
 pub mod collections;

@@ -27,7 +27,7 @@ impl OperationType {
     }
 
     /// The name of the object type that is this kind's root where no schema definition names one (section
-    /// 3.3.1): `Query`, `Mutation` or `Subscription`, without a location. The error is out of memory.
+    /// 3.3.1). It is `Query`, `Mutation` or `Subscription`, without a location. The error is out of memory.
     pub fn default_type_name(self, alloc: Global) -> Result<NamedType, AllocError>
         ensures { IfOk result (λ n. n ≡ record { text = default_type_text self; location = None }) }
     {

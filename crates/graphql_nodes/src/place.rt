@@ -10,10 +10,10 @@ use std::fmt;
 
 /// A span beside the sources that its file is one of.
 ///
-/// `Display` is where the span starts, as `shop.graphql:4:5`: the path of its file, as [`visible`] shows it,
-/// and the line and the column, as [`SourceSpan::line_column`] counts them. Where the text of the file ends
-/// before, it is `shop.graphql, byte 90`. Where the sources lack the file, it is `built-in` for the file of
-/// the built-in definitions, and `file 3, byte 90` for another.
+/// `Display` is where the span starts, as `shop.graphql:4:5`. It has the path of its file, as [`visible`]
+/// shows it, and the line and the column, as [`SourceSpan::line_column`] counts them. Where the text of the
+/// file ends before, it is `shop.graphql, byte 90`. Where the sources lack the file, it is `built-in` for the
+/// file of the built-in definitions, and `file 3, byte 90` for another.
 #[derive(Clone, Copy)]
 pub struct Place<'a> {
     pub span: SourceSpan,

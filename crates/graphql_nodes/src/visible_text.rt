@@ -9,8 +9,9 @@ use std::fmt::{Formatter, Write};
 
 /// A text, to be shown to people.
 ///
-/// `Display` is the text with U+FFFD in place of each control character other than tab: U+0000 to U+001F and
-/// U+007F to U+009F. So a terminal shows the text and does nothing else. Each character stays one character.
+/// `Display` is the text with U+FFFD in place of each control character other than tab. These are U+0000 to
+/// U+001F and U+007F to U+009F. So a terminal shows the text and does nothing else. Each character stays one
+/// character.
 #[derive(Clone, Copy)]
 pub struct VisibleText<'a> {
     pub text: &'a str,

@@ -164,7 +164,7 @@ fn are_keys(set: &KeySet<i32>) -> bool {
         && (set.get_full(&3), set.get_full(&9)) == (Some((1, &3)), None)
 }
 
-/// Whether the set of 5 and 3 has an equal copy, and is made again of its set; and whether the first key can
+/// Whether the set of 5 and 3 has an equal copy, and is made again of its set. And whether the first key can
 /// be taken out of the copy.
 fn is_set_kept(set: KeySet<i32>) -> Result<bool, AllocError> {
     let mut copy = set.clone()?;

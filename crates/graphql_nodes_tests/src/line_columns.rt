@@ -7,8 +7,8 @@ use graphql_nodes::source::{FileId, SourceFile, SourceMap, SourceSpan};
 use likeness::is_made_right;
 use std::alloc::Global;
 
-/// Texts, and the line and column of each offset up to the end: of none, of each line terminator, of two that
-/// touch, and of characters of two, three and four bytes.
+/// Texts, and the line and column of each offset up to the end. The texts are of none, of each line
+/// terminator, of two that touch, and of characters of two, three and four bytes.
 const EXAMPLES: &[(&str, &[(usize, usize)])] = &[
     ("", &[(1, 1)]),
     ("a\nb", &[(1, 1), (1, 2), (2, 1), (2, 2)]),
@@ -67,7 +67,7 @@ fn span(file: u64, start: usize, end: usize) -> SourceSpan {
     }
 }
 
-/// Whether a span within the text has its lines and columns; and whether one of another file has no line, and
+/// Whether a span within the text has its lines and columns. And whether one of another file has no line, and
 /// one that ends beyond the text has no range.
 fn are_found(sources: &SourceMap) -> bool {
     let (inner, other, long) = (span(1, 1, 3), span(2, 0, 1), span(1, 4, 5));

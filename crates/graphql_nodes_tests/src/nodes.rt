@@ -23,7 +23,7 @@ const FAR: SourceSpan = SourceSpan {
     end: 0,
 };
 
-/// Whether a node of 7 is at this location and is shown as 7; and whether it is equal to a node of 7 at none,
+/// Whether a node of 7 is at this location and is shown as 7. And whether it is equal to a node of 7 at none,
 /// and hashed the same.
 fn is_at(
     alloc: Global,

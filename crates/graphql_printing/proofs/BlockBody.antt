@@ -13,7 +13,7 @@ use Rattle.graphql_printing.specs.Widths.{width}
 use Rattle.graphql_printing.proofs.BlockCharacters.{IsAllowed, Spelled, begins_quote, other_first, other_second, other_third, quote_or_other, spelled, three_quotes}
 use Rattle.graphql_printing.proofs.BlockLines.{same_further_in}
 
--- a text between the line ends of the layout: with none where it fits in one line, or only the last where it
+-- a text between the line ends of the layout: with none where it fits in one line, or the last alone where it
 -- begins at once
 abbrev pub framed : Bool → Bool → ℕ → List ℕ → List ℕ
 framed true at_once indent text = text

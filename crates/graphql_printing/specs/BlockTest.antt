@@ -25,8 +25,8 @@ last_is_blank (line ∷ next ∷ more) = last_is_blank (next ∷ more)
 abbrev pub is_outer : List ℕ → Bool
 is_outer line = begins (λ c. not (is_white c)) line
 
--- the test: a text is empty, or its last line isn't blank, and where it has several, the first one isn't
--- either, and one has no indent
+-- the test: a text is empty, or its last line isn't blank. Where it has several lines, the first one isn't
+-- blank either, and one has no indent
 abbrev pub passes_test : List ℕ → Bool
 passes_test text =
     nat_eq (length text) 0

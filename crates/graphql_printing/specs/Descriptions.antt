@@ -28,8 +28,8 @@ is_mark c = nat_eq c 34 || nat_eq c 92
 abbrev pub fits_one_line : List ℕ → Bool
 fits_one_line text = not (has_line_feed text) && (nat_le (width text) 70 && not (ends is_mark text))
 
--- whether a text begins behind the quotes at once, though it doesn't fit: one line that begins with a tab or
--- a blank, which else were lost
+-- whether a text begins behind the quotes at once, though it doesn't fit. It is one line that begins with a
+-- tab or a blank, which else were lost
 abbrev pub begins_at_once : List ℕ → Bool
 begins_at_once text = not (has_line_feed text) && begins is_white text
 
@@ -80,7 +80,7 @@ has_unprintable (c ∷ cs) = begins_unprintable (c ∷ cs) || has_unprintable cs
 unfoldable pub reads_back : List ℕ → Bool
 reads_back text = pointwise nat_eq (block_string_value (block 0 text)) text
 
--- whether a description is a block string, and not a quoted one: it is read as the text again, and has no
+-- whether a description is a block string, and not a quoted one. It is read as the text again, and has no
 -- control character but tabs and line feeds
 abbrev pub is_block : List ℕ → Bool
 is_block text = reads_back text && not (has_unprintable text)

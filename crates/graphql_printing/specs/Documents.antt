@@ -37,7 +37,7 @@ declaration_text braces (OfType t) =
 abbrev pub definition_text : Bool → Definition → List ℕ
 definition_text braces x = declaration_text braces (declaration_of x)
 
--- definitions, each behind an empty line; where the flag is set, the first of them stands behind a definition
+-- definitions, each behind an empty line. Where the flag is set, the first of them stands behind a definition
 -- that would take a `{` for its own
 abbrev pub definitions_behind : Bool → List Definition → List ℕ
 definitions_behind braces [] = []

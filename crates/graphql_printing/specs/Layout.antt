@@ -20,8 +20,8 @@ enclosed beginning separator end text (x ∷ xs) = beginning ++ separated separa
 abbrev pub line_end : ℕ → List ℕ
 line_end indent = 10 ∷ replicate indent 32
 
--- texts of what stands further in by so many blanks: each on a line of its own and further in by two, between
--- an opening and a closing; nothing where there is no text; each says how far in it stands
+-- texts of what stands further in by so many blanks. Each is on a line of its own and further in by two,
+-- between an opening and a closing. There is nothing where there is no text. Each says how far in it stands
 abbrev pub on_lines : {A : Type 0} → List ℕ → List ℕ → ℕ → (ℕ → A → List ℕ) → List A → List ℕ
 on_lines opening closing indent text xs =
     enclosed (opening ++ line_end (indent + 2)) (line_end (indent + 2)) (line_end indent ++ closing)

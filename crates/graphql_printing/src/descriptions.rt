@@ -40,8 +40,8 @@ fn is_block(text: &str) -> bool
     passes_test(bytes) && !has_unprintable(bytes)
 }
 
-/// Whether a text is empty, or has lines that a block string keeps: the first and the last aren't blank, and
-/// where there are several, one has no indent.
+/// Whether a text is empty, or has lines that a block string keeps. It keeps them if the first and the last
+/// aren't blank, and where there are several, one has no indent.
 fn passes_test(text: &[u8]) -> bool
     ensures { result ≡ passes_test text.now }
 {

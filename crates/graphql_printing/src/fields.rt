@@ -14,8 +14,8 @@ use graphql_nodes::node::Node;
 use std::fmt;
 use std::fmt::{Formatter, Write};
 
-/// Writes a field's alias, name and arguments, which stand further in by so many blanks: the arguments one a
-/// line where all take more than 80 UTF-16 units in one line.
+/// Writes a field's alias, name and arguments, which stand further in by so many blanks. The arguments stand
+/// one a line where all take more than 80 UTF-16 units in one line.
 pub fn write_field_head<W: Write>(
     f: &mut Formatter<W>,
     alias: &Option<Name>,

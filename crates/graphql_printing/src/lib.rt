@@ -1,6 +1,8 @@
 //! GraphQL trees as text, in the layout of `print` of graphql-js 16.
 //!
 //! Proved: trees are written exactly as their text, without memory of their own.
+//!
+//! Not proved: that graphql-js prints the same, which `tools/fuzz` compares.
 #![tactic(auto)]
 
 pub mod arguments;

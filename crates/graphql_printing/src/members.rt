@@ -1,6 +1,6 @@
-//! The definitions that stand between the braces of a type, each as text by itself: what a tool or a message
-//! shows of the place that a schema coordinate points to. No call reads such a text by itself: only in its
-//! type is it GraphQL.
+//! The definitions that stand between the braces of a type, each as text by itself. That is what a tool or a
+//! message shows of the place that a schema coordinate points to. No call reads such a text by itself: only
+//! in its type is it GraphQL.
 ghost use Rattle.std.specs.Prelude.{◌≡◌, IfOk, Some, string_bytes};
 ghost use Rattle.graphql_printing.specs.Members.{enum_value_text, field_text, input_value_text};
 

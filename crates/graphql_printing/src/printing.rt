@@ -145,7 +145,7 @@ pub fn definition<'a>(definition: &'a Definition) -> DefinitionText<'a>
     DefinitionText(definition)
 }
 
-/// Definitions, to be printed with an empty line between each two: `Display` writes their text, as that of a
+/// Definitions, to be printed with an empty line between each two. `Display` writes their text, as that of a
 /// document (see [`text`]), and takes no memory.
 pub fn definitions<'a>(definitions: &'a [Definition]) -> DefinitionsText<'a>
     ensures { result.0.now ≡ definitions.now }
@@ -156,9 +156,9 @@ pub fn definitions<'a>(definitions: &'a [Definition]) -> DefinitionsText<'a>
 /// A document, to be printed: `Display` writes the text of its definitions, and takes no memory. An empty
 /// line stands between each two, and no line end behind the last. The sources are left out.
 ///
-/// The layout is that of `print` of graphql-js 16, with one exception: a query without name, variables and
+/// The layout is that of `print` of graphql-js 16, with one exception. A query without name, variables and
 /// directives keeps its keyword `query` behind a definition that would take its `{` for its own. `type T`
-/// without fields is such a definition. Trees don't say which strings were block strings: here a description
+/// without fields is such a definition. Trees don't say which strings were block strings. Here a description
 /// is one wherever it is read back as its text, and a value never is.
 pub fn text<'a>(document: &'a Document) -> DefinitionsText<'a>
     ensures { result.0.now ≡ document.now.definitions }

@@ -1,5 +1,5 @@
 //! Tests of the text of GraphQL trees: texts that are read, and what is printed of them, as graphql-js prints
-//! it; trees that no text is read as; and sinks.
+//! it. Also trees that no text is read as; and sinks.
 #![tactic(auto)]
 
 #[cfg(test)]

@@ -1,4 +1,4 @@
--- What ends the parts of definitions and extensions: where what stands between braces is left out, a `{` goes
+-- What ends the parts of definitions and extensions. Where what stands between braces is left out, a `{` goes
 -- on with them, and is always taken.
 use Rattle.std.proofs.Common.{◌≡◌, ℕ, zero, suc, Bool, true, false, not, ◌&&◌, List, Option, None, Some, refl, sym, ap, subst, ◌∙◌}
 use Rattle.graphql_nodes.specs.declared.operation_type.OperationType.{OperationType}

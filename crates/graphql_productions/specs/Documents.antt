@@ -64,8 +64,8 @@ any_kind kind = true
 abbrev pub document : FileId → ℕ → Piece (List Definition)
 document file depth = some (item any_kind (expecting i.Definition) (definition file depth))
 
--- whether a `{` behind what says this would still be its own: one that may have fields, values, input
--- fields or roots between braces, and has none. Sections 3.3.2, 3.6, 3.7, 3.9 and 3.10
+-- whether a `{` behind what says this would still be its own. That is so of one that may have fields, values,
+-- input fields or roots between braces, and has none. Sections 3.3.2, 3.6, 3.7, 3.9 and 3.10
 abbrev pub declaration_takes_braces : Declaration → Bool
 declaration_takes_braces (OfType t) = parts_take t.kind t.parts
 declaration_takes_braces (OfSchema s) = s.is_extension && is_none s.parts.roots

@@ -388,8 +388,8 @@ has_part p =
     && (is_none p.names
     && (is_none p.fields && (is_none p.values && (is_none p.input_fields && is_none p.roots)))))
 
--- whether a `{` behind these parts of such a type would still be its own: it may have fields or values
--- between braces, and has none. Sections 3.6, 3.7, 3.9 and 3.10
+-- whether a `{` behind these parts of such a type would still be its own. That is so if the type may have
+-- fields or values between braces, and has none. Sections 3.6, 3.7, 3.9 and 3.10
 abbrev pub parts_take : TypeKind → Parts → Bool
 parts_take t.Scalar p = false
 parts_take t.Object p = is_none p.fields

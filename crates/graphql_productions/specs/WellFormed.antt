@@ -12,8 +12,8 @@ use Rattle.graphql_grammar.specs.TextsOfWords.{IsTextOf}
 use Rattle.graphql_productions.specs.TreeParts.{Description, EnumName, Float, FragmentName, Int, Name, Node}
 use Rattle.graphql_productions.specs.TreeParts.{TreePart, Variable, Wanted}
 
--- a part that could have come of a text: names are names and numbers are tokens; no name of a fragment is
--- `on`; none of an enum value is `true`, `false` or `null`; no variable stands in a constant value; and what
+-- a part that could have come of a text: names are names and numbers are tokens. No name of a fragment is
+-- `on`, and none of an enum value is `true`, `false` or `null`. No variable stands in a constant value. What
 -- the grammar wants is there
 abbrev pub IsWellFormedPart : TreePart → Type 0
 IsWellFormedPart (Node at) = Unit {0}

@@ -57,9 +57,9 @@ pub fn refusals_are_of_all_words_so_far()
         → RefusedWith (value file constant depth).spells words e }
 {}
 
-/// Words are refused no later than they have to be: those before the refused one begin some that spell a
-/// definition, a document, selections with braces or without, a type or a value. One sign more may be open
-/// in those, since what is refused for its depth alone goes on where more may be open. Of a document the
+/// Words are refused no later than they have to be. Those before the refused one begin some that spell a
+/// definition, a document, selections with braces or without, a type or a value. One sign more may be open in
+/// those, since what is refused for its depth alone goes on where more may be open. Of a document the
 /// productions alone are meant: they leave open what a `{` behind `type T` begins.
 pub fn words_before_a_refusal_go_on()
     ensures definition { (file : FileId) (depth : ℕ) (words : List WordView) (e : Refusal)

@@ -25,8 +25,10 @@ ghost use Rattle.graphql_round_trip.specs.Nesting.{document_nesting, selections_
 ghost use Rattle.graphql_round_trip.specs.Nesting.{value_nesting};
 ghost use Rattle.graphql_round_trip.specs.ReadAgain.{SpellEqual};
 
-/// The text of a well-formed tree is read as an equal tree: a document, selections, a type, a value. It is so
-/// where as many signs may be open as the tree nests, and as many tokens are allowed as the text has bytes.
+/// The text of a well-formed tree is read as an equal tree: a document, selections, a type, a value.
+///
+/// Premise: the tree is well-formed, as many signs may be open as it nests, and as many tokens are allowed as
+/// its text has bytes. `ParseOptions::new` allows any number of tokens.
 pub fn texts_are_read_again()
     ensures document { (file : FileId) (depth allowed : ℕ) (x : List Definition)
         → IsWellFormed (document_parts x) → document_nesting x ≤ depth → length (definitions_text x) ≤ allowed
@@ -57,10 +59,12 @@ pub fn equal_trees_have_one_text()
     ensures value { (x y : Value) → bare_value x ≡ bare_value y → value_text x ≡ value_text y }
 {}
 
-/// What a text was read as is printed as a text that is read as an equal tree, in any file. It is so under
-/// two conditions. As many signs may be open as before, and of selections one more, since they are printed in
-/// braces. As many tokens are allowed as the printed text has bytes. And whatever document it is read as is
-/// printed as the same text: formatting keeps what a text means, and formatting twice is formatting once.
+/// What a text was read as is printed as a text that is read as an equal tree, in any file. And whatever
+/// document it is read as is printed as the same text: formatting keeps what a text means, and formatting
+/// twice is formatting once.
+///
+/// Premise: as many signs may be open as before, of selections one more, and as many tokens are allowed as
+/// the printed text has bytes. Selections are printed in braces.
 pub fn formatting_keeps_the_tree()
     ensures document { (file other : FileId) (depth allowed enough : ℕ) (text : List ℕ) (x : List Definition)
         → spells_document file depth x (words_of allowed text) → length (definitions_text x) ≤ enough

@@ -1,4 +1,4 @@
-//! Tests of trees and of the notation, of what no clause says: printed texts, examples from the
+//! Tests of trees and of the notation, of what no clause says. That is printed texts, examples from the
 //! specification, that calls and copies succeed with memory, and that a write leaves the other tree.
 //!
 //! What a test compares stands in functions that borrow and answer whether it holds: these are cheap to

@@ -21,8 +21,8 @@ pub record Reports (file : FileId) (total : ℕ) (refusal : Refusal) (e : ParseE
   pub place : e.location ≡ span_of file total refusal.left
   pub said : Says refusal.kind refusal.left e.kind
 
--- what became of what a reader returned before these words: the value stays, and so does that memory ran out;
--- a fault is reported where they begin, unless memory runs out
+-- what became of what a reader returned before these words. The value stays, and so does that memory ran out.
+-- A fault is reported where they begin, unless memory runs out
 abbrev pub Parsed : {A : Type 0} → FileId → ℕ → List WordView → Result A ReadError → Result A ParseError
     → Type 0
 Parsed file total left (Ok x) (Ok y) = y ≡ x
@@ -40,9 +40,9 @@ Answers x result = MatchResult result (λ y. y ≡ x) (λ e. e.kind ≡ Memory)
 abbrev pub IsBuiltInFile : {A : Type 0} → Result A ParseError → Type 0
 IsBuiltInFile result = MatchResult result (λ y. ⊥) (λ e. e.kind ≡ BuiltInFile)
 
--- words that are refused where an error says: the words from the one there on are the first, from the left,
--- that are wrong; no words that begin with those before it and with it are such; and those before it begin
--- some that are, where one sign more may be open
+-- words that are refused where an error says. The words from the one there on are the first, from the left,
+-- that are wrong. No words that begin with those before it and with it are such. Those before it begin some
+-- that are, where one sign more may be open
 pub record RefusedAt {A : Type 0} (p : Piece A) (spells further : A → List WordView
     → Type 0) (file : FileId) (total : ℕ) (words : List WordView) (e : ParseError) : Type 0 where
   pub refusal : Refusal

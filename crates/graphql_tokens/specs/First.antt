@@ -6,8 +6,8 @@ use Rattle.graphql_tokens.specs.declared.first.FirstToken.{FirstToken}
 use Rattle.graphql_tokens.specs.declared.token.TokenError.{TokenError}
 use Rattle.graphql_tokens.specs.declared.token.TokenKind.{TokenKind}
 
--- a token with what stands on both sides of it: how many bytes before it say nothing, what it is, its bytes,
--- and all behind it
+-- a token with what stands on both sides of it. That is how many bytes before it say nothing, what it is, its
+-- bytes, and all behind it
 pub record First : Type 0 where
   pub passed : ℕ
   pub kind : TokenKind

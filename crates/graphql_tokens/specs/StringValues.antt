@@ -9,8 +9,8 @@ use Rattle.graphql_tokens.specs.Bytes.{is_control, is_hex, is_line_end}
 use Rattle.graphql_tokens.specs.Strings.{character_size, hex_number, is_escaped, is_leading, is_scalar}
 use Rattle.graphql_tokens.specs.Strings.{is_trailing, unit_at}
 
--- what the characters of a text say, one after the other, up to where none stands: `size` gives the bytes of
--- the character at the front, 0 for none, and `says` what it says; `left` bytes are still of the character
+-- what the characters of a text say, one after the other, up to where none stands. `size` gives the bytes of
+-- the character at the front, 0 for none, and `says` what it says. `left` bytes are still of the character
 -- before
 abbrev pub said : (List ℕ → ℕ) → (List ℕ → List ℕ) → ℕ → List ℕ → List ℕ
 said size says left [] = []

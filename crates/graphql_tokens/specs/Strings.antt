@@ -42,8 +42,8 @@ abbrev pub trailing_size : Option ℕ → ℕ
 trailing_size None = 0
 trailing_size (Some n) = if is_trailing n then 12 else 0
 
--- how many bytes the escape of a code unit takes: that of a leading surrogate takes that of the trailing one
--- behind it along, and no surrogate stands alone
+-- how many bytes the escape of a code unit takes. That of a leading surrogate takes that of the trailing one
+-- behind it along. No surrogate stands alone
 abbrev pub unit_size : ℕ → List ℕ → ℕ
 unit_size n behind = if is_scalar n then 6 else (if is_leading n then trailing_size (unit_at behind) else 0)
 
@@ -84,8 +84,8 @@ number_size text = option_map_or (λ n. unit_size n (drop 6 text)) (unit_at text
 abbrev pub escape_size : List ℕ → ℕ
 escape_size text = if begins is_escaped (drop 1 text) then 2 else number_size text
 
--- how many bytes a character of a string takes, if one stands at the front, where each byte beyond ASCII
--- counts as one; neither a quote nor a line end is a character
+-- how many bytes a character of a string takes, if one stands at the front. Each byte beyond ASCII counts as
+-- one. Neither a quote nor a line end is a character
 abbrev pub character_size : List ℕ → ℕ
 character_size [] = 0
 character_size (c ∷ cs) =

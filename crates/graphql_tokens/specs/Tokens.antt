@@ -32,8 +32,8 @@ abbrev pub read_at : Reading → ℕ → (ℕ → Tokens) → Tokens
 read_at (Ok l) at behind = put_first (token_at at l) (behind (l.size - 1))
 read_at (Err e) at behind = Err (record { kind = e.kind; at = at + e.at })
 
--- the tokens of a text whose first byte stands at this place: so many bytes are of what stands before; what
--- says nothing is passed over; then comes the token that stands there, or what is wrong there, and what
+-- the tokens of a text whose first byte stands at this place. So many bytes are of what stands before, and
+-- what says nothing is passed over. Then comes the token that stands there, or what is wrong there, and what
 -- stands behind it
 abbrev pub tokens_from : ℕ → ℕ → List ℕ → Tokens
 tokens_from left at [] = Ok []

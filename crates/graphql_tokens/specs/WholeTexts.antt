@@ -8,8 +8,8 @@ use Rattle.graphql_tokens.specs.declared.token.Token.{Token}
 abbrev pub SaysNothing : List ℕ → ℕ → ℕ → Type 0
 SaysNothing text from to = ignored (slice_range text from to) ≡ length (slice_range text from to)
 
--- a token comes next behind a place: it begins there or further on, has a byte at least, and lies within the
--- text; what stands before it says nothing
+-- a token comes next behind a place. It begins there or further on, has a byte at least, and lies within the
+-- text. What stands before it says nothing
 pub record ComesNext (text : List ℕ) (at : ℕ) (t : Token) : Type 0 where
   pub in_order : at ≤ t.start
   pub some : t.start < t.end

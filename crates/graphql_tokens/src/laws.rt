@@ -24,7 +24,7 @@ pub fn clones_are_exact()
     ensures tokens_error { IsExact ⟦<TokensError as Clone>⟧.is_clone }
 {}
 
-/// The tokens of a text and what says nothing make up the whole text: the tokens stand in order, each has a
+/// The tokens of a text and what says nothing make up the whole text. The tokens stand in order, each has a
 /// byte at least, and all before, between and behind them says nothing.
 pub fn tokens_make_up_the_text()
     ensures { TextsAreMadeOfTokens }

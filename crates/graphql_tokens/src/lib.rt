@@ -2,7 +2,7 @@
 //! appendix B.
 //!
 //! Proved: a text is read as the tokens of the lexical grammar, with the bytes of each, or the first thing
-//! wrong is reported; strings have the values that their tokens say.
+//! wrong is reported. Strings have the values that their tokens say.
 #![tactic(auto)]
 
 mod escapes;

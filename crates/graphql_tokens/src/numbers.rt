@@ -6,8 +6,8 @@ ghost use Rattle.graphql_tokens.specs.Numbers.{scientific, then_part, with_digit
 
 use crate::runs::{digits, is_name_byte};
 
-/// A part of a number at the front: how many bytes can be of it, whether they are all of one, and whether it
-/// is a float.
+/// A part of a number at the front. It says how many bytes can be of it, whether they are all of one, and
+/// whether it is a float.
 #[derive(Clone, Copy)]
 pub(crate) struct Part {
     pub(crate) size: usize,

@@ -30,8 +30,8 @@ use Rattle.leafcheck.specs.declared.leaf_fault.LeafFault.{LeafFault}
 use Rattle.leafcheck.specs.declared.leaf_fault.LeafKind.{LeafKind}
 use Rattle.leafcheck.specs.declared.leaf_fault.LeafKind.TheVariants.{MissingSubselection, SubselectionOnLeaf}
 
--- in which way a field of this type is at fault that is bare, or has subselections: in none, if the type is
--- an input object
+-- in which way a field of this type is at fault that is bare, or has subselections. If the type is an input
+-- object, it is so in none
 abbrev pub kind_in : Bool → ExtendedType → Option LeafKind
 kind_in true t = if is_composite t then Some MissingSubselection else None
 kind_in false t = if is_leaf t then Some SubselectionOnLeaf else None

@@ -23,8 +23,8 @@ BeginsWith path outer = (bare_root path.root ≡ bare_root outer.root)
 abbrev pub GoesOn : SelectionPath → SelectionPath → Type 0
 GoesOn path outer = BeginsWith path outer × (length outer.nested_fields < length path.nested_fields)
 
--- an error is of a selection below the field that has this path: of an inline fragment, whose path is that of
--- the fields around it, or of a field, whose path ends with its own key
+-- an error is of a selection below the field that has this path. It is of an inline fragment, whose path is
+-- that of the fields around it. Or it is of a field, whose path ends with its own key
 abbrev pub IsOfBelow : SelectionPath → BuildError → Type 0
 IsOfBelow outer (e.UndefinedTypeInInlineFragmentTypeCondition ty path) = BeginsWith path outer
 IsOfBelow outer (e.SubselectionOnScalarType ty path) = GoesOn path outer

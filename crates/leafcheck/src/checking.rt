@@ -19,14 +19,14 @@ use graphql_nodes::name::NamedType;
 use graphql_nodes::node::Node;
 use std::alloc::{AllocError, Global};
 
-/// The fields of a document that are at fault over a schema: those of scalar or enum types that have
+/// The fields of a document that are at fault over a schema. They are those of scalar or enum types that have
 /// subselections, and those of object, interface or union types that have none. A field of an input object
 /// type is never at fault, and neither is one of a type that the schema lacks.
 ///
 /// The faults of operations come first, in the order of
 /// [`iter`](apollo_executable::operation_map::OperationMap::iter), then those of fragments, in the order of
-/// the map. Of each it is the field before those below it, through inline fragments, but not through spreads:
-/// a fragment is looked at once, wherever it is spread, or nowhere. Paths are as in the faults of a build,
+/// the map. Of each it is the field before those below it, through inline fragments, but not through spreads.
+/// A fragment is looked at once, wherever it is spread, or nowhere. Paths are as in the faults of a build,
 /// where operations and fragments stand under their own names.
 ///
 /// The schema need not be the one that the document was built over. The error is out of memory, which a

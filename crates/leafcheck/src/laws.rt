@@ -19,7 +19,7 @@ use apollo_document::selection_path::SelectionPath;
 use apollo_executable::selection::{Field, FragmentSpread, InlineFragment, Selection};
 use graphql_nodes::laws::{equality_of_locations_and_kinds, equality_of_names};
 
-/// The fields that stand in selections with their places, by the kind of the first selection: a field stands
+/// The fields that stand in selections with their places, by the kind of the first selection. A field stands
 /// there itself, from the type of its set and with its key last in its path. Then come those of its own set.
 /// A spread has none. An inline fragment has those of its own set, from the type of that and with no key
 /// more. Then come those of the other selections. Those of one list behind another come behind those of the

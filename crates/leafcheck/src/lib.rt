@@ -6,6 +6,8 @@
 //!
 //! Proved: exactly the fields that lack subselections or must not have them are reported, over any schema and
 //! document.
+//!
+//! Not proved: any other rule of validation, as nothing looks at these.
 #![tactic(auto)]
 
 mod around;

@@ -7,8 +7,8 @@ use apollo_document::build_error::{BuildError, Fault};
 use apollo_document::selection_path::SelectionPath;
 
 impl LeafFault {
-    /// Whether one of these faults, those of the build of its document, is of a selection below this field:
-    /// of a field or an inline fragment, also one further below. So a
+    /// Whether one of these faults, those of the build of its document, is of a selection below this field.
+    /// That is a field or an inline fragment, also one further below. So a
     /// [`MissingSubselection`](crate::leaf_fault::LeafKind::MissingSubselection) can be recognized that is
     /// there only since what was written below the field was dropped.
     ///

@@ -18,8 +18,8 @@ output_of shown.Nothing document = []
 output_of shown.WriteOut document = ended (erased_document document).definitions
 output_of shown.Fields document = fields_text document
 
--- the answer is what the command writes of the typed document of files over the schema of files; or with the
--- flag what JSON says of all faults; `held` says which bytes the file of a path may hold
+-- the answer is what the command writes of the typed document of files over the schema of files. Or with the
+-- flag it is what JSON says of all faults. `held` says which bytes the file of a path may hold
 pub record IsDocumentAnswer (held : List ℕ → List ℕ
     → Type 0) (what : Shown) (json : Bool) (schema_paths document_paths : List (List ℕ)) (answer : Answer) :
     Type 0 where

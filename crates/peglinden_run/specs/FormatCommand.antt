@@ -30,8 +30,8 @@ abbrev pub shown_of : Bool → List Document → List ℕ
 shown_of false documents = flat_map formatted documents
 shown_of true documents = flat_map changed_line documents
 
--- the answer is that to the documents of these files; something is at fault where the flag is set and a name
--- is written, and nothing is reported
+-- the answer is that to the documents of these files. Something is at fault where the flag is set and a name
+-- is written. Nothing is reported
 pub record IsFormatAnswer (held : List ℕ → List ℕ
     → Type 0) (check : Bool) (paths : List (List ℕ)) (answer : Answer) : Type 0 where
   -- the documents of the files

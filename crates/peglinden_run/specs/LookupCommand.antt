@@ -31,8 +31,8 @@ abbrev pub IsFinding : Schema → SchemaCoordinate → Bool → Answer → Type 
 IsFinding schema coordinate false answer = Finds schema coordinate answer
 IsFinding schema coordinate true answer = FindsNothing schema coordinate answer
 
--- the answer is that to the coordinate that a text says and to files; `held` says which bytes the file of a
--- path may hold; what is at fault in the schema is passed over
+-- the answer is that to the coordinate that a text says and to files. `held` says which bytes the file of a
+-- path may hold. What is at fault in the schema is passed over
 pub record IsLookupAnswer (held : List ℕ → List ℕ
     → Type 0) (coordinate_text : List ℕ) (paths : List (List ℕ)) (answer : Answer) : Type 0 where
   pub coordinate : SchemaCoordinate

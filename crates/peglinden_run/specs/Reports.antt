@@ -11,14 +11,14 @@ use Rattle.apollo_reporting.specs.Reports.{report_text}
 use Rattle.apollo_reporting.specs.Said.{OfSaid}
 use Rattle.apollo_reporting.specs.declared.detail.Detail.{Detail}
 
--- the text is the report of a fault at this location, with an empty line behind it: by some sentence, as it
--- is shown, and what else reports say of it
+-- the text is the report of a fault at this location, with an empty line behind it. It is made of some
+-- sentence, as it is shown, and of what else reports say of the fault
 abbrev pub IsReport : Files → Option SourceSpan → AboutView → List ℕ → Type 0
 IsReport files location about text = (sentence : List ℕ)
     × (text ≡ report_text files location about (visible sentence) ++ codes "\n")
 
--- the text is the JSON of a fault at this location, as a line: by some sentence, what else reports say of it
--- and its details
+-- the text is the JSON of a fault at this location, as a line. It is made of some sentence, of what else
+-- reports say of the fault, and of its details
 abbrev pub IsJsonLine : Files → Option SourceSpan → AboutView → Option (List Detail) → List ℕ → Type 0
 IsJsonLine files location about of_details text = (sentence : List ℕ)
     × OfSaid of_details (λ details. text ≡ compact_text (fault_data files location about sentence details)

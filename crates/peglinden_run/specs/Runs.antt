@@ -16,7 +16,7 @@ use Rattle.peglinden_run.specs.Requests.{IsAnswerTo, IsCauseTo}
 use Rattle.peglinden_run.specs.Status.{message_of, status_of}
 
 -- In all of this `held` says which bytes the file of a path may hold, and `may_fail` whether reading it may
--- fail; `old` is what stood on standard output before, and `new` what stands there now, if these bytes are
+-- fail. `old` is what stood on standard output before, and `new` what stands there now, if these bytes are
 -- known. So are `old_errors` and `new_errors` on standard error.
 
 -- the run has no answer
@@ -25,15 +25,15 @@ IsUnanswered s.Refused = Unit {0}
 IsUnanswered s.Exhausted = Unit {0}
 IsUnanswered _ = ⊥
 
--- a run that has its whole text ends so: it is appended; or the writer failed, or its flush did, and a
+-- a run that has its whole text ends so. The text is appended. Or the writer failed, or its flush did, and a
 -- beginning of it is appended
 abbrev pub IsTextWritten : List ℕ → Option (List ℕ) → Option (List ℕ) → Status → Type 0
 IsTextWritten text old new s.Done = Appends old new text
 IsTextWritten text old new s.NotWritten = IsBegun text old new
 IsTextWritten text old new _ = ⊥
 
--- a run that has its whole answer ends so: the output is appended, and whether something is at fault decides;
--- then a beginning of the reports is appended on standard error, and all of them unless that writer fails; or
+-- a run that has its whole answer ends so. The output is appended, and whether something is at fault decides.
+-- Then a beginning of the reports is appended on standard error, and all of them unless that writer fails. Or
 -- a beginning of the output is appended
 abbrev pub IsWritten : Answer → Option (List ℕ) → Option (List ℕ) → Option (List ℕ) → Option (List ℕ) → Status
     → Type 0
@@ -51,7 +51,7 @@ abbrev pub WritesAnswer : Request → (List ℕ → List ℕ → Type 0) → Opt
 WritesAnswer request held old new old_errors new_errors status = (answer : Answer)
     × (IsAnswerTo request held answer × IsWritten answer old new old_errors new_errors status)
 
--- there is a cause for which the request has no answer, and it ends a run so; a beginning of what is reported
+-- there is a cause for which the request has no answer, and it ends a run so. A beginning of what is reported
 -- of it is appended on standard error, and all of it unless that writer fails
 abbrev pub HasCause : Request → (List ℕ → List ℕ → Type 0) → (List ℕ → Type 0) → Option (List ℕ)
     → Option (List ℕ) → Status → Type 0
@@ -59,7 +59,7 @@ HasCause request held may_fail old_errors new_errors status = (failure : Failure
     × ((status_of failure ≡ status) × IsCauseTo request held may_fail failure
     × IsBegun (message_of failure) old_errors new_errors)
 
--- a run on the request over these files may end so: there is a cause for which it has no answer, or its
+-- a run on the request over these files may end so. There is a cause for which it has no answer, or its
 -- answer is written, to its end or in part
 abbrev pub MayEnd : Request → (List ℕ → List ℕ → Type 0) → (List ℕ → Type 0) → Option (List ℕ)
     → Option (List ℕ) → Option (List ℕ) → Option (List ℕ) → Status → Type 0
@@ -70,8 +70,8 @@ MayEnd request held may_fail old new old_errors new_errors s.Exhausted =
 MayEnd request held may_fail old new old_errors new_errors status =
     WritesAnswer request held old new old_errors new_errors status
 
--- a run over the files and standard input may end so: standard input gave these bytes, which it may hold; or
--- it failed, which it may, and holds nothing; or memory ran out while it was read, and it neither holds
+-- a run over the files and standard input may end so. Standard input gave these bytes, which it may hold. Or
+-- it failed, which it may, and holds nothing. Or memory ran out while it was read, and it neither holds
 -- anything nor fails
 abbrev pub MayEndWithInput : Request → (List ℕ → Type 0) → Type 0 → (List ℕ → List ℕ → Type 0)
     → (List ℕ → Type 0) → Option (List ℕ) → Option (List ℕ) → Option (List ℕ) → Option (List ℕ) → Status
@@ -97,8 +97,8 @@ EndsAs true request input_held input_may_fail held may_fail reader reader_after 
     status = MayEndWithInput request input_held input_may_fail held may_fail old new old_errors new_errors
     status
 
--- a run on words that ask for nothing may end so: they call for help or for the version, and a text is
--- appended, or a beginning of it; or they are a mistake; that memory ran out says nothing of them
+-- a run on words that ask for nothing may end so. They call for help or for the version, and a text is
+-- appended, or a beginning of it. Or they are a mistake. That memory ran out says nothing of them
 abbrev pub IsUnasked : List Text → Option (List ℕ) → Option (List ℕ) → Status → Type 0
 IsUnasked words old new s.Faults = ⊥
 IsUnasked words old new s.Refused = (asked words ≡ None) × (are_mistaken words ≡ true)
@@ -106,7 +106,7 @@ IsUnasked words old new s.Exhausted = Unit {0}
 IsUnasked words old new status = (asked words ≡ None) × (call_for_help words ≡ true)
     × ((text : List ℕ) × IsTextWritten text old new status)
 
--- a run on words that ended so: it is the run on the request that they make, or they ask for nothing, and
+-- a run on words that ended so. It is the run on the request that they make. Or they ask for nothing, and
 -- standard input is left as it was
 abbrev pub IsRunOn : {R : Type 0} → List Text → (List ℕ → Type 0) → Type 0 → (List ℕ → List ℕ → Type 0)
     → (List ℕ → Type 0) → R → R → Option (List ℕ) → Option (List ℕ) → Option (List ℕ) → Option (List ℕ)

@@ -33,9 +33,9 @@ schema_part schema_paths documents = take (length schema_paths) documents
 abbrev pub document_part : List (List ℕ) → List Document → List Document
 document_part schema_paths documents = drop (length schema_paths) documents
 
--- the typed document of files over the schema of files, which has no options; the faults of that schema;
--- those of the document, in which definitions of the type system are at fault; those of its leaves; and the
--- source files of both
+-- the typed document of files over the schema of files, which has no options. Then the faults of that schema,
+-- and those of the document, in which definitions of the type system are at fault. Last those of its leaves,
+-- and the source files of both
 pub record IsTyped (held : List ℕ → List ℕ
     → Type 0) (schema_paths document_paths : List (List ℕ)) (typed : TypedDocument) : Type 0 where
   pub schema : Schema
@@ -54,7 +54,7 @@ pub record IsTyped (held : List ℕ → List ℕ
       ≡ merged (all_sources (schema_part schema_paths documents))
       (all_sources (document_part schema_paths documents))
 
--- why there is no such document: a file is refused, or the extensions of the schema spend the numbers; that
+-- why there is no such document. A file is refused, or the extensions of the schema spend the numbers. That
 -- memory ran out says nothing of the files
 abbrev pub IsTypedCause : (List ℕ → List ℕ → Type 0) → (List ℕ → Type 0) → List (List ℕ) → List (List ℕ)
     → Failure → Type 0

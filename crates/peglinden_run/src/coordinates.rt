@@ -23,7 +23,6 @@ pub(crate) fn read_coordinate(alloc: Global, text: &str) -> Result<SchemaCoordin
 }
 
 /// What is said of a text of no coordinate. The error is out of memory.
-/// No clause: the sentence is for people.
 fn no_coordinate(alloc: Global, text: &str) -> Result<String, AllocError> {
     let mut said = format!(in alloc;
         "error: `{}` is not a schema coordinate, as ",

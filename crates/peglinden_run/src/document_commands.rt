@@ -25,7 +25,7 @@ pub enum Shown {
     Fields,
 }
 
-/// The answer of a command on documents over a schema: what it shows of the typed document, or with
+/// The answer of a command on documents over a schema. It is what it shows of the typed document, or with
 /// `json` the JSON of all faults in place of that.
 ///
 /// The errors are those of [`type_documents`].

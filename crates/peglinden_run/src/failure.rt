@@ -7,8 +7,8 @@ use std::alloc::AllocError;
 /// Why a request has no answer.
 #[derive(Debug, Drop)]
 pub enum Failure {
-    /// A file can't be read, or is no document: a report of each such file, and how many they are, for
-    /// standard error, each line with its end.
+    /// A file can't be read, or is no document. It has a report of each such file, and how many they are, for
+    /// standard error. Each line has its end.
     Files(String),
     /// The text of `lookup` is no coordinate: a sentence that says so, for standard error, with its line
     /// end.

@@ -14,9 +14,9 @@ use graphql_nodes::visible_text::visible;
 use program_io::files::Files;
 use std::alloc::{AllocError, Global};
 
-/// The answer of `format` to files: the text of each in our layout, one behind the other, each with a
-/// line end. With `check` it is the name of each file whose text differs from that, as [`visible`] shows
-/// it, each on a line, and such a file is at fault.
+/// The answer of `format` to files: the text of each in our layout, one behind the other, each with a line
+/// end. With `check` it is the name of each file whose text differs from that, as [`visible`] shows it, each
+/// on a line. Such a file is at fault.
 ///
 /// `Files` comes where a file can't be read or is no document, and `Memory` where memory ran out. There
 /// is no other error.

@@ -2,6 +2,9 @@
 //!
 //! Proved: standard output is exactly the answer to the words and the files; a refused run writes nothing
 //! there, and has a cause.
+//!
+//! No clause: `no_coordinate`, `why_missing` and `write_visible_lines`, which make and write sentences for
+//! people.
 #![tactic(auto)]
 
 pub mod answer;

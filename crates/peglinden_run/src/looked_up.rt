@@ -62,8 +62,8 @@ fn push_place(
     }
 }
 
-/// The definition that a coordinate points to, with a line end: of a type with its extensions, and of a
-/// field, an input field, an argument or an enum value alone. The error is out of memory.
+/// The definition that a coordinate points to, with a line end. It is that of a type with its extensions, and
+/// of a field, an input field, an argument or an enum value alone. The error is out of memory.
 fn found_definition(alloc: Global, found: SchemaCoordinateLookup<'_>) -> Result<String, AllocError>
     ensures { IfOk result (λ text. string_bytes text ≡ found_definition found.entry) }
 {

@@ -16,9 +16,9 @@ use graphql_nodes::collections::hash_keys::HashKeys;
 use program_io::files::Files;
 use std::alloc::{AllocError, Global};
 
-/// The answer of `lookup` to files: where what the coordinate points to in the schema of their documents
-/// stands, as a comment, and below it its definition. Nothing is written where it points to nothing, which is
-/// at fault, and is reported. What is at fault in the schema is passed over.
+/// The answer of `lookup` to files. It is where what the coordinate points to in their schema stands, as a
+/// comment, and below it its definition. Nothing is written where it points to nothing, which is at fault,
+/// and is reported. What is at fault in the schema is passed over.
 ///
 /// `NoCoordinate` comes for a text that is no coordinate, before a file is read. `Files` comes where a file
 /// can't be read or is no document. `ExtensionIds` comes only where the numbers don't suffice for the
@@ -66,7 +66,6 @@ fn missing_answer(
 }
 
 /// Why a coordinate points to nothing, in words. The error is out of memory.
-/// No clause: the sentence is for people.
 fn why_missing(
     alloc: Global,
     coordinate: &SchemaCoordinate,

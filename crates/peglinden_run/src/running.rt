@@ -26,15 +26,15 @@ use std::io::{self, ErrorKind, Write};
 /// Runs the program on the words that follow its name, and answers how that ended.
 ///
 /// `Done` and `Faults`: exactly the answer to the request that the words make stands on `output`, behind what
-/// was there; or with `Done` the text of `--help` or of `--version`. With `Done` nothing was written on
-/// `errors`; with `Faults` there are the reports of what is at fault, but with `--json` and for `format`,
+/// was there. Or with `Done` it is the text of `--help` or of `--version`. With `Done` nothing was written on
+/// `errors`. With `Faults` there are the reports of what is at fault, but with `--json` and for `format`,
 /// which say it on `output`. The output is written only once all of it is there.
 ///
-/// `Refused` and `Exhausted`: nothing was written on `output`, and `errors` says why: the words make no
-/// request; a file, or standard input, can't be read or is no document, where each such file is reported; a
-/// text is no coordinate; or memory or the numbers of extensions ran out.
+/// `Refused` and `Exhausted`: nothing was written on `output`, and `errors` says which of these it is. The
+/// words make no request. A file, or standard input, can't be read or is no document; each such file is
+/// reported. A text is no coordinate. Memory or the numbers of extensions ran out.
 ///
-/// `NotWritten`: there was an answer, and the writer failed, or its flush did: what went out is a beginning
+/// `NotWritten`: there was an answer, and the writer failed, or its flush did. What went out is a beginning
 /// of the output, perhaps all of it. `errors` says so, unless the writer is a closed pipe.
 ///
 /// Where `errors` fails, a beginning of what it should say stands there, and that changes nothing else. All
@@ -63,7 +63,7 @@ pub fn run<F: Files, R: Input, O: Write, E: Write>(
 }
 
 /// Runs a request, and answers how that ended. Standard input is read where the request names it, before the
-/// files; where that fails, it is reported as a file that can't be read is.
+/// files. Where that fails, it is reported as a file that can't be read is.
 pub fn run_request<F: Files, R: Input, O: Write, E: Write>(
     alloc: Global,
     keys: HashKeys,
@@ -168,7 +168,6 @@ fn end_with_usage<E: Write>(message: &str, errors: &mut E) -> Status
 }
 
 /// Writes a text that may hold words of the command line, each of its lines as [`visible`] shows it.
-/// No clause: no contract says what the text is.
 fn write_visible_lines<E: Write>(errors: &mut E, text: &str) -> io::Result<()> {
     for line in text.lines() {
         writeln!(errors, "{}", visible(line))?;

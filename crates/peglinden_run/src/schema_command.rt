@@ -17,8 +17,8 @@ use graphql_nodes::source::SourceMap;
 use program_io::files::Files;
 use std::alloc::{AllocError, Global};
 
-/// The answer of `schema` with these options to files: the write-out of the schema of their documents, as
-/// text, or with `json` the JSON of its faults in place of that.
+/// The answer of `schema` with these options to files. It is the write-out of the schema of their documents,
+/// as text, or with `json` the JSON of its faults in place of that.
 ///
 /// `Files` comes where a file can't be read or is no document. `ExtensionIds` comes only where the numbers
 /// don't suffice for the extensions. `Memory` comes where memory ran out. There is no other error.

@@ -15,8 +15,8 @@ use std::alloc::Global;
 
 /// The schema of the documents of files with these options, and its faults. The documents are freed.
 ///
-/// `Files` comes where a file can't be read or is no document, `ExtensionIds` only where the numbers
-/// don't suffice for the extensions, and `Memory` where memory ran out. There is no other error.
+/// `Files` comes where a file can't be read or is no document. `ExtensionIds` comes only where the numbers
+/// don't suffice for the extensions. `Memory` comes where memory ran out. There is no other error.
 pub(crate) fn read_schema<F: Files>(
     alloc: Global,
     keys: HashKeys,

@@ -1,4 +1,4 @@
-//! Tests of the run of `peglinden`, over files and standard input in memory: each row is what a run is on,
+//! Tests of the run of `peglinden`, over files and standard input in memory. Each row is what a run is on,
 //! what it writes on both streams, and how it ends.
 //!
 //! What stands here serves tests: calls have no clause.

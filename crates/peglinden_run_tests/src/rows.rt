@@ -19,7 +19,7 @@ pub struct Row {
     pub status: Status,
 }
 
-/// The files of the rows: a schema and documents over it, one with a fault, and a schema with one; and texts
+/// The files of the rows: a schema and documents over it, one with a fault, and a schema with one. Also texts
 /// of every sort, one of them in a file whose name has a control character.
 pub static FILES: [(&str, &[u8]); 11] = [
     ("store.graphql", STORE),

@@ -17,8 +17,8 @@ use std::alloc::{AllocError, Global};
 /// What the words behind the program's name ask for.
 ///
 /// `Help` comes only where the words call for help or for the version, and `Usage` only where they are a
-/// mistake: a command or an argument that there isn't, one that is missing or given again, or standard input
-/// named more than once. `Memory` is out of memory. There is no other error.
+/// mistake. That is a command or an argument that there isn't, one that is missing or given again, or
+/// standard input named more than once. `Memory` is out of memory. There is no other error.
 pub fn read_words<'w>(alloc: Global, words: &'w [&'w str]) -> Result<Request<'w>, WordsError>
     ensures asked { IfOk result (λ request.
         asked (texts words.entry.now) ≡ Some (asked_of request)) }

@@ -1,5 +1,5 @@
-//! What programs read and write, and how they end: files by their paths, and standard input, each as a whole;
-//! and texts, which are written to their end or in part.
+//! What programs read and write, and how they end. They read files by their paths, and standard input, each
+//! as a whole. They write texts, to their end or in part.
 //!
 //! Proved: a file is read whole, or refused for a cause; a text is written whole, or a beginning of it where
 //! the writer fails.

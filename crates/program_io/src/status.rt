@@ -5,8 +5,8 @@
 pub enum Status {
     /// The output is written, and nothing is at fault: what was looked up is found, and there is no fault.
     Done,
-    /// The output is written, and something is at fault: a schema or a document, a text that differs from its
-    /// layout, or what was looked up is not found.
+    /// The output is written, and something is at fault. It is a schema or a document, a text that differs
+    /// from its layout, or something looked up that isn't found.
     Faults,
     /// The words, a file or a text are refused. No output is written.
     Refused,

@@ -6,8 +6,8 @@ use crate::reading::{read_text, refusal};
 use std::alloc::Global;
 use std::fs::{self, File};
 
-/// The files of the system. Nothing is known of them before they are read, and reading may fail at any time:
-/// a file is not there, it is a directory, or this process may not read it.
+/// The files of the system. Nothing is known of them before they are read, and reading may fail at any time.
+/// A file may not be there, it may be a directory, or this process may not read it.
 #[derive(Clone, Copy)]
 pub struct SystemFiles<'a, R>(pub &'a R);
 

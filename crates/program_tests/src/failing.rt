@@ -1,4 +1,4 @@
-//! Readers and writers that fail. No clause: they serve tests.
+//! Readers and writers that fail.
 
 use std::io::{self, Error, ErrorKind, Read, Write};
 

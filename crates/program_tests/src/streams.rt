@@ -1,4 +1,4 @@
-//! Runs whose reader or writers fail, or whose input is no text or bytes at hand; and the causes for which
+//! Runs whose reader or writers fail, or whose input is no text or bytes in memory; and the causes for which
 //! there is no answer.
 
 use crate::failing::{FailingReader, FailingWriter};

@@ -100,7 +100,7 @@ pub fn tell_all<T: Tell>(values: &[T], text: &mut String) -> Result<(), AllocErr
     Ok(())
 }
 
-/// Tells a list in brackets, where it isn't empty. No clause: it serves tests.
+/// Tells a list in brackets, where it isn't empty.
 pub fn tell_enclosed<T: Tell>(values: &[T], text: &mut String) -> Result<(), AllocError> {
     if values.is_empty() {
         return Ok(());

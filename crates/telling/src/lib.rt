@@ -1,6 +1,8 @@
 //! Values written as text, in full and in order: each name, text and number of a tree, each location and
 //! origin, and each fault. Two values that differ in any of these are written otherwise. Hash keys are not
-//! written, but asked for. None has a clause but that it is safe: tests compare the texts.
+//! written, but asked for.
+//!
+//! No clause: tests compare the texts.
 #![tactic(auto)]
 
 use std::alloc::AllocError;

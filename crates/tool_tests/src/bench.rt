@@ -13,8 +13,8 @@ use std::random::RandomSource;
 use std::test::Fail;
 use std::time::{Clock, Duration};
 
-/// A system whose clock goes on by so much at each reading, and whose random bytes are all the same; or that
-/// tells nothing of the time, of random bytes or of the process.
+/// A system whose clock goes on by so much at each reading, and whose random bytes are all the same. Or one
+/// that says nothing of the time, of random bytes or of the process.
 #[derive(Drop)]
 struct System<'a> {
     now: Cell<u64>,
@@ -96,8 +96,8 @@ ext union U
 member Query
 ";
 
-/// Two documents behind a schema: a query whose fragment leads back to itself, a mutation without a root,
-/// and a fragment that nothing spreads, with a field that lacks subselections.
+/// Two documents behind a schema. They have a query whose fragment leads back to itself, and a mutation
+/// without a root. A fragment that nothing spreads has a field that lacks subselections.
 const DIVIDED: &str = "def object Query
 field a Int
 field q Query
@@ -301,7 +301,7 @@ fn reports(rt: HostRuntime) -> Result<(), Fail> {
     Ok(())
 }
 
-/// Expects runs on these words, over a system that tells nothing, to end without a report.
+/// Expects runs on these words, over a system that says nothing, to end without a report.
 fn expect_none(
     rt: &(impl Abort + AllocGlobal),
     rows: &[&[&str]],
@@ -390,7 +390,7 @@ const LOOKUPS_WITH_MEMORY_IN_JSON: &str = "\
 {\"memory_kb\":5120}
 ";
 
-/// Expects a run of which the system tells this, and whose repetitions take long, to say how far it is and
+/// Expects a run of which the system says this, and whose repetitions take long, to say how far it is and
 /// to write that.
 fn expect_long(rt: &(impl Abort + AllocGlobal), words: &[&str], status: &str, output: &str) {
     let system = system_of(Some(3_000_000_000), None, Some(status));

@@ -1,5 +1,5 @@
--- Lists by the subjects of their elements. What the elements add one after another, where each adds what it
--- does by those of its own subject alone, is what is added subject by subject, in another order.
+-- Lists by the subjects of their elements. What elements add one after another, where each adds what it does
+-- by those of its own subject alone. The same is added subject by subject, in another order.
 use Rattle.std.proofs.Common.{◌≡◌, Bool, true, false, not, ◌||◌, List, [], ◌∷◌, ◌++◌, Option, is_some, filter, map, refl, sym, ap, ◌∙◌, append_assoc, arith, true≢false}
 use Rattle.std.specs.List.{AllByRecursion, filter_map, list_any}
 use Rattle.std.specs.List.Sorted.{IsPermutation}

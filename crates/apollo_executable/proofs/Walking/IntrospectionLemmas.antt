@@ -25,7 +25,7 @@ module _ (document : ExecutableDocument) (operation : Operation) (fields : List 
   pub introspection-meta : IsIntrospection document operation → AreMeta fields
   introspection-meta is n h = is.1 n ((given n).0 h)
 
--- the fields that a walk gave until now have such names: so all of it have, if and only if those have that
+-- the fields that a walk gave until now have such names. So all of it have, if and only if those have that
 -- are still to come
 pub record HasGivenMeta (initial now : WalkView) : Type 0 where
   pub all : AreMeta now.coming → AreMeta initial.coming

@@ -18,7 +18,7 @@ pub data HasGiven (start : WalkView) : List (NodeView Field) → WalkView → Ty
       → HasGiven start fields now → IsNext now (Some (Ok field)) new
       → HasGiven start (fields ++ field.now ∷ []) new
 
--- a whole walk over the set: these fields are all that are reached, the turns are all, and the opened
+-- a whole walk over the set: these fields are all that are reached, and the turns are all. The opened
 -- fragments are those that the set leads to
 pub record IsWhole (deep : Bool) (document : ExecutableDocument) (set : SelectionSet)
     (fields : List (NodeView Field)) (end : WalkView) : Type 0 where

@@ -45,8 +45,8 @@ walk_view_code document set field =
       taken = p.1.1.1.1.1.1;
     }) (λ _. refl)
 
--- the fields are those of a whole walk over the set: each one that is reached exactly as often as it stands
--- there, in the order of walks. Where `deep` is false, it is a walk over root fields
+-- the fields are those of a whole walk over the set. Each one that is reached is there exactly as often as it
+-- stands there, in the order of walks. Where `deep` is false, it is a walk over root fields
 abbrev pub AreWalked : Bool → ExecutableDocument → SelectionSet → List (NodeView Field) → Type 0
 AreWalked deep document set fields = IsWalk (fragments_of deep document) (plain deep set.selections) fields
 

@@ -7,8 +7,8 @@ ghost use Rattle.apollo_executable.specs.declared.selection.Selection.TheVariant
 
 use crate::selection::{Field, FragmentSpread, InlineFragment, Selection};
 
-/// The fields that stand in selections, by the kind of the first one: a field stands there itself, then those
-/// below it, where walks look there; a spread has none, whatever its fragment has; an inline fragment has
+/// The fields that stand in selections, by the kind of the first one. A field stands there itself, then those
+/// below it, where walks look there. A spread has none, whatever its fragment has. An inline fragment has
 /// those of its own set. Then come those of the other selections. Those of one list behind another come
 /// behind those of the other.
 pub fn fields_by_kind_of_selection()

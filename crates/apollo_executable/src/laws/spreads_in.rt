@@ -7,10 +7,10 @@ ghost use Rattle.apollo_executable.specs.declared.selection.Selection.TheVariant
 
 use crate::selection::{Field, FragmentSpread, InlineFragment, Selection};
 
-/// The names that are spread in selections, by the kind of the first one: at a field those below it, where
-/// walks look there; at a spread its own, and none of its fragment's; at an inline fragment those of its own
-/// set. Then come those of the other selections. Those of one list behind another come behind those of the
-/// other.
+/// The names that are spread in selections, by the kind of the first one. At a field they are those below it,
+/// where walks look there. At a spread they are its own, and none of its fragment's. At an inline fragment
+/// they are those of its own set. Then come those of the other selections. Those of one list behind another
+/// come behind those of the other.
 pub fn spreads_by_kind_of_selection()
     ensures none { (deep : Bool) → spreads_in deep [] ≡ [] }
     ensures field { (deep : Bool) (n : NodeView Field) (others : List Selection)

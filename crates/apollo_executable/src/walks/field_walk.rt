@@ -17,7 +17,7 @@ use std::marker::Model;
 /// [`SelectionSet::all_fields`] make.
 ///
 /// A fragment is opened at the first spread of its name, and spreads of names without a fragment are passed
-/// over. An item may be the one error, that memory ran out: nothing comes after it, and what came before is a
+/// over. An item may be the one error, that memory ran out. Nothing comes after it, and what came before is a
 /// beginning of what the walk gives with memory. Contracts see what is still to come.
 #[derive(Drop)]
 pub struct FieldWalk<'doc> {
@@ -67,7 +67,7 @@ impl<'doc> FieldWalk<'doc> {
     /// one selection taken, or one list found empty and closed.
     ///
     /// Before the first `next` there are none, and at the end they are all turns of the walk. They are at
-    /// most two for each selection in reach, and one: in reach are the selections of the set and of the
+    /// most two for each selection in reach, and one. In reach are the selections of the set and of the
     /// fragments that it leads to, of [`AllFields`] those below fields too. After the error they are more
     /// than before it.
     pub fn turns(&self) -> u64

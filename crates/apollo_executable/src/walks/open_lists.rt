@@ -10,7 +10,7 @@ use graphql_nodes::node::Node;
 use std::alloc::{AllocError, Global};
 
 /// The lists that a walk has open: the innermost one, and those that wait until it is closed. A fragment that
-/// was opened is marked at its place in the map of fragments; there is room for the marks from the first
+/// was opened is marked at its place in the map of fragments. There is room for the marks from the first
 /// fragment on that is opened.
 #[derive(Drop)]
 pub(crate) struct OpenLists<'doc> {

@@ -13,7 +13,7 @@ use std::alloc::{AllocError, Global};
 
 /// A walk over the fields of a selection set. The turns that it took are those of the whole walk but those
 /// that are left. The turn in which memory ran out, if it did, is one more. `turns` is their number, as far
-/// as it can tell it.
+/// as it can hold it.
 #[derive(Drop)]
 pub(crate) struct Walk<'doc> {
     start: &'doc SelectionSet,

@@ -32,8 +32,7 @@ impl HashKeys {
     /// else takes names from strangers: nobody can foretell them.
     ///
     /// The error is the source's own, where it gives no bytes. Whoever then goes on with [`HashKeys::FIXED`]
-    /// goes on without protection. No clause: the trait of sources promises nothing of the bytes, nor of when
-    /// it fails.
+    /// goes on without protection.
     pub fn drawn<S: RandomSource>(source: &S) -> io::Result<HashKeys> {
         let mut bytes = [0; 16];
         source.fill_bytes(&mut bytes)?;
@@ -72,7 +71,7 @@ impl BuildHasher for HashKeys {
     }
 }
 
-/// A hash that is under way under keys.
+/// A hash in the making, under keys.
 #[derive(Clone, Copy)]
 pub struct KeyedHasher {
     state: u64,

@@ -59,7 +59,7 @@ impl<T: Eq + Hash> KeySet<T> {
         }
     }
 
-    /// The keys that the set hashes by, for a set that is made beside it. No clause says which they are.
+    /// The keys that the set hashes by, for a set that is made beside it.
     pub fn hash_keys(&self) -> HashKeys {
         *self.set.hasher()
     }

@@ -66,7 +66,7 @@ impl<K: Eq + Hash, V> Table<K, V> {
         }
     }
 
-    /// The keys that the table hashes by, for a table that is made beside it. No clause says which they are.
+    /// The keys that the table hashes by, for a table that is made beside it.
     pub fn hash_keys(&self) -> HashKeys {
         *self.map.hasher()
     }

@@ -31,7 +31,6 @@ pub struct SeenNames {
 
 impl SeenNames {
     /// No name, and room for those of a text of so many bytes. The error is out of memory.
-    /// No clause: which names were seen changes no answer.
     pub fn new(alloc: Global, bytes: usize) -> Result<SeenNames, AllocError> {
         let count = (bytes / BYTES_PER_SLOT).max(FEWEST_SLOTS).min(MOST_SLOTS);
         let mut slots = Vec::with_capacity(alloc, count)?;
