@@ -89,37 +89,40 @@ def run(program, words, text=b""):
     return ended
 
 
-def whole(program, words):
+def whole(program, words, text=b""):
     """The seconds of the processor of a whole run, and the mebibytes that it has at its highest."""
-    ended = run(program, words)
-    return {"whole": ended.seconds, "memory": ended.memory}
+    # A process begins with what the one that starts it has at its highest, so a small one stands between.
+    small = [sys.executable, "-I", "-S", HERE / "highest.py", program]
+    ended = run(small[0], [*small[1:], *words], text)
+    found = json.loads(ended.errors.splitlines()[-1])
+    return {"whole": found["seconds"], "memory": found["memory"]}
 
 
-def bench(words, text, seconds):
-    """What the phases of `gqlbench` take: the difference of a run that repeats them for so many seconds and of a short
-    one, divided as the clock divides it."""
-
-    def report(repeat):
-        ended = run(programs.path("gqlbench"), [words[0], "--json", *words[1:], str(repeat)], text)
-        return ended.seconds, [json.loads(line) for line in ended.output.splitlines()]
-
-    once, _ = report(1)
-    repeat = int(seconds / max(once / 2, 1e-5)) + 1
-    many, (_, *lines) = report(1 + repeat)
-    means = {line["phase"]: line["mean"] for line in lines if "phase" in line}
-    return {phase: (many - once) / repeat * mean / sum(means.values()) for phase, mean in means.items()}
+def of_notation(program, given):
+    """A whole run over the notation, which writes the notation."""
+    words = ["doc" if given.documents else "schema", *given.options]
+    taken = whole(program, words, given.notation.read_bytes())
+    return {f"{phase}, notation": value for phase, value in taken.items()}
 
 
-def own(given, seconds):
-    """What `gqlbench` and `peglinden` take. Freeing counts as reading."""
-    if missing := programs.unbuilt("gqlbench", "peglinden"):
+def bench(words, text):
+    """The least time that each phase of `gqlbench` takes, of nine."""
+    ended = run(programs.path("gqlbench"), [words[0], "--json", *words[1:], "9"], text)
+    lines = [json.loads(line) for line in ended.output.splitlines()]
+    return {line["phase"]: line["least"] / 1e9 for line in lines if "phase" in line}
+
+
+def own(given, _):
+    """What `gqlbench`, `peglinden` and `gqltool` take. Freeing counts as reading."""
+    if missing := programs.unbuilt("gqlbench", "peglinden", "gqltool"):
         raise Failed(missing)
-    text = bench(["text"], given.text.read_bytes(), seconds)
+    text = bench(["text"], given.text.read_bytes())
     phases = {"read": text["parse"] + text["drop"], "write": text["print"]}
     if given.notation:
         command = "doc" if given.documents else "schema"
-        times = bench([command, *given.options], given.notation.read_bytes(), seconds)
+        times = bench([command, *given.options], given.notation.read_bytes())
         phases |= {phase: times[theirs] for theirs, phase in OF_NOTATION.items() if theirs in times}
+        phases |= of_notation(programs.path("gqltool"), given)
     typed = ["typed", "--schema", given.schema, given.documents]
     words = typed if given.documents else ["schema", *given.options, given.schema]
     return phases | whole(programs.path("peglinden"), words)
@@ -135,8 +138,7 @@ def crate(given, _):
     ended = run(CRATE, ["bench", command, given.notation, "9", *given.options])
     found = re.findall(r"^(\S+) +min +(\d+)", ended.output.decode(), re.MULTILINE)
     phases = {OF_NOTATION[phase]: int(least) / 1e9 for phase, least in found if phase in OF_NOTATION}
-    ended = run(CRATE, [command, *given.options], given.notation.read_bytes())
-    return phases | {"whole": ended.seconds, "memory": ended.memory}
+    return phases | of_notation(CRATE, given)
 
 
 def script(*command):
@@ -179,7 +181,7 @@ def peers(folder):
 def least(runs):
     """The least of each phase, and the most memory."""
     phases = {phase for each in runs for phase in each}
-    return {phase: (max if phase == "memory" else min)(it[phase] for it in runs if phase in it) for phase in sorted(phases)}
+    return {phase: (max if phase.startswith("memory") else min)(it[phase] for it in runs if phase in it) for phase in sorted(phases)}
 
 
 def machine():
