@@ -32,8 +32,8 @@ impl Model for Prepared {
 }
 
 impl Prepared {
-    /// A builder that hashes by these keys, and draws its numbers from a new source. The error is out of
-    /// memory.
+    /// A builder that hashes by these keys, and draws its numbers from a new source. What it stands for is
+    /// said by the invariant of the type. The error is out of memory.
     pub fn new(alloc: Global, keys: HashKeys) -> Result<Prepared, AllocError> {
         let bare = SchemaBuilder::with_keys(alloc, keys)?;
         Ok(Prepared { bare })

@@ -99,7 +99,8 @@ fn inline_fragment_over(
     })
 }
 
-/// Selections on their way to typed ones: where they stand, and what was found wrong so far.
+/// Selections on their way to typed ones: where they stand, and what was found wrong so far. Each call leaves
+/// the path as it was, also out of memory.
 pub struct Elaboration {
     pub alloc: Global,
     pub path: SelectionPath,
@@ -166,6 +167,7 @@ impl Elaboration {
         ensures faults { OnOk result (self.new
             ≡ noting (faults_of_selections (option_copied schema.entry) ty.now self.old.path selections.now)
             self.old) }
+        ensures path { self.new.path ≡ self.old.path }
     {
         if selections.is_empty() {
             return Ok(SelectionSet {
@@ -194,6 +196,7 @@ impl Elaboration {
         ensures faults { OnOk result (self.new
             ≡ noting (faults_of_selections (option_copied parent.now.schema) parent.now.ty.now self.old.path
             selections.now) self.old) }
+        ensures path { self.new.path ≡ self.old.path }
     {
         let mut kept = Items::new(self.alloc);
         kept.reserve_exact(selections.len())?;
@@ -216,6 +219,7 @@ impl Elaboration {
         ensures faults { OnOk result (self.new
             ≡ noting (faults_of_selection (option_copied parent.now.schema) parent.now.ty.now self.old.path
             selection.now) self.old) }
+        ensures path { self.new.path ≡ self.old.path }
     {
         match selection {
             ast::Selection::Field(node) => {
@@ -246,10 +250,12 @@ impl Elaboration {
         ensures faults { OnOk result (self.new
             ≡ noting (faults_of_field (option_copied parent.now.schema) parent.now.ty.now node.now.location
             self.old.path node.now.value) self.old) }
+        ensures path { self.new.path ≡ self.old.path }
     {
         self.path.nested_fields.push(response_key(node).clone()?)?;
-        let field = self.elaborate_within(parent, node)?;
+        let typed = self.elaborate_within(parent, node);
         self.path.nested_fields.pop();
+        let field = typed?;
         Ok(field)
     }
 
@@ -266,6 +272,7 @@ impl Elaboration {
         ensures faults { OnOk result (self.new
             ≡ noting (faults_within (option_copied parent.now.schema) parent.now.ty.now node.now.location
             self.old.path node.now.value) self.old) }
+        ensures path { self.new.path ≡ self.old.path }
     {
         let Some(definition) = self.typable_field(parent, node)? else {
             return Ok(None);
@@ -290,6 +297,7 @@ impl Elaboration {
         ensures faults { OnOk result (self.new
             ≡ noting (faults_of_fragment (option_copied parent.now.schema) parent.now.ty.now node.now.location
             self.old.path node.now.value) self.old) }
+        ensures path { self.new.path ≡ self.old.path }
     {
         let Some(child) = self.typable_fragment(parent.schema, &*parent.ty, node)? else {
             return Ok(None);

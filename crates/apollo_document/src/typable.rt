@@ -60,6 +60,7 @@ impl Elaboration {
         ensures faults { OnOk result (self.new
             ≡ noting (below_or_wrong (λ _. []) None self.old.path
             (spec.definition_in (option_copied parent.now.schema) parent.now.ty.now name.now)) self.old) }
+        ensures path { self.new.path ≡ self.old.path }
     {
         let Some(schema) = parent.schema else {
             return Ok(Some(unknown_field(self.alloc, name)?));
@@ -91,6 +92,7 @@ impl Elaboration {
         ensures faults { OnOk result (self.new
             ≡ noting (below_or_wrong (λ _. []) location self.old.path
             (spec.unless_leaf false definition (leaf_at schema.now definition))) self.old) }
+        ensures path { self.new.path ≡ self.old.path }
     {
         let ty = definition.ty.inner_named_type();
         let error = match schema.types.get(ty) {
@@ -120,6 +122,7 @@ impl Elaboration {
         ensures faults { OnOk result (self.new
             ≡ noting (below_or_wrong (λ _. []) node.now.location self.old.path
             (field_judged (option_copied parent.now.schema) parent.now.ty.now node.now.value)) self.old) }
+        ensures path { self.new.path ≡ self.old.path }
     {
         let Some(definition) = self.definition_in(parent, &node.name)? else {
             return Ok(None);
@@ -149,6 +152,7 @@ impl Elaboration {
             ≡ noting (below_or_wrong (λ _. []) location self.old.path
             (spec.typable_fragment (option_copied schema.entry) ty.now fragment.now.type_condition))
             self.old) }
+        ensures path { self.new.path ≡ self.old.path }
     {
         let Some(condition) = &fragment.type_condition else {
             return Ok(Some(ty));
