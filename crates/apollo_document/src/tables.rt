@@ -70,8 +70,8 @@ impl Tables {
         }
     }
 
-    /// Takes definitions in order. The error is out of memory, and doesn't come where there are none. After it
-    /// nothing is said of the tables.
+    /// Takes definitions in order. The error is out of memory, and doesn't come where there are none.
+    /// After it nothing is said of the tables.
     pub fn take(
         &mut self,
         schema: Option<&Schema>,
