@@ -1,36 +1,50 @@
 -- What is wrong with extensions that join a type, one after another.
-use Rattle.apollo_meaning.proofs.Prelude.{◌≡◌, ℕ, ◌+◌, ◌<◌, get_or, take, List, [], ◌∷◌, ◌++◌, length, map, refl, sym, ap, ◌∙◌, append_assoc, append-nil, map-append, filter-append, Definition, each_after, each_after-append, each_after-start, TypePart, kind_of, extended_parts, of_kind, Sourced, extension_part, numbered, Fault, joining_faults}
+use Rattle.apollo_meaning.proofs.Prelude.{◌≡◌, ℕ, ◌+◌, ◌<◌, get_or, take, List, [], ◌∷◌, ◌++◌, length, map}
+use Rattle.apollo_meaning.proofs.Prelude.{refl, sym, ap, ◌∙◌, append_assoc, append-nil, map-append}
+use Rattle.apollo_meaning.proofs.Prelude.{filter-append, Definition, each_after, each_after-append}
+use Rattle.apollo_meaning.proofs.Prelude.{each_after-start, TypePart, kind_of, extended_parts, of_kind}
+use Rattle.apollo_meaning.proofs.Prelude.{Sourced, extension_part, numbered, Fault, joining_faults}
 use Rattle.apollo_meaning.specs.Faults.TypeFaults.{joining_fault}
 use Rattle.apollo_meaning.proofs.Order.FoldingLemmas.{extended_parts-turn}
 
 module _ (d : TypePart) where
   -- more extensions join the parts and the extensions before them
-  joining-append : (parts es fs : List TypePart) → joining_faults d parts (es ++ fs) ≡ joining_faults d parts es ++ joining_faults d (parts ++ of_kind (kind_of d) es) fs
-  joining-append parts es fs =
-      each_after-append join [] es fs
-      ∙ ap (λ l. each_after join [] es ++ l) (each_after-start join es fs ∙ (λ i. each_after (λ done. joining_fault d (both done i)) [] fs))
+  joining-append : (parts es fs : List TypePart)
+      → joining_faults d parts (es ++ fs) ≡ joining_faults d parts es
+      ++ joining_faults d (parts ++ of_kind (kind_of d) es) fs
+  joining-append parts es fs = each_after-append join [] es fs ∙ ap (λ l. each_after join [] es
+      ++ l) (each_after-start join es fs ∙ (λ i. each_after (λ done. joining_fault d (both done i)) [] fs))
     where
       join : List TypePart → TypePart → List Fault
       join before = joining_fault d (parts ++ of_kind (kind_of d) before)
 
-      both : (done : List TypePart) → parts ++ of_kind (kind_of d) (es ++ done) ≡ (parts ++ of_kind (kind_of d) es) ++ of_kind (kind_of d) done
-      both done = rw filter-append (sym (append_assoc parts (of_kind (kind_of d) es) (of_kind (kind_of d) done)))
+      both : (done : List TypePart)
+          → parts ++ of_kind (kind_of d) (es ++ done) ≡ (parts ++ of_kind (kind_of d) es)
+          ++ of_kind (kind_of d) done
+      both done = rw filter-append
+          (sym (append_assoc parts (of_kind (kind_of d) es) (of_kind (kind_of d) done)))
 
   -- one extension alone
-  pub joining-one : (parts : List TypePart) (e : TypePart) → joining_faults d parts (e ∷ []) ≡ joining_fault d parts e
-  joining-one parts e = append-nil (joining_fault d (parts ++ []) e) ∙ ap (λ l. joining_fault d l e) (append-nil parts)
+  pub joining-one : (parts : List TypePart) (e : TypePart)
+      → joining_faults d parts (e ∷ []) ≡ joining_fault d parts e
+  joining-one parts e = append-nil (joining_fault d (parts ++ []) e) ∙ ap (λ l. joining_fault d l e)
+      (append-nil parts)
 
   -- one more definition of a list
-  pub joining-turn : (parts : List TypePart) (xs : List Definition) (i : ℕ) (x : Definition) → i < length xs → x ≡ get_or xs i x
+  pub joining-turn : (parts : List TypePart) (xs : List Definition) (i : ℕ) (x : Definition) → i < length xs
+      → x ≡ get_or xs i x
       → joining_faults d parts (extended_parts (take (i + 1) xs))
-      ≡ joining_faults d parts (extended_parts (take i xs)) ++ joining_faults d (parts ++ of_kind (kind_of d) (extended_parts (take i xs))) (extended_parts (x ∷ []))
-  joining-turn parts xs i x lt is =
-      ap (joining_faults d parts) (extended_parts-turn xs i x lt is) ∙ joining-append parts (extended_parts (take i xs)) (extended_parts (x ∷ []))
+      ≡ joining_faults d parts (extended_parts (take i xs)) ++ joining_faults d (parts ++ of_kind (kind_of d)
+      (extended_parts (take i xs))) (extended_parts (x ∷ []))
+  joining-turn parts xs i x lt is = ap (joining_faults d parts) (extended_parts-turn xs i x lt is)
+      ∙ joining-append parts (extended_parts (take i xs)) (extended_parts (x ∷ []))
 
 -- numbers leave the extensions as they are
 extensions-numbered : (n : ℕ) (ps : List TypePart) → map (λ s. s.1) (map extension_part (numbered n ps)) ≡ ps
 extensions-numbered n [] = refl
 extensions-numbered n (p ∷ ps) = ap (λ l. p ∷ l) (extensions-numbered (n + 1) ps)
 
-pub parts-numbered : (done : List Sourced) (n : ℕ) (ps : List TypePart) → map (λ s. s.1) (done ++ map extension_part (numbered n ps)) ≡ map (λ s. s.1) done ++ ps
-parts-numbered done n ps = map-append (λ s. s.1) done (map extension_part (numbered n ps)) ∙ ap (λ l. map (λ s. s.1) done ++ l) (extensions-numbered n ps)
+pub parts-numbered : (done : List Sourced) (n : ℕ) (ps : List TypePart)
+    → map (λ s. s.1) (done ++ map extension_part (numbered n ps)) ≡ map (λ s. s.1) done ++ ps
+parts-numbered done n ps = map-append (λ s. s.1) done (map extension_part (numbered n ps))
+    ∙ ap (λ l. map (λ s. s.1) done ++ l) (extensions-numbered n ps)

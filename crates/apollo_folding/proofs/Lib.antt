@@ -6,6 +6,7 @@ pub mod JoiningLemmas
 pub mod KeptNames
 pub mod KindLemmas
 pub mod NameTables
+pub mod NotingLemmas
 pub mod PartNames
 pub mod RefusalLemmas
 pub mod RootLemmas

@@ -11,6 +11,7 @@ ghost use Rattle.apollo_meaning.specs.Steps.Joining.{type_begun, type_begun_faul
 ghost use Rattle.apollo_types.specs.TypeWriteOut.{type_kind};
 ghost use Rattle.apollo_folding.specs.DeclaredParts.{part_seen};
 ghost use Rattle.apollo_folding.specs.Joins.{Extends, FindsJoining, how_many};
+ghost use Rattle.apollo_folding.specs.Noting.{noting};
 ghost use Rattle.apollo_folding.specs.Refusals.{RefusedAs, SpentWith, after};
 
 mod enum_type;
@@ -25,48 +26,14 @@ mod union_type;
 
 use crate::builder_error::BuilderError;
 use crate::extension::extension_of;
-use crate::from_ast::kind::{extend_node, type_of_definition};
-use apollo_component::extension::ExtensionSource;
+use crate::fold::Fold;
 use apollo_meaning::build_error::{BuildError, Fault};
 use apollo_types::extended_type::ExtendedType;
 use graphql_ast::declaration_ref::TypeDeclarationRef;
 use graphql_ast::definition::Definition;
-use graphql_nodes::collections::hash_keys::HashKeys;
-use graphql_nodes::collections::items::Items;
 use graphql_nodes::collections::static_text::StaticText;
 use graphql_nodes::type_kind::TypeKind;
-use std::alloc::{AllocError, Global};
-
-/// The type of a definition alone. Components that are there already are noted.
-fn type_from_ast(
-    alloc: Global,
-    keys: HashKeys,
-    head: &TypeDeclarationRef<'_>,
-    faults: &mut Items<Fault>,
-) -> Result<ExtendedType, AllocError>
-    ensures made { IfOk result (λ ty. let d = part_seen head.now in
-        ty ≡ type_from d ((origins.Definition, d) ∷ [])) }
-    ensures faults { OnOk result (faults.new ≡ faults.old ++ part_faults [] (part_seen head.now)) }
-{
-    match head.kind {
-        TypeKind::Scalar => {
-            Ok(ExtendedType::Scalar(type_of_definition(alloc, keys, head, faults)?))
-        }
-        TypeKind::Object => {
-            Ok(ExtendedType::Object(type_of_definition(alloc, keys, head, faults)?))
-        }
-        TypeKind::Interface => {
-            Ok(ExtendedType::Interface(type_of_definition(alloc, keys, head, faults)?))
-        }
-        TypeKind::Union => {
-            Ok(ExtendedType::Union(type_of_definition(alloc, keys, head, faults)?))
-        }
-        TypeKind::Enum => { Ok(ExtendedType::Enum(type_of_definition(alloc, keys, head, faults)?)) }
-        TypeKind::InputObject => {
-            Ok(ExtendedType::InputObject(type_of_definition(alloc, keys, head, faults)?))
-        }
-    }
-}
+use std::alloc::AllocError;
 
 /// The fault of an extension of another kind than the type.
 fn kind_mismatch(ty: &ExtendedType, part: &TypeDeclarationRef<'_>) -> Result<Fault, AllocError>
@@ -82,115 +49,136 @@ fn kind_mismatch(ty: &ExtendedType, part: &TypeDeclarationRef<'_>) -> Result<Fau
     Ok((part.name.location(), error))
 }
 
-/// Folds an extension in under the source's next identity, if it has the type's kind (section 3.4.3). What is
-/// there already is left out, and its faults added at the end. One of another kind is a fault, and leaves the
-/// type and the source as they were.
-///
-/// `Memory` is out of memory. `ExtensionIds` comes only where the extension has the type's kind, and the
-/// source no number left.
-pub fn extend_type(
-    ty: &mut ExtendedType,
-    extension: &TypeDeclarationRef<'_>,
-    ids: &mut ExtensionSource,
-    faults: &mut Items<Fault>,
-) -> Result<(), BuilderError>
-    ensures folded { OnOk result (Extends ty.old ids.old (part_seen extension.now ∷ []) ty.new) }
-    ensures faults { OnOk result (FindsJoining ty.old (part_seen extension.now ∷ []) faults.old faults.new) }
-    ensures kind { OnOk result (type_kind ty.new ≡ type_kind ty.old) }
-    ensures next { OnOk result (ids.new
-        ≡ after ids.old (how_many (type_kind ty.old) (part_seen extension.now ∷ []))) }
-    ensures refused { IfErr result (λ error.
-        RefusedAs error (SpentWith ids.old (how_many (type_kind ty.old) (part_seen extension.now ∷ [])))) }
-{
-    match (&mut *ty, extension.kind) {
-        (ExtendedType::Scalar(node), TypeKind::Scalar) => extend_node(node, extension, ids, faults),
-        (ExtendedType::Object(node), TypeKind::Object) => extend_node(node, extension, ids, faults),
-        (ExtendedType::Interface(node), TypeKind::Interface) => extend_node(
-            node, extension, ids, faults,
-        ),
-        (ExtendedType::Union(node), TypeKind::Union) => extend_node(node, extension, ids, faults),
-        (ExtendedType::Enum(node), TypeKind::Enum) => extend_node(node, extension, ids, faults),
-        (ExtendedType::InputObject(node), TypeKind::InputObject) => extend_node(
-            node, extension, ids, faults,
-        ),
-        _ => {
-            faults.push(kind_mismatch(ty, extension)?)?;
-            Ok(())
+impl Fold {
+    /// The type of a definition alone. Components that are there already are noted.
+    fn type_from_ast(&mut self, head: &TypeDeclarationRef<'_>) -> Result<ExtendedType, AllocError>
+        ensures made { IfOk result (λ ty. let d = part_seen head.now in
+            ty ≡ type_from d ((origins.Definition, d) ∷ [])) }
+        ensures faults { OnOk result (self.new ≡ noting (part_faults [] (part_seen head.now)) self.old) }
+    {
+        match head.kind {
+            TypeKind::Scalar => Ok(ExtendedType::Scalar(self.type_of_definition(head)?)),
+            TypeKind::Object => Ok(ExtendedType::Object(self.type_of_definition(head)?)),
+            TypeKind::Interface => Ok(ExtendedType::Interface(self.type_of_definition(head)?)),
+            TypeKind::Union => Ok(ExtendedType::Union(self.type_of_definition(head)?)),
+            TypeKind::Enum => Ok(ExtendedType::Enum(self.type_of_definition(head)?)),
+            TypeKind::InputObject => Ok(ExtendedType::InputObject(self.type_of_definition(head)?)),
         }
     }
-}
 
-/// Folds a definition in, if it is an extension of a type.
-fn extend_by(
-    ty: &mut ExtendedType,
-    definition: &Definition,
-    ids: &mut ExtensionSource,
-    faults: &mut Items<Fault>,
-) -> Result<(), BuilderError>
-    ensures folded { OnOk result (Extends ty.old ids.old (extended_parts (definition.now ∷ [])) ty.new) }
-    ensures faults { OnOk result
-        (FindsJoining ty.old (extended_parts (definition.now ∷ [])) faults.old faults.new) }
-    ensures kind { OnOk result (type_kind ty.new ≡ type_kind ty.old) }
-    ensures next { OnOk result (ids.new
-        ≡ after ids.old (how_many (type_kind ty.old) (extended_parts (definition.now ∷ [])))) }
-    ensures refused { IfErr result (λ error.
-        RefusedAs error
-        (SpentWith ids.old (how_many (type_kind ty.old) (extended_parts (definition.now ∷ []))))) }
-{
-    match extension_of(definition) {
-        Some(extension) => extend_type(ty, &extension, ids, faults),
-        None => Ok(()),
+    /// Folds an extension in under the source's next identity, if it has the type's kind (section 3.4.3).
+    /// What is there already is left out, and its faults added at the end. One of another kind is a fault,
+    /// and leaves the type and the source as they were.
+    ///
+    /// `Memory` is out of memory. `ExtensionIds` comes only where the extension has the type's kind, and the
+    /// source no number left.
+    pub fn extend_type(
+        &mut self,
+        ty: &mut ExtendedType,
+        extension: &TypeDeclarationRef<'_>,
+    ) -> Result<(), BuilderError>
+        ensures folded { OnOk result (Extends ty.old self.old.ids (part_seen extension.now ∷ []) ty.new) }
+        ensures faults { OnOk result
+            (FindsJoining ty.old (part_seen extension.now ∷ []) self.old.faults self.new.faults) }
+        ensures kind { OnOk result (type_kind ty.new ≡ type_kind ty.old) }
+        ensures next { OnOk result (self.new.ids
+            ≡ after self.old.ids (how_many (type_kind ty.old) (part_seen extension.now ∷ []))) }
+        ensures refused { IfErr result (λ error.
+            RefusedAs error
+            (SpentWith self.old.ids (how_many (type_kind ty.old) (part_seen extension.now ∷ [])))) }
+    {
+        match (&mut *ty, extension.kind) {
+            (ExtendedType::Scalar(node), TypeKind::Scalar) => self.extend_node(node, extension),
+            (ExtendedType::Object(node), TypeKind::Object) => self.extend_node(node, extension),
+            (ExtendedType::Interface(node), TypeKind::Interface) => {
+                self.extend_node(node, extension)
+            }
+            (ExtendedType::Union(node), TypeKind::Union) => self.extend_node(node, extension),
+            (ExtendedType::Enum(node), TypeKind::Enum) => self.extend_node(node, extension),
+            (ExtendedType::InputObject(node), TypeKind::InputObject) => {
+                self.extend_node(node, extension)
+            }
+            _ => {
+                self.note(kind_mismatch(ty, extension)?)?;
+                Ok(())
+            }
+        }
     }
-}
 
-/// Folds extensions in, in order.
-fn extend_by_all(
-    ty: &mut ExtendedType,
-    extensions: &[Definition],
-    ids: &mut ExtensionSource,
-    faults: &mut Items<Fault>,
-) -> Result<(), BuilderError>
-    ensures folded { OnOk result (Extends ty.old ids.old (extended_parts extensions.now) ty.new) }
-    ensures faults { OnOk result (FindsJoining ty.old (extended_parts extensions.now) faults.old faults.new) }
-    ensures next { OnOk result (ids.new
-        ≡ after ids.old (how_many (type_kind ty.old) (extended_parts extensions.now))) }
-    ensures refused { IfErr result (λ error.
-        RefusedAs error (SpentWith ids.old (how_many (type_kind ty.old) (extended_parts extensions.now)))) }
-{
-    for extension in extensions {
-        extend_by(ty, extension, ids, faults)?;
+    /// Folds a definition in, if it is an extension of a type.
+    fn extend_by(
+        &mut self,
+        ty: &mut ExtendedType,
+        definition: &Definition,
+    ) -> Result<(), BuilderError>
+        ensures folded { OnOk result
+            (Extends ty.old self.old.ids (extended_parts (definition.now ∷ [])) ty.new) }
+        ensures faults { OnOk result
+            (FindsJoining ty.old (extended_parts (definition.now ∷ [])) self.old.faults self.new.faults) }
+        ensures kind { OnOk result (type_kind ty.new ≡ type_kind ty.old) }
+        ensures next { OnOk result (self.new.ids
+            ≡ after self.old.ids (how_many (type_kind ty.old) (extended_parts (definition.now ∷ [])))) }
+        ensures refused { IfErr result (λ error.
+            RefusedAs error
+            (SpentWith self.old.ids
+            (how_many (type_kind ty.old) (extended_parts (definition.now ∷ []))))) }
+    {
+        match extension_of(definition) {
+            Some(extension) => self.extend_type(ty, &extension),
+            None => Ok(()),
+        }
     }
-    Ok(())
-}
 
-/// The type of a definition with these extensions folded in, in order, as [`extend_type`] does. Its tables
-/// hash by these keys. The faults of the definition are added at the end, and then those of the extensions.
-///
-/// `Memory` is out of memory. `ExtensionIds` comes only where the source has fewer numbers left than there
-/// are extensions of the definition's kind.
-pub fn begin_type(
-    alloc: Global,
-    keys: HashKeys,
-    head: &TypeDeclarationRef<'_>,
-    extensions: &[Definition],
-    ids: &mut ExtensionSource,
-    faults: &mut Items<Fault>,
-) -> Result<ExtendedType, BuilderError>
-    ensures made { IfOk result (λ ty. (b : Bool)
-        → ty ≡ type_begun (next_number ids.old) (record (part_seen head.now) { ignorable = b })
-        (extended_parts extensions.now)) }
-    ensures faults { OnOk result ((b : Bool)
-        → faults.new
-        ≡ faults.old
-        ++ type_begun_faults (record (part_seen head.now) { ignorable = b })
-        (extended_parts extensions.now)) }
-    ensures next { OnOk result (ids.new
-        ≡ after ids.old (how_many (kind_of (part_seen head.now)) (extended_parts extensions.now))) }
-    ensures refused { IfErr result (λ error.
-        RefusedAs error
-        (SpentWith ids.old (how_many (kind_of (part_seen head.now)) (extended_parts extensions.now)))) }
-{
-    let mut ty = type_from_ast(alloc, keys, head, faults)?;
-    extend_by_all(&mut ty, extensions, ids, faults)?;
-    Ok(ty)
+    /// Folds extensions in, in order.
+    fn extend_by_all(
+        &mut self,
+        ty: &mut ExtendedType,
+        extensions: &[Definition],
+    ) -> Result<(), BuilderError>
+        ensures folded { OnOk result (Extends ty.old self.old.ids (extended_parts extensions.now) ty.new) }
+        ensures faults { OnOk result
+            (FindsJoining ty.old (extended_parts extensions.now) self.old.faults self.new.faults) }
+        ensures next { OnOk result (self.new.ids
+            ≡ after self.old.ids (how_many (type_kind ty.old) (extended_parts extensions.now))) }
+        ensures refused { IfErr result (λ error.
+            RefusedAs error
+            (SpentWith self.old.ids (how_many (type_kind ty.old) (extended_parts extensions.now)))) }
+    {
+        for extension in extensions {
+            self.extend_by(ty, extension)?;
+        }
+        Ok(())
+    }
+
+    /// The type of a definition with these extensions folded in, in order, as
+    /// [`extend_type`](Fold::extend_type) does. The faults of the definition are added at the end, and then
+    /// those of the extensions.
+    ///
+    /// `Memory` is out of memory. `ExtensionIds` comes only where the source has fewer numbers left than
+    /// there are extensions of the definition's kind.
+    pub fn begin_type(
+        &mut self,
+        head: &TypeDeclarationRef<'_>,
+        extensions: &[Definition],
+    ) -> Result<ExtendedType, BuilderError>
+        ensures made { IfOk result (λ ty. (b : Bool)
+            → ty ≡ type_begun (next_number self.old.ids) (record (part_seen head.now) { ignorable = b })
+            (extended_parts extensions.now)) }
+        ensures faults { OnOk result ((b : Bool)
+            → self.new.faults
+            ≡ self.old.faults
+            ++ type_begun_faults (record (part_seen head.now) { ignorable = b })
+            (extended_parts extensions.now)) }
+        ensures next { OnOk result (self.new.ids
+            ≡ after self.old.ids
+            (how_many (kind_of (part_seen head.now)) (extended_parts extensions.now))) }
+        ensures refused { IfErr result (λ error.
+            RefusedAs error
+            (SpentWith self.old.ids
+            (how_many (kind_of (part_seen head.now)) (extended_parts extensions.now)))) }
+    {
+        let mut ty = self.type_from_ast(head)?;
+        self.extend_by_all(&mut ty, extensions)?;
+        Ok(ty)
+    }
 }

@@ -1,14 +1,15 @@
 //! The faults of further definitions of a name.
 ghost use Rattle.apollo_folding.specs.Joins.{ForFirst};
-ghost use Rattle.std.specs.Prelude.{◌≡◌, ◌++◌, OnOk, IfOk};
+ghost use Rattle.std.specs.Prelude.{◌≡◌, OnOk, IfOk};
 ghost use Rattle.apollo_folding.specs.DeclaredParts.{part_seen};
+ghost use Rattle.apollo_folding.specs.Noting.{noting};
 ghost use Rattle.apollo_meaning.specs.Faults.TypeFaults.{redefinition, built_in_redefinition};
 ghost use Rattle.apollo_meaning.specs.Faults.TypeFaults.{further_definition};
 
+use crate::fold::Fold;
 use apollo_meaning::build_error::{BuildError, Fault};
 use apollo_types::extended_type::ExtendedType;
 use graphql_ast::declaration_ref::TypeDeclarationRef;
-use graphql_nodes::collections::items::Items;
 use graphql_nodes::type_kind::TypeKind;
 use std::alloc::AllocError;
 
@@ -42,23 +43,26 @@ fn built_in_redefinition(
     Ok(fault)
 }
 
-/// Adds the fault of a further definition of a type's name at the end, unless the type is built-in and such
-/// definitions are ignored. Then nothing is added. The error is out of memory.
-pub fn note_redefinition(
-    previous: &ExtendedType,
-    further: &TypeDeclarationRef<'_>,
-    ignores: bool,
-    faults: &mut Items<Fault>,
-) -> Result<(), AllocError>
-    ensures { OnOk result (ForFirst previous.now (λ d. faults.new
-        ≡ faults.old ++ further_definition d (record (part_seen further.now) { ignorable = ignores }))) }
-{
-    if !previous.is_built_in() {
-        faults.push(redefinition(previous, further)?)?;
-        return Ok(());
+impl Fold {
+    /// Adds the fault of a further definition of a type's name at the end, unless the type is built-in and
+    /// such definitions are ignored. Then nothing is added. The error is out of memory.
+    pub fn note_redefinition(
+        &mut self,
+        previous: &ExtendedType,
+        further: &TypeDeclarationRef<'_>,
+        ignores: bool,
+    ) -> Result<(), AllocError>
+        ensures { OnOk result (ForFirst previous.now (λ d. self.new
+            ≡ noting (further_definition d (record (part_seen further.now) { ignorable = ignores }))
+            self.old)) }
+    {
+        if !previous.is_built_in() {
+            self.note(redefinition(previous, further)?)?;
+            return Ok(());
+        }
+        if !ignores {
+            self.note(built_in_redefinition(previous, further)?)?;
+        }
+        Ok(())
     }
-    if !ignores {
-        faults.push(built_in_redefinition(previous, further)?)?;
-    }
-    Ok(())
 }

@@ -1,5 +1,12 @@
 -- Every list of definitions means a schema.
-use Rattle.apollo_meaning.proofs.Prelude.{◌≡◌, ℕ, Bool, true, false, cond, ◌||◌, ◌&&◌, List, [], ◌∷◌, map, filter, filter_map, find, list_any, Option, None, Some, is_some, refl, sym, ap, ◌∙◌, option_or, option_map, unwrap_or, lookup, keys_of, map-map, NameView, NodeView, same, same_text, by_text, same-true, DirectiveDefinition, list_any-first_of_each, is_some-lookup, name_laws, Directives, directive_definitions, Added, ListItem, defined_part, TypePart, first, type_from, type_names, parts, folding_order, whole, ExtendedType, Scalar}
+use Rattle.apollo_meaning.proofs.Prelude.{◌≡◌, ℕ, Bool, true, false, cond, ◌||◌, ◌&&◌, List, [], ◌∷◌, map}
+use Rattle.apollo_meaning.proofs.Prelude.{filter, filter_map, find, list_any, Option, None, Some, is_some}
+use Rattle.apollo_meaning.proofs.Prelude.{refl, sym, ap, ◌∙◌, option_or, option_map, unwrap_or, lookup}
+use Rattle.apollo_meaning.proofs.Prelude.{keys_of, map-map, NameView, NodeView, same, same_text, by_text}
+use Rattle.apollo_meaning.proofs.Prelude.{same-true, DirectiveDefinition, list_any-first_of_each}
+use Rattle.apollo_meaning.proofs.Prelude.{is_some-lookup, name_laws, Directives, directive_definitions, Added}
+use Rattle.apollo_meaning.proofs.Prelude.{ListItem, defined_part, TypePart, first, type_from, type_names}
+use Rattle.apollo_meaning.proofs.Prelude.{parts, folding_order, whole, ExtendedType, Scalar}
 use Rattle.std.specs.List.{last_or}
 use Rattle.graphql_nodes.specs.NameView.{plain_name}
 use Rattle.apollo_component.proofs.Lists.Cases.{list_any-map}
@@ -14,7 +21,8 @@ use Rattle.apollo_schema.specs.MeantSchema.{MeansSchema}
 use Rattle.apollo_schema.specs.declared.schema.Schema.{Schema}
 
 -- a table of these names, which has at each what is given of its text
-module _ {V : Type 0} (given : List ℕ → Option V) (other : V) (names : List NameView) (named : (n : List ℕ) → list_any (by_text n) names ≡ is_some (given n)) where
+module _ {V : Type 0} (given : List ℕ → Option V) (other : V) (names : List NameView) (named : (n : List ℕ)
+    → list_any (by_text n) names ≡ is_some (given n)) where
   abbrev at_name : NameView → V
   at_name k = unwrap_or (given k.text) other
 
@@ -29,8 +37,8 @@ module _ {V : Type 0} (given : List ℕ → Option V) (other : V) (names : List 
       itself (k ∷ ks) = ap (λ l. k ∷ l) (itself ks)
 
   table-each : (n : List ℕ) → lookup (by_text n) table ≡ given n
-  table-each n =
-      lookup-tabled same_text name_laws at_name (plain_name n) (λ k is. ap (λ (t : List ℕ). unwrap_or (given t) other) (sym (same-true n k.text is))) names
+  table-each n = lookup-tabled same_text name_laws at_name (plain_name n)
+      (λ k is. ap (λ (t : List ℕ). unwrap_or (given t) other) (sym (same-true n k.text is))) names
       ∙ ap (λ b. cond b (Some (unwrap_or (given n) other)) None) (named n) ∙ by (given n)
     where
       by : (o : Option V) → cond (is_some o) (Some (unwrap_or o other)) None ≡ o
@@ -43,10 +51,11 @@ is_some-map f (Some a) = refl
 
 -- a name is one of the types exactly where it is defined
 types-named : (xs : List ListItem) (n : List ℕ) → list_any (by_text n) (type_names xs) ≡ is_some (first xs n)
-types-named xs n =
-    ap (list_any (by_text n)) (type_names-first xs) ∙ list_any-first_of_each same_text name_laws (plain_name n) (map (λ p. p.name) (filter_map defined_part xs))
+types-named xs n = ap (list_any (by_text n)) (type_names-first xs) ∙ list_any-first_of_each same_text
+    name_laws (plain_name n) (map (λ p. p.name) (filter_map defined_part xs))
     ∙ list_any-map (by_text n) (λ (p : TypePart). p.name) (filter_map defined_part xs)
-    ∙ sym (list_any-map (λ (e : List ℕ × TypePart). same n e.0) (λ (p : TypePart). (p.name.text, p)) (filter_map defined_part xs)) ∙ sym (is_some-lookup (same n) (definitions xs))
+    ∙ sym (list_any-map (λ (e : List ℕ × TypePart). same n e.0) (λ (p : TypePart). (p.name.text, p))
+    (filter_map defined_part xs)) ∙ sym (is_some-lookup (same n) (definitions xs))
 
 -- a name means a directive definition exactly where it has one
 last_or-some : {X : Type 0} (x : X) (o : Option X) (xs : List X) → is_some (last_or (Some x) xs) ≡ true
@@ -54,7 +63,8 @@ last_or-some x o [] = refl
 last_or-some x o (y ∷ ys) = last_or-some y o ys
 
 module _ {X : Type 0} (p q : X → Bool) where
-  meant-there : (xs : List X) → is_some (option_or (find (λ x. p x && q x) xs) (last_or None (filter p xs))) ≡ list_any p xs
+  meant-there : (xs : List X)
+      → is_some (option_or (find (λ x. p x && q x) xs) (last_or None (filter p xs))) ≡ list_any p xs
   meant-there [] = refl
   meant-there (x ∷ xs) = by (p x) (q x) (meant-there xs)
     where
@@ -62,16 +72,19 @@ module _ {X : Type 0} (p q : X → Bool) where
       either None = last_or-some x None (filter p xs)
       either (Some y) = refl
 
-      by : (a b : Bool) → is_some (option_or (find (λ x. p x && q x) xs) (last_or None (filter p xs))) ≡ list_any p xs
-          → is_some (option_or (cond (a && b) (Some x) (find (λ x. p x && q x) xs)) (last_or None (cond a (x ∷ filter p xs) (filter p xs)))) ≡ (a || list_any p xs)
+      by : (a b : Bool)
+          → is_some (option_or (find (λ x. p x && q x) xs) (last_or None (filter p xs))) ≡ list_any p xs
+          → is_some (option_or (cond (a && b) (Some x) (find (λ x. p x && q x) xs))
+          (last_or None (cond a (x ∷ filter p xs) (filter p xs)))) ≡ (a || list_any p xs)
       by true true rest = refl
       by true false rest = either (find (λ x. p x && q x) xs)
       by false b rest = rest
 
-directives-named : (ds : Directives) (n : List ℕ) → list_any (by_text n) (directive_names ds) ≡ is_some (directive_of ds n)
+directives-named : (ds : Directives) (n : List ℕ)
+    → list_any (by_text n) (directive_names ds) ≡ is_some (directive_of ds n)
 directives-named ds n =
-    ap (list_any (by_text n)) (first_of_each-map same_text (λ (d : NodeView DirectiveDefinition). d.value.name) ds)
-    ∙ list_any-first_of_each same_text name_laws (plain_name n) (map (λ d. d.value.name) ds)
+    ap (list_any (by_text n)) (first_of_each-map same_text (λ (d : NodeView DirectiveDefinition).
+    d.value.name) ds) ∙ list_any-first_of_each same_text name_laws (plain_name n) (map (λ d. d.value.name) ds)
     ∙ list_any-map (by_text n) (λ (d : NodeView DirectiveDefinition). d.value.name) ds
     ∙ sym (meant-there (has_text n) is_handed_in ds)
 
@@ -87,13 +100,26 @@ module _ (start : ℕ) (adopts : Bool) (list : List Added) where
 
   -- what stands where nothing is looked up
   no_type : ExtendedType
-  no_type = Scalar (record { value = record { description = None; name = plain_name []; directives = record { 0 = [] } }; location = None })
+  no_type = Scalar (record {
+    value = record { description = None; name = plain_name []; directives = record { 0 = [] } };
+    location = None;
+  })
 
   no_directive : NodeView DirectiveDefinition
-  no_directive = record { value = record { description = None; name = plain_name []; arguments = []; repeatable = false; locations = [] }; location = None }
+  no_directive = record {
+    value = record {
+      description = None;
+      name = plain_name [];
+      arguments = [];
+      repeatable = false;
+      locations = [];
+    };
+    location = None;
+  }
 
   are-types : (n : List ℕ) → list_any (by_text n) (type_names xs) ≡ is_some (type_at n)
-  are-types n = types-named xs n ∙ sym (is_some-map (λ d. type_from d (parts start (folding_order xs) n d)) (first xs n))
+  are-types n = types-named xs n ∙ sym (is_some-map (λ d. type_from d (parts start (folding_order xs) n d))
+      (first xs n))
 
   pub every_schema : (schema : Schema) × MeansSchema start adopts list schema
   every_schema = (
@@ -106,7 +132,10 @@ module _ (start : ℕ) (adopts : Bool) (list : List Added) where
     },
     record {
       definition = refl;
-      types = record { names = table-names type_at no_type (type_names xs) are-types; each = table-each type_at no_type (type_names xs) are-types };
+      types = record {
+        names = table-names type_at no_type (type_names xs) are-types;
+        each = table-each type_at no_type (type_names xs) are-types;
+      };
       directives = record {
         names = table-names (directive_of ds) no_directive (directive_names ds) (directives-named ds);
         each = table-each (directive_of ds) no_directive (directive_names ds) (directives-named ds);

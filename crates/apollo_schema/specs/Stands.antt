@@ -33,9 +33,9 @@ pub record Stands (start : ℕ) (xs : List ListItem) (t : Tables) : Type 0 where
   -- the names under which an extension once waited, in order
   pub names : keys_of t.waiting ≡ waited xs
   -- what was found so far, in order
-  pub faults : t.faults ≡ found xs
+  pub faults : t.fold.faults ≡ found xs
   -- the number of the next extension that is folded
-  pub next : t.ids ≡ source_at (start + length (folded xs))
+  pub next : t.fold.ids ≡ source_at (start + length (folded xs))
 
 -- these tables are those of a list that ends with these items, which are implied. They hold what was found
 -- and what is left without a definition
@@ -45,28 +45,28 @@ pub record Ends (start : ℕ) (implied xs : List ListItem) (t : Tables) : Type 0
   pub directives : AreDirectivesOf (directive_definitions (xs ++ implied)) t.directive_definitions
   -- what was found before, and the extensions of types without a definition. Then what is found at the
   -- implied items, and the extensions of the schema without a definition
-  pub faults : t.faults
+  pub faults : t.fold.faults
       ≡ found xs ++ (map orphan (flat_map (orphans_of xs) (extended_names xs))
       ++ (each_after found_at xs implied ++ map schema_orphan (schema_orphans (xs ++ implied))))
   -- the number after that of the last extension that is folded
-  pub next : t.ids ≡ source_at (start + length (folded (xs ++ implied)))
+  pub next : t.fold.ids ≡ source_at (start + length (folded (xs ++ implied)))
 
 -- these tables are those of all that the list means, and hold all its faults
 pub record Completes (start : ℕ) (adopts : Bool) (xs : List ListItem) (t : Tables) : Type 0 where
   pub definition : t.schema_definition ≡ schema_of start (folded (completed adopts xs)) (completed adopts xs)
   pub types : AreTypesOf start (folded (completed adopts xs)) (completed adopts xs) t.types
   pub directives : AreDirectivesOf (directive_definitions (completed adopts xs)) t.directive_definitions
-  pub faults : t.faults ≡ faults_in adopts xs
+  pub faults : t.fold.faults ≡ faults_in adopts xs
   -- the number after that of the last extension that is folded
-  pub next : t.ids ≡ source_at (start + length (folded (completed adopts xs)))
+  pub next : t.fold.ids ≡ source_at (start + length (folded (completed adopts xs)))
 
 -- what is seen of what a builder holds, and of the definitions that were handed in
 abbrev pub standing_of : List Added → State → Standing
-standing_of more (state.Open tables) = Open (with_built_ins more) tables.sources
+standing_of more (state.Open held) = Open (with_built_ins more) held.sources
 standing_of more (state.Failed source) = Failed source
 
 -- what holds of what a builder with this first number holds. Its tables are those of what was added, the
 -- built-in definitions first. Or a call was refused, and the source is not below the first number
 abbrev pub HoldsFor : ℕ → List Added → State → Type 0
-HoldsFor start more (state.Open tables) = Stands start (added_items (with_built_ins more)) tables
+HoldsFor start more (state.Open held) = Stands start (added_items (with_built_ins more)) held.tables
 HoldsFor start more (state.Failed source) = start ≤ next_number source

@@ -1,13 +1,14 @@
 -- What a step of a builder does, for each list that its tables stand for: GraphQL specification of October
 -- 2021, section 3.
 use Rattle.std.specs.Prelude.{ℕ, Bool, ◌+◌, ◌^◌, ◌≤◌, List, [], ◌++◌, length, map, Some}
-use Rattle.apollo_component.specs.Extensions.{next_number, source_at}
+use Rattle.apollo_component.specs.Extensions.{next_number}
 use Rattle.apollo_schema.specs.declared.tables.Tables.{Tables}
 use Rattle.apollo_schema.specs.Stands.{Stands, Completes}
 use Rattle.apollo_meaning.specs.Items.Parts.{SchemaPart, schema_extension_part}
 use Rattle.apollo_meaning.specs.Items.ListItems.{ListItem, Added, added_items}
 use Rattle.apollo_meaning.specs.Steps.Joining.{schema_begun, schema_begun_faults}
 use Rattle.apollo_meaning.specs.Steps.Prefixes.{folded}
+use Rattle.apollo_folding.specs.Noting.{having_folded}
 
 -- the tables of a list are those of another list after the step
 abbrev pub Becomes : Tables → (List ListItem → List ListItem) → Tables → Type 0
@@ -40,8 +41,8 @@ ForCompleted t P = (start : ℕ) (adopts : Bool) (xs : List Added) → Completes
 abbrev pub with_schema : Tables → SchemaPart → Tables
 with_schema t s = record t {
   schema_definition =
-      Some (schema_begun (next_number t.ids) s (map schema_extension_part t.schema_extensions));
+      Some (schema_begun (next_number t.fold.ids) s (map schema_extension_part t.schema_extensions));
   schema_extensions = [];
-  ids = source_at (next_number t.ids + length t.schema_extensions);
-  faults = t.faults ++ schema_begun_faults s (map schema_extension_part t.schema_extensions);
+  fold = having_folded (length t.schema_extensions)
+      (schema_begun_faults s (map schema_extension_part t.schema_extensions)) t.fold;
 }

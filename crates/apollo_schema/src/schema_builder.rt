@@ -14,13 +14,14 @@ ghost use Rattle.apollo_schema.specs.NamesLeft.{names_left};
 use crate::build_failure::BuildFailure;
 use crate::orphan_names::OrphanNames;
 use crate::schema::Schema;
-use crate::state::State;
+use crate::state::{Added, State};
 use crate::tables::Tables;
 use apollo_component::extension::ExtensionSource;
 use apollo_folding::builder_error::BuilderError;
 use graphql_ast::added_list::AddedList;
 use graphql_ast::document::Document;
 use graphql_nodes::collections::hash_keys::HashKeys;
+use graphql_nodes::collections::table::Table;
 use std::alloc::{AllocError, Global};
 use std::marker::Model;
 
@@ -116,9 +117,10 @@ impl SchemaBuilder {
     {
         let first_number = source.next_number();
         let tables = Tables::with_built_ins(alloc, keys, source)?;
+        let sources = Table::with_keys(alloc, keys);
         Ok(SchemaBuilder {
             first_number,
-            state: State::Open(tables),
+            state: State::Open(Added { tables, sources }),
             adopt_orphan_extensions: false,
             ignore_builtin_redefinitions: false,
             added: AddedList::none(),
@@ -167,16 +169,16 @@ impl SchemaBuilder {
             (document.now.definitions ≡ [] → document.now.sources ≡ [] → HasFailed self.old) }
     {
         let ignores = self.ignore_builtin_redefinitions;
-        let State::Open(tables) = &mut self.state else {
+        let State::Open(held) = &mut self.state else {
             return Err(BuilderError::Failed);
         };
-        let before = tables.next_number();
-        if let Err(error) = tables.take_document(document, ignores) {
+        let before = held.next_number();
+        if let Err(error) = held.take_document(document, ignores) {
             self.state = State::Failed(ExtensionSource::starting_at(before));
             return Err(error);
         }
         // The next number is one, so the numbers so far sufficed.
-        let _is_a_number = tables.next_number();
+        let _is_a_number = held.next_number();
         self.added = AddedList::with(&self.added, ignores, document);
         Ok(())
     }
@@ -230,7 +232,10 @@ impl SchemaBuilder {
             added: _,
         } = self;
         match state {
-            State::Open(tables) => tables.finish(adopt_orphan_extensions),
+            State::Open(Added { tables, sources }) => tables.finish(
+                sources,
+                adopt_orphan_extensions,
+            ),
             State::Failed(source) => (Err(BuildFailure::Failed), source),
         }
     }
@@ -244,7 +249,7 @@ impl SchemaBuilder {
         ensures { names_left result ≡ orphan_names (added_items (list_of self.now)) }
     {
         match &self.state {
-            State::Open(tables) => tables.orphan_names(),
+            State::Open(held) => held.tables.orphan_names(),
             State::Failed(_) => OrphanNames::none(),
         }
     }

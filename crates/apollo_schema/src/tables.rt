@@ -1,6 +1,6 @@
 //! What a builder holds.
-ghost use Rattle.std.specs.Prelude.{◌≡◌, ◌≢◌, false, None, ◌+◌, ◌^◌, ◌≤◌, [], ◌∷◌, ◌++◌, length, OnOk, OnErr};
-ghost use Rattle.std.specs.Prelude.{IfOk, IfErr, Some};
+ghost use Rattle.std.specs.Prelude.{◌≡◌, ◌≢◌, false, ◌+◌, ◌^◌, ◌≤◌, [], ◌∷◌, length, OnOk, OnErr};
+ghost use Rattle.std.specs.Prelude.{IfOk, IfErr};
 ghost use Rattle.graphql_nodes.specs.Tables.{insert_entry};
 ghost use Rattle.graphql_nodes.specs.SameText.{same_text};
 ghost use Rattle.graphql_ast.specs.Definitions.{definition_location};
@@ -13,10 +13,10 @@ ghost use Rattle.apollo_meaning.specs.Items.ListItems.{Extended, SchemaDefined, 
 ghost use Rattle.apollo_meaning.specs.Items.ListItems.{added_item, added_items, item_of};
 ghost use Rattle.apollo_meaning.specs.BuiltInTable.{built_in_definitions};
 ghost use Rattle.apollo_folding.specs.DeclaredParts.{item_seen, part_seen, definition_seen};
+ghost use Rattle.apollo_folding.specs.Noting.{noting};
 ghost use Rattle.apollo_folding.specs.Refusals.{RefusedAs};
 ghost use Rattle.apollo_schema.specs.Stands.{Stands};
 ghost use Rattle.apollo_schema.specs.Takes.{Takes, SpentBy, with_schema};
-ghost use Rattle.graphql_nodes.specs.Sources.{merged};
 
 mod completion;
 mod copy;
@@ -24,18 +24,14 @@ mod extended_only;
 
 use apollo_component::extension::ExtensionSource;
 use apollo_folding::builder_error::BuilderError;
-use apollo_folding::directive_definition::define_directive;
-use apollo_folding::from_ast::schema_definition::{begin_schema, extend_schema};
-use apollo_folding::from_ast::{begin_type, extend_type};
-use apollo_folding::redefinition::note_redefinition;
+use apollo_folding::fold::Fold;
 use apollo_folding::waiting::{add_waiting, take_waiting};
-use apollo_meaning::build_error::{BuildError, Fault};
+use apollo_meaning::build_error::BuildError;
 use apollo_meaning::built_in::built_in_definitions;
 use apollo_types::extended_type::ExtendedType;
 use apollo_types::schema_definition::SchemaDefinition;
 use graphql_ast::declaration_ref::{DeclarationRef, TypeDeclarationRef};
 use graphql_ast::definition::Definition;
-use graphql_ast::document::Document;
 use graphql_ast::type_system as ast;
 use graphql_ast::type_system::{DirectiveDefinition, SchemaExtension};
 use graphql_nodes::collections::hash_keys::HashKeys;
@@ -44,36 +40,29 @@ use graphql_nodes::collections::static_text::StaticText;
 use graphql_nodes::collections::table::Table;
 use graphql_nodes::name::Name;
 use graphql_nodes::node::Node;
-use graphql_nodes::source::{SourceMap, merge_sources};
 use std::alloc::{AllocError, Global};
 use std::mem;
 
 /// What a builder holds until it fails. An extension before its definition waits under its name. A name that
 /// is defined keeps an empty list, so that taking its extensions out moves no other.
 pub struct Tables {
-    alloc: Global,
-    sources: SourceMap,
     schema_definition: Option<Node<SchemaDefinition>>,
     schema_extensions: Items<Node<SchemaExtension>>,
     types: Table<Name, ExtendedType>,
     directive_definitions: Table<Name, Node<DirectiveDefinition>>,
     waiting: Table<Name, Items<Definition>>,
-    ids: ExtensionSource,
-    faults: Items<Fault>,
+    fold: Fold,
 }
 
 impl Drop for Tables {
     fn drop(self) {
         let Self {
-            alloc: _,
-            sources: _,
             schema_definition: _,
             schema_extensions: _,
             types: _,
             directive_definitions: _,
             waiting: _,
-            ids: _,
-            faults: _,
+            fold: _,
         } = self;
     }
 }
@@ -91,22 +80,18 @@ fn put(
 }
 
 impl Tables {
-    /// Tables of no definition, which hash by these keys and draw from this source.
-    fn new(alloc: Global, keys: HashKeys, ids: ExtensionSource) -> Tables
-        ensures stands { Stands (next_number ids) [] result }
-        ensures sources { result.sources ≡ [] }
-        ensures given { (result.alloc ≡ alloc) × (result.ids ≡ ids) }
+    /// Tables of no definition, which fold with this.
+    fn new(fold: Fold) -> Tables
+        ensures stands { fold.faults ≡ [] → Stands (next_number fold.ids) [] result }
+        ensures given { result.fold ≡ fold }
     {
         Tables {
-            alloc,
-            sources: Table::with_keys(alloc, keys),
             schema_definition: None,
-            schema_extensions: Items::new(alloc),
-            types: Table::with_keys(alloc, keys),
-            directive_definitions: Table::with_keys(alloc, keys),
-            waiting: Table::with_keys(alloc, keys),
-            ids,
-            faults: Items::new(alloc),
+            schema_extensions: Items::new(fold.alloc),
+            types: Table::with_keys(fold.alloc, fold.keys),
+            directive_definitions: Table::with_keys(fold.alloc, fold.keys),
+            waiting: Table::with_keys(fold.alloc, fold.keys),
+            fold,
         }
     }
 
@@ -117,11 +102,9 @@ impl Tables {
         keys: HashKeys,
         ids: ExtensionSource,
     ) -> Result<Tables, AllocError>
-        ensures stands { IfOk result
-            (Stands (next_number ids) (added_items (added false built_in_definitions))) }
-        ensures sources { IfOk result (λ tables. tables.sources ≡ []) }
+        ensures { IfOk result (Stands (next_number ids) (added_items (added false built_in_definitions))) }
     {
-        let mut tables = Tables::new(alloc, keys, ids);
+        let mut tables = Tables::new(Fold::new(alloc, keys, ids));
         let definitions = built_in_definitions(alloc)?;
         match tables.take(definitions.as_slice(), false) {
             Ok(()) => Ok(tables),
@@ -131,9 +114,9 @@ impl Tables {
 
     /// The number that the source's next identity will have.
     pub fn next_number(&self) -> u64
-        ensures { result ≡ next_number self.now.ids }
+        ensures { result ≡ next_number self.now.fold.ids }
     {
-        self.ids.next_number()
+        self.fold.ids.next_number()
     }
 
     /// Takes the definition of a type, under this setting of whether redefinitions of built-in types are
@@ -146,21 +129,13 @@ impl Tables {
         ensures stands { OnOk result (Takes self.old (definition_seen ignores definition.now ∷ []) self.new) }
         ensures refused { IfErr result (λ error.
             RefusedAs error (SpentBy self.old (definition_seen ignores definition.now ∷ []))) }
-        ensures sources { self.new.sources ≡ self.old.sources }
     {
         if let Some(previous) = self.types.get(definition.name) {
-            note_redefinition(previous, definition, ignores, &mut self.faults)?;
+            self.fold.note_redefinition(previous, definition, ignores)?;
             return Ok(());
         }
-        let extensions = take_waiting(self.alloc, &mut self.waiting, definition.name);
-        let ty = begin_type(
-            self.alloc,
-            self.types.hash_keys(),
-            definition,
-            extensions.as_slice(),
-            &mut self.ids,
-            &mut self.faults,
-        )?;
+        let extensions = take_waiting(self.fold.alloc, &mut self.waiting, definition.name);
+        let ty = self.fold.begin_type(definition, extensions.as_slice())?;
         put(&mut self.types, definition.name, ty)?;
         Ok(())
     }
@@ -175,13 +150,17 @@ impl Tables {
             → Takes self.old (Extended (part_seen extension.now) ∷ []) self.new) }
         ensures refused { IfErr result (λ error.
             RefusedAs error (SpentBy self.old (Extended (part_seen extension.now) ∷ []))) }
-        ensures sources { self.new.sources ≡ self.old.sources }
     {
         let Some(ty) = self.types.get_mut(extension.name) else {
-            add_waiting(self.alloc, &mut self.waiting, extension.name, definition)?;
+            add_waiting(
+                self.fold.alloc,
+                &mut self.waiting,
+                extension.name,
+                definition,
+            )?;
             return Ok(());
         };
-        extend_type(ty, extension, &mut self.ids, &mut self.faults)?;
+        self.fold.extend_type(ty, extension)?;
         Ok(())
     }
 
@@ -197,7 +176,6 @@ impl Tables {
         ensures refused { IfErr result (λ error. item_of definition.now
             ≡ item_seen (seen.Type declaration.now)
             → RefusedAs error (SpentBy self.old (added_item (ignores, definition.now) ∷ []))) }
-        ensures sources { self.new.sources ≡ self.old.sources }
     {
         if declaration.is_extension {
             return self.extend(declaration, definition);
@@ -209,17 +187,10 @@ impl Tables {
     fn put_schema(&mut self, node: &Node<ast::SchemaDefinition>) -> Result<(), BuilderError>
         ensures put { OnOk result (self.new ≡ with_schema self.old (schema_definition_part node.now)) }
         ensures refused { IfErr result (λ error.
-            RefusedAs error (2 ^ 64 ≤ next_number self.old.ids + length self.old.schema_extensions)) }
-        ensures sources { self.new.sources ≡ self.old.sources }
+            RefusedAs error (2 ^ 64 ≤ next_number self.old.fold.ids + length self.old.schema_extensions)) }
     {
-        let extensions = mem::replace(&mut self.schema_extensions, Items::new(self.alloc));
-        let definition = begin_schema(
-            self.alloc,
-            node,
-            extensions.as_slice(),
-            &mut self.ids,
-            &mut self.faults,
-        )?;
+        let extensions = mem::replace(&mut self.schema_extensions, Items::new(self.fold.alloc));
+        let definition = self.fold.begin_schema(node, extensions.as_slice())?;
         self.schema_definition = Some(definition);
         Ok(())
     }
@@ -230,13 +201,12 @@ impl Tables {
             (Takes self.old (SchemaDefined (schema_definition_part node.now) ∷ []) self.new) }
         ensures refused { IfErr result (λ error.
             RefusedAs error (SpentBy self.old (SchemaDefined (schema_definition_part node.now) ∷ []))) }
-        ensures sources { self.new.sources ≡ self.old.sources }
     {
         if let Some(previous) = &self.schema_definition {
             let error = BuildError::SchemaDefinitionCollision {
                 previous_location: previous.location(),
             };
-            self.faults.push((node.location(), error))?;
+            self.fold.note((node.location(), error))?;
             return Ok(());
         }
         self.put_schema(node)?;
@@ -249,32 +219,27 @@ impl Tables {
             (Takes self.old (SchemaExtended (schema_extension_part node.now) ∷ []) self.new) }
         ensures refused { IfErr result (λ error.
             RefusedAs error (SpentBy self.old (SchemaExtended (schema_extension_part node.now) ∷ []))) }
-        ensures sources { self.new.sources ≡ self.old.sources }
     {
         let Some(definition) = &mut self.schema_definition else {
             self.schema_extensions.push(node.clone()?)?;
             return Ok(());
         };
-        extend_schema(definition, node, &mut self.ids, &mut self.faults)?;
+        self.fold.extend_schema(definition, node)?;
         Ok(())
     }
 
     /// Notes a definition that does not belong into a schema.
     fn note_executable(&mut self, definition: &Definition) -> Result<(), AllocError>
-        ensures noted { OnOk result (self.new
+        ensures { let error = errors.ExecutableDefinition (definition_text definition.now) in
+            OnOk result (self.new
             ≡ record self.old {
-              faults = self.old.faults
-                  ++ (
-                    definition_location definition.now,
-                    errors.ExecutableDefinition (definition_text definition.now),
-                  ) ∷ [];
+              fold = noting ((definition_location definition.now, error) ∷ []) self.old.fold;
             }) }
-        ensures sources { self.new.sources ≡ self.old.sources }
     {
         let error = BuildError::ExecutableDefinition {
             describe: StaticText::new(definition.describe()),
         };
-        self.faults.push((definition.location(), error))
+        self.fold.note((definition.location(), error))
     }
 
     /// Takes a definition, under this setting of whether redefinitions of built-in types are ignored.
@@ -282,7 +247,6 @@ impl Tables {
         ensures stands { OnOk result (Takes self.old (added_item (ignores, definition.now) ∷ []) self.new) }
         ensures refused { IfErr result (λ error.
             RefusedAs error (SpentBy self.old (added_item (ignores, definition.now) ∷ []))) }
-        ensures sources { self.new.sources ≡ self.old.sources }
     {
         if let DeclarationRef::Type(declaration) = DeclarationRef::of(definition) {
             return self.take_type(&declaration, definition, ignores);
@@ -291,7 +255,8 @@ impl Tables {
             Definition::SchemaDefinition(node) => self.define_schema(node)?,
             Definition::SchemaExtension(node) => self.extend_schema(node)?,
             Definition::DirectiveDefinition(node) => {
-                define_directive(&mut self.directive_definitions, node, &mut self.faults)?;
+                self.fold
+                    .define_directive(&mut self.directive_definitions, node)?;
             }
             _ => self.note_executable(definition)?,
         }
@@ -299,32 +264,15 @@ impl Tables {
     }
 
     /// Takes definitions in order, under this setting of whether redefinitions of built-in types are ignored.
-    fn take(&mut self, definitions: &[Definition], ignores: bool) -> Result<(), BuilderError>
+    pub fn take(&mut self, definitions: &[Definition], ignores: bool) -> Result<(), BuilderError>
         ensures stands { OnOk result (Takes self.old (added_items (added ignores definitions.now)) self.new) }
         ensures refused { IfErr result (λ error.
             RefusedAs error (SpentBy self.old (added_items (added ignores definitions.now)))) }
-        ensures sources { self.new.sources ≡ self.old.sources }
         ensures wants { OnErr result (definitions.now ≢ []) }
     {
         for definition in definitions {
             self.take_one(definition, ignores)?;
         }
-        Ok(())
-    }
-
-    /// Takes a document: its definitions, and then its sources. `Memory` is out of memory; `ExtensionIds`
-    /// comes only where the numbers don't suffice for its extensions. Neither comes of a document without
-    /// definitions and sources. After either nothing is said of the tables.
-    pub fn take_document(&mut self, document: &Document, ignores: bool) -> Result<(), BuilderError>
-        ensures stands { OnOk result
-            (Takes self.old (added_items (added ignores document.now.definitions)) self.new) }
-        ensures refused { IfErr result (λ error.
-            RefusedAs error (SpentBy self.old (added_items (added ignores document.now.definitions)))) }
-        ensures sources { OnOk result (self.new.sources ≡ merged self.old.sources document.now.sources) }
-        ensures wants { OnErr result (document.now.definitions ≡ [] → document.now.sources ≢ []) }
-    {
-        self.take(document.definitions.as_slice(), ignores)?;
-        merge_sources(&mut self.sources, &document.sources)?;
         Ok(())
     }
 }

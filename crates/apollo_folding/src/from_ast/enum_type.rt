@@ -5,7 +5,8 @@ ghost use Rattle.apollo_meaning.specs.Types.Meaning.{enum_of};
 ghost use Rattle.apollo_types.specs.declared.extended_type.ExtendedType.TheVariants as types;
 ghost use Rattle.apollo_folding.specs.KindParts.{made_of};
 
-use crate::from_ast::folding::{fold_directives, fold_named};
+use crate::fold::Fold;
+use crate::from_ast::folding::{Target, fold_directives};
 use crate::from_ast::kind::{Kind, description_of};
 use apollo_component::directive_list::DirectiveList;
 use apollo_component::extension::ComponentOrigin;
@@ -13,10 +14,9 @@ use apollo_meaning::build_error::Fault;
 use apollo_meaning::collision::Collection;
 use apollo_types::enum_type::EnumType;
 use graphql_ast::declaration_ref::TypeDeclarationRef;
-use graphql_nodes::collections::hash_keys::HashKeys;
 use graphql_nodes::collections::items::Items;
 use graphql_nodes::collections::table::Table;
-use std::alloc::{AllocError, Global};
+use std::alloc::AllocError;
 
 impl Kind for EnumType {
     ghost kind = { kinds.Enum };
@@ -25,16 +25,12 @@ impl Kind for EnumType {
 
     ghost wrapped = { types.Enum };
 
-    fn bare(
-        alloc: Global,
-        keys: HashKeys,
-        head: &TypeDeclarationRef<'_>,
-    ) -> Result<Self, AllocError> {
+    fn bare(fold: &Fold, head: &TypeDeclarationRef<'_>) -> Result<Self, AllocError> {
         Ok(EnumType {
             description: description_of(head)?,
             name: head.name.clone()?,
-            directives: DirectiveList::new(alloc),
-            values: Table::with_keys(alloc, keys),
+            directives: DirectiveList::new(fold.alloc),
+            values: Table::with_keys(fold.alloc, fold.keys),
         })
     }
 
@@ -45,14 +41,12 @@ impl Kind for EnumType {
         faults: &mut Items<Fault>,
     ) -> Result<(), AllocError> {
         fold_directives(&mut self.directives, part.parts.directives, origin)?;
-        fold_named(
-            &mut self.values,
-            part.parts.values,
+        let values = Target {
+            collection: Collection::EnumValues,
+            type_name: part.name,
             origin,
-            Collection::EnumValues,
-            part.name,
-            faults,
-        )?;
+        };
+        values.fold_named(&mut self.values, part.parts.values, faults)?;
         Ok(())
     }
 

@@ -22,15 +22,11 @@ use graphql_nodes::node::Node;
 use indexmap::IndexMap;
 use std::alloc::AllocError;
 
-/// How many entries a table has room for once it has one.
-const FIRST_ROOM: usize = 9;
-
-/// Gives an empty table room for so many entries at once, where they are more than it would first have room
-/// for. The error is out of memory.
+/// Gives an empty table room for so many entries at once. The error is out of memory.
 fn make_room<T: Drop>(table: &mut Table<Name, Component<T>>, count: usize) -> Result<(), AllocError>
     ensures { OnOk result (table.new ≡ table.old) }
 {
-    if count <= FIRST_ROOM || !table.is_empty() {
+    if count == 0 || !table.is_empty() {
         return Ok(());
     }
     let alloc = *table.as_index_map().allocator();
@@ -53,144 +49,144 @@ pub fn fold_directives(
     Ok(())
 }
 
-/// Notes the fault of a name that is there.
-fn note_listed(
-    set: &KeySet<ComponentName>,
-    name: &Name,
-    collection: Collection,
-    type_name: &Name,
-    faults: &mut Items<Fault>,
-) -> Result<(), AllocError>
-    ensures { OnOk result
-        (FindsIn distinct_names set.now (λ ks.
-        collision_at collection type_name.now (map (λ k. k.name) ks) (name.now, name.now.location)) faults.old
-        faults.new) }
-{
-    let component = ComponentName::with_origin(name.clone()?, ComponentOrigin::Definition);
-    if let Some(kept) = set.get(&component) {
-        let error = collection.collision(&kept.name, type_name)?;
-        faults.push((name.location(), error))?;
-    }
-    Ok(())
+/// What components are folded into: this collection of the type of this name, each with this origin.
+#[derive(Clone, Copy)]
+pub struct Target<'a> {
+    pub collection: Collection,
+    pub type_name: &'a Name,
+    pub origin: ComponentOrigin,
 }
 
-/// Adds a name, or notes the fault where it is there. It looks once where the name is new.
-fn fold_name(
-    set: &mut KeySet<ComponentName>,
-    name: &Name,
-    origin: ComponentOrigin,
-    collection: Collection,
-    type_name: &Name,
-    faults: &mut Items<Fault>,
-) -> Result<(), AllocError>
-    ensures added { OnOk result
-        (Lengthens distinct_names set.old (component_name origin name.now ∷ []) set.new) }
-    ensures faults { OnOk result
-        (FindsIn distinct_names set.old (λ ks.
-        collision_at collection type_name.now (map (λ k. k.name) ks) (name.now, name.now.location)) faults.old
-        faults.new) }
-{
-    let component = ComponentName::with_origin(name.clone()?, origin);
-    let is_new = set.insert(component)?;
-    if is_new {
-        return Ok(());
+impl Target<'_> {
+    /// Notes the fault of a name that is there.
+    fn note_listed(
+        &self,
+        set: &KeySet<ComponentName>,
+        name: &Name,
+        faults: &mut Items<Fault>,
+    ) -> Result<(), AllocError>
+        ensures { OnOk result
+            (FindsIn distinct_names set.now (λ ks.
+            collision_at self.now.collection self.now.type_name.now (map (λ k. k.name) ks)
+            (name.now, name.now.location)) faults.old faults.new) }
+    {
+        let component = ComponentName::with_origin(name.clone()?, ComponentOrigin::Definition);
+        if let Some(kept) = set.get(&component) {
+            let error = self.collection.collision(&kept.name, self.type_name)?;
+            faults.push((name.location(), error))?;
+        }
+        Ok(())
     }
-    note_listed(set, name, collection, type_name, faults)?;
-    Ok(())
-}
 
-/// Adds names in order, with this origin, each unless it is there, and a fault at the end for each that is.
-/// The error is out of memory.
-pub fn fold_names(
-    set: &mut KeySet<ComponentName>,
-    names: &[Name],
-    origin: ComponentOrigin,
-    collection: Collection,
-    type_name: &Name,
-    faults: &mut Items<Fault>,
-) -> Result<(), AllocError>
-    ensures added { OnOk result
-        (Lengthens distinct_names set.old (map (component_name origin) names.now) set.new) }
-    ensures faults { OnOk result
-        (FindsIn distinct_names set.old (λ ks.
-        collisions collection type_name.now (map (λ k. k.name) ks) (name_entries names.now)) faults.old
-        faults.new) }
-{
-    for name in names {
-        fold_name(set, name, origin, collection, type_name, faults)?;
+    /// Adds a name, or notes the fault where it is there. It looks once where the name is new.
+    fn fold_name(
+        &self,
+        set: &mut KeySet<ComponentName>,
+        name: &Name,
+        faults: &mut Items<Fault>,
+    ) -> Result<(), AllocError>
+        ensures added { OnOk result
+            (Lengthens distinct_names set.old (component_name self.now.origin name.now ∷ []) set.new) }
+        ensures faults { OnOk result
+            (FindsIn distinct_names set.old (λ ks.
+            collision_at self.now.collection self.now.type_name.now (map (λ k. k.name) ks)
+            (name.now, name.now.location)) faults.old faults.new) }
+    {
+        let component = ComponentName::with_origin(name.clone()?, self.origin);
+        let is_new = set.insert(component)?;
+        if is_new {
+            return Ok(());
+        }
+        self.note_listed(set, name, faults)?;
+        Ok(())
     }
-    Ok(())
-}
 
-/// Notes the fault of a definition whose name is there.
-fn note_collision<T: Named + Drop>(
-    table: &Table<Name, Component<T>>,
-    node: &Node<T>,
-    collection: Collection,
-    type_name: &Name,
-    faults: &mut Items<Fault>,
-) -> Result<(), AllocError>
-    ensures { OnOk result
-        (FindsIn distinct_entries table.now (λ es.
-        collision_at collection type_name.now (keys_of es) (T.name_of node.now.value, node.now.location))
-        faults.old faults.new) }
-{
-    if let Some((kept, _)) = table.get_key_value(node.name()) {
-        let error = collection.collision(kept, type_name)?;
-        faults.push((node.location(), error))?;
+    /// Adds names in order, each unless it is there, and a fault at the end for each that is. The error is
+    /// out of memory.
+    pub fn fold_names(
+        &self,
+        set: &mut KeySet<ComponentName>,
+        names: &[Name],
+        faults: &mut Items<Fault>,
+    ) -> Result<(), AllocError>
+        ensures added { OnOk result
+            (Lengthens distinct_names set.old (map (component_name self.now.origin) names.now) set.new) }
+        ensures faults { OnOk result
+            (FindsIn distinct_names set.old (λ ks.
+            collisions self.now.collection self.now.type_name.now (map (λ k. k.name) ks)
+            (name_entries names.now)) faults.old faults.new) }
+    {
+        for name in names {
+            self.fold_name(set, name, faults)?;
+        }
+        Ok(())
     }
-    Ok(())
-}
 
-/// Adds a definition under its name, or notes the fault where the name is there. It looks once where the name
-/// is new, and else puts back what stood there.
-fn fold_entry<T: Named + Drop>(
-    table: &mut Table<Name, Component<T>>,
-    node: &Node<T>,
-    origin: ComponentOrigin,
-    collection: Collection,
-    type_name: &Name,
-    faults: &mut Items<Fault>,
-) -> Result<(), AllocError>
-    ensures added { OnOk result
-        (Lengthens distinct_entries table.old ((T.name_of node.now.value, component origin node.now) ∷ [])
-        table.new) }
-    ensures faults { OnOk result
-        (FindsIn distinct_entries table.old (λ es.
-        collision_at collection type_name.now (keys_of es) (T.name_of node.now.value, node.now.location))
-        faults.old faults.new) }
-{
-    let name = node.name().clone()?;
-    let standing = table.insert(name, Component::with_origin(node.clone()?, origin))?;
-    let Some(kept) = standing else {
-        return Ok(());
-    };
-    table.insert(node.name().clone()?, kept)?;
-    note_collision(table, node, collection, type_name, faults)?;
-    Ok(())
-}
-
-/// Adds definitions under their names in order, with this origin, each unless its name is there. For each
-/// whose name is there, it adds a fault at the end. The error is out of memory.
-pub fn fold_named<T: Named + Drop>(
-    table: &mut Table<Name, Component<T>>,
-    nodes: &[Node<T>],
-    origin: ComponentOrigin,
-    collection: Collection,
-    type_name: &Name,
-    faults: &mut Items<Fault>,
-) -> Result<(), AllocError>
-    ensures added { OnOk result
-        (Lengthens distinct_entries table.old (map (λ n. (T.name_of n.value, component origin n)) nodes.now)
-        table.new) }
-    ensures faults { OnOk result
-        (FindsIn distinct_entries table.old (λ es.
-        collisions collection type_name.now (keys_of es) (named_entries T.name_of nodes.now)) faults.old
-        faults.new) }
-{
-    make_room(table, nodes.len())?;
-    for node in nodes {
-        fold_entry(table, node, origin, collection, type_name, faults)?;
+    /// Notes the fault of a definition whose name is there.
+    fn note_collision<T: Named + Drop>(
+        &self,
+        table: &Table<Name, Component<T>>,
+        node: &Node<T>,
+        faults: &mut Items<Fault>,
+    ) -> Result<(), AllocError>
+        ensures { OnOk result
+            (FindsIn distinct_entries table.now (λ es.
+            collision_at self.now.collection self.now.type_name.now (keys_of es)
+            (T.name_of node.now.value, node.now.location)) faults.old faults.new) }
+    {
+        if let Some((kept, _)) = table.get_key_value(node.name()) {
+            let error = self.collection.collision(kept, self.type_name)?;
+            faults.push((node.location(), error))?;
+        }
+        Ok(())
     }
-    Ok(())
+
+    /// Adds a definition under its name, or notes the fault where the name is there. It looks once where the
+    /// name is new, and else puts back what stood there.
+    fn fold_entry<T: Named + Drop>(
+        &self,
+        table: &mut Table<Name, Component<T>>,
+        node: &Node<T>,
+        faults: &mut Items<Fault>,
+    ) -> Result<(), AllocError>
+        ensures added { OnOk result
+            (Lengthens distinct_entries table.old
+            ((T.name_of node.now.value, component self.now.origin node.now) ∷ []) table.new) }
+        ensures faults { OnOk result
+            (FindsIn distinct_entries table.old (λ es.
+            collision_at self.now.collection self.now.type_name.now (keys_of es)
+            (T.name_of node.now.value, node.now.location)) faults.old faults.new) }
+    {
+        let name = node.name().clone()?;
+        let standing = table.insert(name, Component::with_origin(node.clone()?, self.origin))?;
+        let Some(kept) = standing else {
+            return Ok(());
+        };
+        table.insert(node.name().clone()?, kept)?;
+        self.note_collision(table, node, faults)?;
+        Ok(())
+    }
+
+    /// Adds definitions under their names in order, each unless its name is there. For each whose name is
+    /// there, it adds a fault at the end. The error is out of memory.
+    pub fn fold_named<T: Named + Drop>(
+        &self,
+        table: &mut Table<Name, Component<T>>,
+        nodes: &[Node<T>],
+        faults: &mut Items<Fault>,
+    ) -> Result<(), AllocError>
+        ensures added { OnOk result
+            (Lengthens distinct_entries table.old
+            (map (λ n. (T.name_of n.value, component self.now.origin n)) nodes.now) table.new) }
+        ensures faults { OnOk result
+            (FindsIn distinct_entries table.old (λ es.
+            collisions self.now.collection self.now.type_name.now (keys_of es)
+            (named_entries T.name_of nodes.now)) faults.old faults.new) }
+    {
+        make_room(table, nodes.len())?;
+        for node in nodes {
+            self.fold_entry(table, node, faults)?;
+        }
+        Ok(())
+    }
 }

@@ -1,5 +1,5 @@
 //! Kinds of types, from what definitions and extensions say.
-ghost use Rattle.std.specs.Prelude.{◌≡◌, List, [], ◌∷◌, ◌++◌, IfOk, IfErr, OnOk};
+ghost use Rattle.std.specs.Prelude.{◌≡◌, List, [], ◌∷◌, IfOk, IfErr, OnOk};
 ghost use Rattle.std.specs.Option.{option_copied};
 ghost use Rattle.graphql_nodes.specs.NodeView.{NodeView};
 ghost use Rattle.graphql_nodes.specs.declared.type_kind.TypeKind.{TypeKind};
@@ -13,17 +13,18 @@ ghost use Rattle.apollo_meaning.specs.Faults.TypeFaults.{part_faults};
 ghost use Rattle.apollo_folding.specs.DeclaredParts.{part_as};
 ghost use Rattle.apollo_folding.specs.Joins.{Extends, FindsJoining, JoinsOne, FindsOne};
 ghost use Rattle.apollo_folding.specs.KindParts.{IsOf};
+ghost use Rattle.apollo_folding.specs.Noting.{noting};
 ghost use Rattle.apollo_folding.specs.Refusals.{RefusedAs, SpentWith, after};
 
 use crate::builder_error::BuilderError;
-use apollo_component::extension::{ComponentOrigin, ExtensionSource};
+use crate::fold::Fold;
+use apollo_component::extension::ComponentOrigin;
 use apollo_meaning::build_error::Fault;
 use graphql_ast::declaration_ref::TypeDeclarationRef;
-use graphql_nodes::collections::hash_keys::HashKeys;
 use graphql_nodes::collections::items::Items;
 use graphql_nodes::node::Node;
 use graphql_nodes::node_str::NodeStr;
-use std::alloc::{AllocError, Global};
+use std::alloc::AllocError;
 
 /// A copy of the description of a declaration, if it has one. The error is out of memory.
 pub fn description_of(declaration: &TypeDeclarationRef<'_>) -> Result<Option<NodeStr>, AllocError>
@@ -46,13 +47,8 @@ pub trait Kind: Clone + Drop {
     /// The type of any kind that a node of this kind is.
     ghost wrapped: { NodeView Self → ExtendedType };
 
-    /// The type of a definition without its components, whose tables hash by these keys. The error is out of
-    /// memory.
-    fn bare(
-        alloc: Global,
-        keys: HashKeys,
-        head: &TypeDeclarationRef<'_>,
-    ) -> Result<Self, AllocError>
+    /// The type of a definition without its components. The error is out of memory.
+    fn bare(fold: &Fold, head: &TypeDeclarationRef<'_>) -> Result<Self, AllocError>
         ensures { IfOk result (λ ty. ty ≡ made (part_as kind head.now) []) };
 
     /// Folds the components of a declaration in under an origin, each unless it is there. For each that is
@@ -78,42 +74,42 @@ pub trait Kind: Clone + Drop {
         → wrapped node ≡ type_from head done → IsOf wrapped made head.kind head done node };
 }
 
-/// The type of a definition of this kind alone, at the definition's location. Components that are there
-/// already are left out, and their faults added at the end. The error is out of memory.
-pub fn type_of_definition<K: Kind>(
-    alloc: Global,
-    keys: HashKeys,
-    head: &TypeDeclarationRef<'_>,
-    faults: &mut Items<Fault>,
-) -> Result<Node<K>, AllocError>
-    ensures made { IfOk result (λ ty. let d = part_as K.kind head.now in
-        ty ≡ record { value = K.made d ((origins.Definition, d) ∷ []); location = d.location }) }
-    ensures faults { OnOk result (faults.new ≡ faults.old ++ part_faults [] (part_as K.kind head.now)) }
-{
-    let mut ty = K::bare(alloc, keys, head)?;
-    ty.fold(head, ComponentOrigin::Definition, faults)?;
-    Node::new_opt_location(alloc, ty, head.location)
-}
+impl Fold {
+    /// The type of a definition of this kind alone, at the definition's location. Components that are there
+    /// already are left out, and their faults added at the end. The error is out of memory.
+    pub(crate) fn type_of_definition<K: Kind>(
+        &mut self,
+        head: &TypeDeclarationRef<'_>,
+    ) -> Result<Node<K>, AllocError>
+        ensures made { IfOk result (λ ty. let d = part_as K.kind head.now in
+            ty ≡ record { value = K.made d ((origins.Definition, d) ∷ []); location = d.location }) }
+        ensures faults { OnOk result (self.new ≡ noting (part_faults [] (part_as K.kind head.now)) self.old) }
+    {
+        let mut ty = K::bare(self, head)?;
+        ty.fold(head, ComponentOrigin::Definition, &mut self.faults)?;
+        Node::new_opt_location(self.alloc, ty, head.location)
+    }
 
-/// Folds an extension, read as one of this kind, into a type of it, under the source's next identity.
-/// Components that are there already are left out, and their faults added at the end.
-///
-/// `Memory` is out of memory, and `ExtensionIds` that the source has no number left.
-pub(crate) fn extend_node<K: Kind>(
-    node: &mut Node<K>,
-    extension: &TypeDeclarationRef<'_>,
-    ids: &mut ExtensionSource,
-    faults: &mut Items<Fault>,
-) -> Result<(), BuilderError>
-    ensures folded { let part = part_as K.kind extension.now in
-        OnOk result (Extends (K.wrapped node.old) ids.old (part ∷ []) (K.wrapped node.new)) }
-    ensures faults { let part = part_as K.kind extension.now in
-        OnOk result (FindsJoining (K.wrapped node.old) (part ∷ []) faults.old faults.new) }
-    ensures next { OnOk result (ids.new ≡ after ids.old 1) }
-    ensures refused { IfErr result (λ error. RefusedAs error (SpentWith ids.old 1)) }
-{
-    let id = ids.draw(extension.location)?;
-    let ty = node.make_mut()?;
-    ty.fold(extension, ComponentOrigin::Extension(id), faults)?;
-    Ok(())
+    /// Folds an extension, read as one of this kind, into a type of it, under the source's next identity.
+    /// Components that are there already are left out, and their faults added at the end.
+    ///
+    /// `Memory` is out of memory, and `ExtensionIds` that the source has no number left.
+    pub(crate) fn extend_node<K: Kind>(
+        &mut self,
+        node: &mut Node<K>,
+        extension: &TypeDeclarationRef<'_>,
+    ) -> Result<(), BuilderError>
+        ensures folded { let part = part_as K.kind extension.now in
+            OnOk result (Extends (K.wrapped node.old) self.old.ids (part ∷ []) (K.wrapped node.new)) }
+        ensures faults { let part = part_as K.kind extension.now in
+            OnOk result
+            (FindsJoining (K.wrapped node.old) (part ∷ []) self.old.faults self.new.faults) }
+        ensures next { OnOk result (self.new.ids ≡ after self.old.ids 1) }
+        ensures refused { IfErr result (λ error. RefusedAs error (SpentWith self.old.ids 1)) }
+    {
+        let id = self.ids.draw(extension.location)?;
+        let ty = node.make_mut()?;
+        ty.fold(extension, ComponentOrigin::Extension(id), &mut self.faults)?;
+        Ok(())
+    }
 }

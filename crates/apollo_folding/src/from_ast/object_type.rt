@@ -5,7 +5,8 @@ ghost use Rattle.apollo_meaning.specs.Types.Meaning.{object_of};
 ghost use Rattle.apollo_types.specs.declared.extended_type.ExtendedType.TheVariants as types;
 ghost use Rattle.apollo_folding.specs.KindParts.{made_of};
 
-use crate::from_ast::folding::{fold_directives, fold_named, fold_names};
+use crate::fold::Fold;
+use crate::from_ast::folding::{Target, fold_directives};
 use crate::from_ast::kind::{Kind, description_of};
 use apollo_component::directive_list::DirectiveList;
 use apollo_component::extension::ComponentOrigin;
@@ -13,11 +14,10 @@ use apollo_meaning::build_error::Fault;
 use apollo_meaning::collision::Collection;
 use apollo_types::object_type::ObjectType;
 use graphql_ast::declaration_ref::TypeDeclarationRef;
-use graphql_nodes::collections::hash_keys::HashKeys;
 use graphql_nodes::collections::items::Items;
 use graphql_nodes::collections::key_set::KeySet;
 use graphql_nodes::collections::table::Table;
-use std::alloc::{AllocError, Global};
+use std::alloc::AllocError;
 
 impl Kind for ObjectType {
     ghost kind = { kinds.Object };
@@ -26,17 +26,13 @@ impl Kind for ObjectType {
 
     ghost wrapped = { types.Object };
 
-    fn bare(
-        alloc: Global,
-        keys: HashKeys,
-        head: &TypeDeclarationRef<'_>,
-    ) -> Result<Self, AllocError> {
+    fn bare(fold: &Fold, head: &TypeDeclarationRef<'_>) -> Result<Self, AllocError> {
         Ok(ObjectType {
             description: description_of(head)?,
             name: head.name.clone()?,
-            implements_interfaces: KeySet::with_keys(alloc, keys),
-            directives: DirectiveList::new(alloc),
-            fields: Table::with_keys(alloc, keys),
+            implements_interfaces: KeySet::with_keys(fold.alloc, fold.keys),
+            directives: DirectiveList::new(fold.alloc),
+            fields: Table::with_keys(fold.alloc, fold.keys),
         })
     }
 
@@ -47,22 +43,18 @@ impl Kind for ObjectType {
         faults: &mut Items<Fault>,
     ) -> Result<(), AllocError> {
         fold_directives(&mut self.directives, part.parts.directives, origin)?;
-        fold_names(
-            &mut self.implements_interfaces,
-            part.parts.names,
+        let interfaces = Target {
+            collection: Collection::ObjectInterfaces,
+            type_name: part.name,
             origin,
-            Collection::ObjectInterfaces,
-            part.name,
-            faults,
-        )?;
-        fold_named(
-            &mut self.fields,
-            part.parts.fields,
+        };
+        interfaces.fold_names(&mut self.implements_interfaces, part.parts.names, faults)?;
+        let fields = Target {
+            collection: Collection::ObjectFields,
+            type_name: part.name,
             origin,
-            Collection::ObjectFields,
-            part.name,
-            faults,
-        )?;
+        };
+        fields.fold_named(&mut self.fields, part.parts.fields, faults)?;
         Ok(())
     }
 

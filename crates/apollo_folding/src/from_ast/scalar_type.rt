@@ -5,6 +5,7 @@ ghost use Rattle.apollo_meaning.specs.Types.Meaning.{scalar_of};
 ghost use Rattle.apollo_types.specs.declared.extended_type.ExtendedType.TheVariants as types;
 ghost use Rattle.apollo_folding.specs.KindParts.{made_of};
 
+use crate::fold::Fold;
 use crate::from_ast::folding::fold_directives;
 use crate::from_ast::kind::{Kind, description_of};
 use apollo_component::directive_list::DirectiveList;
@@ -12,9 +13,8 @@ use apollo_component::extension::ComponentOrigin;
 use apollo_meaning::build_error::Fault;
 use apollo_types::scalar_type::ScalarType;
 use graphql_ast::declaration_ref::TypeDeclarationRef;
-use graphql_nodes::collections::hash_keys::HashKeys;
 use graphql_nodes::collections::items::Items;
-use std::alloc::{AllocError, Global};
+use std::alloc::AllocError;
 
 impl Kind for ScalarType {
     ghost kind = { kinds.Scalar };
@@ -23,15 +23,11 @@ impl Kind for ScalarType {
 
     ghost wrapped = { types.Scalar };
 
-    fn bare(
-        alloc: Global,
-        _keys: HashKeys,
-        head: &TypeDeclarationRef<'_>,
-    ) -> Result<Self, AllocError> {
+    fn bare(fold: &Fold, head: &TypeDeclarationRef<'_>) -> Result<Self, AllocError> {
         Ok(ScalarType {
             description: description_of(head)?,
             name: head.name.clone()?,
-            directives: DirectiveList::new(alloc),
+            directives: DirectiveList::new(fold.alloc),
         })
     }
 

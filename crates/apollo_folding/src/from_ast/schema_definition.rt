@@ -15,12 +15,14 @@ ghost use Rattle.apollo_folding.specs.RootTables.{NamedRoot, root_with_origin, w
 ghost use Rattle.apollo_folding.specs.RootTables.{dropped_root, held_fault, held_faults};
 ghost use Rattle.apollo_meaning.specs.Steps.Joining.{schema_numbered, schema_begun, schema_begun_faults};
 ghost use Rattle.apollo_meaning.specs.Steps.Joining.{schema_joining_faults};
+ghost use Rattle.apollo_folding.specs.Noting.{having_folded, noting};
 ghost use Rattle.apollo_folding.specs.Refusals.{RefusedAs, SpentWith, after};
 
 use crate::builder_error::BuilderError;
+use crate::fold::Fold;
 use crate::from_ast::folding::fold_directives;
 use apollo_component::component::ComponentName;
-use apollo_component::extension::{ComponentOrigin, ExtensionId, ExtensionSource};
+use apollo_component::extension::{ComponentOrigin, ExtensionId};
 use apollo_meaning::build_error::{BuildError, Fault};
 use apollo_types::schema_definition::SchemaDefinition;
 use graphql_ast::directive::Directive;
@@ -108,23 +110,6 @@ fn fold_roots(
     Ok(())
 }
 
-/// Folds the components of a definition or extension in.
-fn fold(
-    definition: &mut SchemaDefinition,
-    directives: &[Node<Directive>],
-    roots: &[Node<(OperationType, NamedType)>],
-    origin: ComponentOrigin,
-    faults: &mut Items<Fault>,
-) -> Result<(), AllocError>
-    ensures folded { OnOk result
-        (JoinsSchemaPart definition.old origin directives.now roots.now definition.new) }
-    ensures faults { OnOk result (FindsRoots definition.old roots.now faults.old faults.new) }
-{
-    fold_directives(&mut definition.directives, directives, origin)?;
-    fold_roots(definition, roots, origin, faults)?;
-    Ok(())
-}
-
 /// The schema definition of a definition without its components.
 fn bare(alloc: Global, definition: &ast::SchemaDefinition) -> Result<SchemaDefinition, AllocError>
     ensures { IfOk result (λ made. made
@@ -141,107 +126,131 @@ fn bare(alloc: Global, definition: &ast::SchemaDefinition) -> Result<SchemaDefin
     Ok(made)
 }
 
-/// The schema definition of a definition alone.
-fn schema_from_ast(
-    alloc: Global,
-    node: &Node<ast::SchemaDefinition>,
-    faults: &mut Items<Fault>,
-) -> Result<Node<SchemaDefinition>, AllocError>
-    ensures made { IfOk result (λ made. let head = schema_definition_part node.now in
-        made ≡ schema_from head ((origins.Definition, head) ∷ [])) }
-    ensures faults { OnOk result (faults.new
-        ≡ faults.old ++ schema_faults [] (schema_definition_part node.now)) }
-{
-    let mut definition = bare(alloc, node)?;
-    fold(
-        &mut definition,
-        node.directives.as_slice(),
-        node.root_operations.as_slice(),
-        ComponentOrigin::Definition,
-        faults,
-    )?;
-    let made = node.same_location(alloc, definition)?;
-    Ok(made)
-}
-
-/// Folds an extension of the schema in under the source's next identity (section 3.3.2). A root whose
-/// operation has one is left out, and its fault added at the end.
-///
-/// `Memory` is out of memory. `ExtensionIds` comes only where the source has no number left.
-pub fn extend_schema(
-    node: &mut Node<SchemaDefinition>,
-    extension: &Node<SchemaExtension>,
-    ids: &mut ExtensionSource,
-    faults: &mut Items<Fault>,
-) -> Result<(), BuilderError>
-    ensures folded { OnOk result
-        (Joins schema_from node.old (λ _.
-        schema_numbered (next_number ids.old) (schema_extension_part extension.now ∷ [])) node.new) }
-    ensures faults { OnOk result
-        (Finds schema_from node.old (λ _ parts. schema_faults parts (schema_extension_part extension.now))
-        faults.old faults.new) }
-    ensures next { OnOk result (ids.new ≡ after ids.old 1) }
-    ensures grows { next_number ids.old ≤ next_number ids.new }
-    ensures refused { IfErr result (λ error. RefusedAs error (SpentWith ids.old 1)) }
-{
-    let id = ExtensionId::new(ids, extension)?;
-    fold(
-        node.make_mut()?,
-        extension.directives.as_slice(),
-        extension.root_operations.as_slice(),
-        ComponentOrigin::Extension(id),
-        faults,
-    )?;
-    Ok(())
-}
-
-/// Folds extensions in, in order.
-fn extend_schema_by_all(
-    node: &mut Node<SchemaDefinition>,
-    extensions: &[Node<SchemaExtension>],
-    ids: &mut ExtensionSource,
-    faults: &mut Items<Fault>,
-) -> Result<(), BuilderError>
-    ensures folded { OnOk result
-        (Joins schema_from node.old (λ _.
-        schema_numbered (next_number ids.old) (map schema_extension_part extensions.now)) node.new) }
-    ensures faults { OnOk result
-        (Finds schema_from node.old (λ _ parts.
-        schema_joining_faults parts (map schema_extension_part extensions.now)) faults.old faults.new) }
-    ensures next { OnOk result (ids.new ≡ after ids.old (length extensions.now)) }
-    ensures grows { next_number ids.old ≤ next_number ids.new }
-    ensures refused { IfErr result (λ error. RefusedAs error (SpentWith ids.old (length extensions.now))) }
-{
-    for extension in extensions {
-        extend_schema(node, extension, ids, faults)?;
+impl Fold {
+    /// Folds the components of a definition or extension in.
+    fn fold_schema(
+        &mut self,
+        definition: &mut SchemaDefinition,
+        directives: &[Node<Directive>],
+        roots: &[Node<(OperationType, NamedType)>],
+        origin: ComponentOrigin,
+    ) -> Result<(), AllocError>
+        ensures folded { OnOk result
+            (JoinsSchemaPart definition.old origin directives.now roots.now definition.new) }
+        ensures faults { OnOk result (FindsRoots definition.old roots.now self.old.faults self.new.faults) }
+        ensures rest { self.new ≡ record self.old { faults = self.new.faults } }
+    {
+        fold_directives(&mut definition.directives, directives, origin)?;
+        fold_roots(definition, roots, origin, &mut self.faults)?;
+        Ok(())
     }
-    Ok(())
-}
 
-/// The schema definition of a definition with these extensions folded in, in order, as [`extend_schema`]
-/// does, at the location of the definition. The faults of the definition are added at the end, and then those
-/// of the extensions.
-///
-/// `Memory` is out of memory. `ExtensionIds` comes only where the source has fewer numbers left than there
-/// are extensions.
-pub fn begin_schema(
-    alloc: Global,
-    node: &Node<ast::SchemaDefinition>,
-    extensions: &[Node<SchemaExtension>],
-    ids: &mut ExtensionSource,
-    faults: &mut Items<Fault>,
-) -> Result<Node<SchemaDefinition>, BuilderError>
-    ensures made { IfOk result (λ made. made
-        ≡ schema_begun (next_number ids.old) (schema_definition_part node.now)
-        (map schema_extension_part extensions.now)) }
-    ensures faults { OnOk result (faults.new
-        ≡ faults.old
-        ++ schema_begun_faults (schema_definition_part node.now) (map schema_extension_part extensions.now)) }
-    ensures next { OnOk result (ids.new ≡ after ids.old (length extensions.now)) }
-    ensures grows { next_number ids.old ≤ next_number ids.new }
-    ensures refused { IfErr result (λ error. RefusedAs error (SpentWith ids.old (length extensions.now))) }
-{
-    let mut definition = schema_from_ast(alloc, node, faults)?;
-    extend_schema_by_all(&mut definition, extensions, ids, faults)?;
-    Ok(definition)
+    /// The schema definition of a definition alone.
+    fn schema_from_ast(
+        &mut self,
+        node: &Node<ast::SchemaDefinition>,
+    ) -> Result<Node<SchemaDefinition>, AllocError>
+        ensures made { IfOk result (λ made. let head = schema_definition_part node.now in
+            made ≡ schema_from head ((origins.Definition, head) ∷ [])) }
+        ensures faults { OnOk result (self.new
+            ≡ noting (schema_faults [] (schema_definition_part node.now)) self.old) }
+        ensures rest { self.new ≡ record self.old { faults = self.new.faults } }
+    {
+        let mut definition = bare(self.alloc, node)?;
+        self.fold_schema(
+            &mut definition,
+            node.directives.as_slice(),
+            node.root_operations.as_slice(),
+            ComponentOrigin::Definition,
+        )?;
+        let made = node.same_location(self.alloc, definition)?;
+        Ok(made)
+    }
+
+    /// Folds an extension of the schema in under the source's next identity (section 3.3.2). A root whose
+    /// operation has one is left out, and its fault added at the end.
+    ///
+    /// `Memory` is out of memory. `ExtensionIds` comes only where the source has no number left.
+    pub fn extend_schema(
+        &mut self,
+        node: &mut Node<SchemaDefinition>,
+        extension: &Node<SchemaExtension>,
+    ) -> Result<(), BuilderError>
+        ensures folded { OnOk result
+            (Joins schema_from node.old (λ _.
+            schema_numbered (next_number self.old.ids) (schema_extension_part extension.now ∷ []))
+            node.new) }
+        ensures faults { OnOk result
+            (Finds schema_from node.old (λ _ parts.
+            schema_faults parts (schema_extension_part extension.now)) self.old.faults self.new.faults) }
+        ensures next { OnOk result (self.new
+            ≡ record self.old { ids = after self.old.ids 1; faults = self.new.faults }) }
+        ensures grows { next_number self.old.ids ≤ next_number self.new.ids }
+        ensures refused { IfErr result (λ error. RefusedAs error (SpentWith self.old.ids 1)) }
+    {
+        let id = ExtensionId::new(&mut self.ids, extension)?;
+        self.fold_schema(
+            node.make_mut()?,
+            extension.directives.as_slice(),
+            extension.root_operations.as_slice(),
+            ComponentOrigin::Extension(id),
+        )?;
+        Ok(())
+    }
+
+    /// Folds extensions in, in order.
+    fn extend_schema_by_all(
+        &mut self,
+        node: &mut Node<SchemaDefinition>,
+        extensions: &[Node<SchemaExtension>],
+    ) -> Result<(), BuilderError>
+        ensures folded { OnOk result
+            (Joins schema_from node.old (λ _.
+            schema_numbered (next_number self.old.ids) (map schema_extension_part extensions.now))
+            node.new) }
+        ensures faults { OnOk result
+            (Finds schema_from node.old (λ _ parts.
+            schema_joining_faults parts (map schema_extension_part extensions.now)) self.old.faults
+            self.new.faults) }
+        ensures next { OnOk result (self.new
+            ≡ record self.old {
+              ids = after self.old.ids (length extensions.now);
+              faults = self.new.faults;
+            }) }
+        ensures grows { next_number self.old.ids ≤ next_number self.new.ids }
+        ensures refused { IfErr result (λ error.
+            RefusedAs error (SpentWith self.old.ids (length extensions.now))) }
+    {
+        for extension in extensions {
+            self.extend_schema(node, extension)?;
+        }
+        Ok(())
+    }
+
+    /// The schema definition of a definition with these extensions folded in, in order, as
+    /// [`extend_schema`](Fold::extend_schema) does, at the location of the definition. The faults of the
+    /// definition are added at the end, and then those of the extensions.
+    ///
+    /// `Memory` is out of memory. `ExtensionIds` comes only where the source has fewer numbers left than
+    /// there are extensions.
+    pub fn begin_schema(
+        &mut self,
+        node: &Node<ast::SchemaDefinition>,
+        extensions: &[Node<SchemaExtension>],
+    ) -> Result<Node<SchemaDefinition>, BuilderError>
+        ensures made { IfOk result (λ made. made
+            ≡ schema_begun (next_number self.old.ids) (schema_definition_part node.now)
+            (map schema_extension_part extensions.now)) }
+        ensures folded { OnOk result (self.new
+            ≡ having_folded (length extensions.now)
+            (schema_begun_faults (schema_definition_part node.now)
+            (map schema_extension_part extensions.now)) self.old) }
+        ensures grows { next_number self.old.ids ≤ next_number self.new.ids }
+        ensures refused { IfErr result (λ error.
+            RefusedAs error (SpentWith self.old.ids (length extensions.now))) }
+    {
+        let mut definition = self.schema_from_ast(node)?;
+        self.extend_schema_by_all(&mut definition, extensions)?;
+        Ok(definition)
+    }
 }

@@ -5,7 +5,8 @@ ghost use Rattle.apollo_meaning.specs.Types.Meaning.{union_of};
 ghost use Rattle.apollo_types.specs.declared.extended_type.ExtendedType.TheVariants as types;
 ghost use Rattle.apollo_folding.specs.KindParts.{made_of};
 
-use crate::from_ast::folding::{fold_directives, fold_names};
+use crate::fold::Fold;
+use crate::from_ast::folding::{Target, fold_directives};
 use crate::from_ast::kind::{Kind, description_of};
 use apollo_component::directive_list::DirectiveList;
 use apollo_component::extension::ComponentOrigin;
@@ -13,10 +14,9 @@ use apollo_meaning::build_error::Fault;
 use apollo_meaning::collision::Collection;
 use apollo_types::union_type::UnionType;
 use graphql_ast::declaration_ref::TypeDeclarationRef;
-use graphql_nodes::collections::hash_keys::HashKeys;
 use graphql_nodes::collections::items::Items;
 use graphql_nodes::collections::key_set::KeySet;
-use std::alloc::{AllocError, Global};
+use std::alloc::AllocError;
 
 impl Kind for UnionType {
     ghost kind = { kinds.Union };
@@ -25,16 +25,12 @@ impl Kind for UnionType {
 
     ghost wrapped = { types.Union };
 
-    fn bare(
-        alloc: Global,
-        keys: HashKeys,
-        head: &TypeDeclarationRef<'_>,
-    ) -> Result<Self, AllocError> {
+    fn bare(fold: &Fold, head: &TypeDeclarationRef<'_>) -> Result<Self, AllocError> {
         Ok(UnionType {
             description: description_of(head)?,
             name: head.name.clone()?,
-            directives: DirectiveList::new(alloc),
-            members: KeySet::with_keys(alloc, keys),
+            directives: DirectiveList::new(fold.alloc),
+            members: KeySet::with_keys(fold.alloc, fold.keys),
         })
     }
 
@@ -45,14 +41,12 @@ impl Kind for UnionType {
         faults: &mut Items<Fault>,
     ) -> Result<(), AllocError> {
         fold_directives(&mut self.directives, part.parts.directives, origin)?;
-        fold_names(
-            &mut self.members,
-            part.parts.names,
+        let members = Target {
+            collection: Collection::UnionMembers,
+            type_name: part.name,
             origin,
-            Collection::UnionMembers,
-            part.name,
-            faults,
-        )?;
+        };
+        members.fold_names(&mut self.members, part.parts.names, faults)?;
         Ok(())
     }
 

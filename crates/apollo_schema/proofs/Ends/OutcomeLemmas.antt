@@ -1,5 +1,6 @@
 -- What follows from how a build ended.
-use Rattle.apollo_meaning.proofs.Prelude.{◌≡◌, ℕ, ◌+◌, ◌≤◌, Result, List, ap, IfErr, arith, next_number, source_at, Fault, Ok, Err, IfOk, OnOk}
+use Rattle.apollo_meaning.proofs.Prelude.{◌≡◌, ℕ, ◌+◌, ◌≤◌, Result, List, ap, IfErr, arith, next_number}
+use Rattle.apollo_meaning.proofs.Prelude.{source_at, Fault, Ok, Err, IfOk, OnOk}
 use Rattle.apollo_component.specs.declared.extension.ExtensionSource.{ExtensionSource}
 use Rattle.apollo_schema.specs.declared.schema.Schema.{Schema}
 use Rattle.apollo_schema.specs.declared.build_failure.BuildFailure.{BuildFailure}
@@ -21,22 +22,28 @@ pub if_built : {P S R : Schema → Type 0} {Q : Type 0} (r : Result Schema Build
 if_built (Ok s) give means none from = give s means none from
 if_built (Err f) give means none from = tt
 
-if_faults : {P Q : Schema → List Fault → Type 0} (f : BuildFailure) → ((s : Schema) (es : List Fault) → P s es → Q s es) → IfFaults f P → IfFaults f Q
+if_faults : {P Q : Schema → List Fault → Type 0} (f : BuildFailure)
+    → ((s : Schema) (es : List Fault) → P s es → Q s es) → IfFaults f P → IfFaults f Q
 if_faults (failures.Faults w) give h = give w.partial w.errors.items h
 if_faults failures.Memory give h = tt
 if_faults failures.ExtensionIds give h = tt
 if_faults failures.Failed give h = tt
 
-pub if_err : {P Q : Schema → List Fault → Type 0} (r : Result Schema BuildFailure) → ((s : Schema) (es : List Fault) → P s es → Q s es) → IfErr r (λ f. IfFaults f P) → IfErr r (λ f. IfFaults f Q)
+pub if_err : {P Q : Schema → List Fault → Type 0} (r : Result Schema BuildFailure)
+    → ((s : Schema) (es : List Fault) → P s es → Q s es) → IfErr r (λ f. IfFaults f P)
+    → IfErr r (λ f. IfFaults f Q)
 if_err (Ok x) give h = tt
 if_err (Err f) give h = if_faults f give h
 
 -- a source that is so many numbers past the start is not below it
-pub past : (source : ExtensionSource) (start n : ℕ) → source ≡ source_at (start + n) → start ≤ next_number source
+pub past : (source : ExtensionSource) (start n : ℕ) → source ≡ source_at (start + n)
+    → start ≤ next_number source
 past source start n at = let is : next_number source ≡ start + n = ap next_number at in omega (arith, is)
 
 -- so it is however the build ended
-pub past-either : (r : Result Schema BuildFailure) (source : ExtensionSource) (start m n : ℕ) → (HasBuilt r → source ≡ source_at (start + m)) → (WasRefused r → source ≡ source_at (start + n)) → start ≤ next_number source
+pub past-either : (r : Result Schema BuildFailure) (source : ExtensionSource) (start m n : ℕ)
+    → (HasBuilt r → source ≡ source_at (start + m)) → (WasRefused r → source ≡ source_at (start + n))
+    → start ≤ next_number source
 past-either (Ok schema) source start m n built refused = past source start m (built tt)
 past-either (Err (failures.Faults w)) source start m n built refused = past source start m (built tt)
 past-either (Err failures.Memory) source start m n built refused = past source start n (refused tt)

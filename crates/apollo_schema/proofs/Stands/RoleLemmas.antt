@@ -1,5 +1,7 @@
 -- What a definition does that neither defines nor extends a type, and what the settings leave.
-use Rattle.apollo_meaning.proofs.Prelude.{◌≡◌, false, List, [], ◌∷◌, refl, sym, ap, ◌∙◌, arith, NodeView, Directives, directive_definitions, other_faults, Definition, Other, item_of, items_of, added, added_items, ◌⊎◌, inl, inr}
+use Rattle.apollo_meaning.proofs.Prelude.{◌≡◌, false, List, [], ◌∷◌, refl, sym, ap, ◌∙◌, arith, NodeView}
+use Rattle.apollo_meaning.proofs.Prelude.{Directives, directive_definitions, other_faults, Definition, Other}
+use Rattle.apollo_meaning.proofs.Prelude.{item_of, items_of, added, added_items, ◌⊎◌, inl, inr}
 use Rattle.graphql_ast.specs.Declarations.{OfSchema, declaration_of}
 use Rattle.graphql_ast.specs.DeclarationsSeen.{declaration_seen, schema_seen}
 use Rattle.graphql_ast.specs.Definitions.{definition_location}
@@ -20,12 +22,25 @@ use Rattle.apollo_folding.specs.DeclaredParts.{item_seen}
 use Rattle.apollo_folding.proofs.DeclarationLemmas.{item-seen}
 
 -- an operation or fragment is no directive definition, and at fault
-pub executable-other : (ds : Directives) (d : Definition) → ((n : NodeView OperationDefinition) × (d ≡ ast.OperationDefinition n)) ⊎ ((n : NodeView FragmentDefinition) × (d ≡ ast.FragmentDefinition n))
-    → (directive_definitions (Other d ∷ []) ≡ []) × (other_faults ds d ≡ (definition_location d, errors.ExecutableDefinition (definition_text d)) ∷ [])
-executable-other ds d (inl h) = (ap (λ d. directive_definitions (Other d ∷ [])) h.1, ap (other_faults ds) h.1 ∙ sym (ap (λ d. (definition_location d, errors.ExecutableDefinition (definition_text d)) ∷ []) h.1))
-executable-other ds d (inr h) = (ap (λ d. directive_definitions (Other d ∷ [])) h.1, ap (other_faults ds) h.1 ∙ sym (ap (λ d. (definition_location d, errors.ExecutableDefinition (definition_text d)) ∷ []) h.1))
+pub executable-other : (ds : Directives) (d : Definition)
+    → ((n : NodeView OperationDefinition) × (d ≡ ast.OperationDefinition n))
+    ⊎ ((n : NodeView FragmentDefinition) × (d ≡ ast.FragmentDefinition n))
+    → (directive_definitions (Other d ∷ []) ≡ []) × (other_faults ds d
+    ≡ (definition_location d, errors.ExecutableDefinition (definition_text d)) ∷ [])
+executable-other ds d (inl h) = (
+  ap (λ d. directive_definitions (Other d ∷ [])) h.1,
+  ap (other_faults ds) h.1
+      ∙ sym (ap (λ d. (definition_location d, errors.ExecutableDefinition (definition_text d)) ∷ []) h.1),
+)
+executable-other ds d (inr h) = (
+  ap (λ d. directive_definitions (Other d ∷ [])) h.1,
+  ap (other_faults ds) h.1
+      ∙ sym (ap (λ d. (definition_location d, errors.ExecutableDefinition (definition_text d)) ∷ []) h.1),
+)
 
-pub executable-item : (d : Definition) → ((n : NodeView OperationDefinition) × (d ≡ ast.OperationDefinition n)) ⊎ ((n : NodeView FragmentDefinition) × (d ≡ ast.FragmentDefinition n)) → item_of d ≡ Other d
+pub executable-item : (d : Definition)
+    → ((n : NodeView OperationDefinition) × (d ≡ ast.OperationDefinition n))
+    ⊎ ((n : NodeView FragmentDefinition) × (d ≡ ast.FragmentDefinition n)) → item_of d ≡ Other d
 executable-item d (inl h) = ap item_of h.1 ∙ sym (ap Other h.1)
 executable-item d (inr h) = ap item_of h.1 ∙ sym (ap Other h.1)
 
@@ -42,11 +57,11 @@ schema-is (ast.SchemaExtension n) s is undefined unextended = unextended n refl
 schema-is d s is undefined unextended = grind arith
 
 -- what declares neither a type nor the schema nor a directive is an operation or a fragment
-module _ (d : Definition)
-    (undefined : (n : NodeView SchemaDefinition) → d ≡ ast.SchemaDefinition n → ⊥)
-    (unextended : (n : NodeView SchemaExtension) → d ≡ ast.SchemaExtension n → ⊥)
-    (undirected : (n : NodeView DirectiveDefinition) → d ≡ ast.DirectiveDefinition n → ⊥) where
-  declared : (v : DeclarationRef) → declaration_seen v ≡ declaration_of d → (x : Definition) → item_seen v ≡ Other x → d ≡ x
+module _ (d : Definition) (undefined : (n : NodeView SchemaDefinition) → d ≡ ast.SchemaDefinition n
+    → ⊥) (unextended : (n : NodeView SchemaExtension) → d ≡ ast.SchemaExtension n
+    → ⊥) (undirected : (n : NodeView DirectiveDefinition) → d ≡ ast.DirectiveDefinition n → ⊥) where
+  declared : (v : DeclarationRef) → declaration_seen v ≡ declaration_of d → (x : Definition)
+      → item_seen v ≡ Other x → d ≡ x
   declared v sees x is = other-is d x (item-seen d v sees ∙ is)
 
   pub executable-seen : (v : DeclarationRef) → declaration_seen v ≡ declaration_of d
@@ -54,8 +69,10 @@ module _ (d : Definition)
       → ((n : NodeView OperationDefinition) × (d ≡ ast.OperationDefinition n))
       ⊎ ((n : NodeView FragmentDefinition) × (d ≡ ast.FragmentDefinition n))
   executable-seen (seen.Type t) sees untyped = absurd (untyped t refl)
-  executable-seen (seen.Schema s) sees untyped = absurd (schema-is d (schema_seen s) (sym sees) undefined unextended)
-  executable-seen (seen.Directive n) sees untyped = absurd (undirected n.now (declared (seen.Directive n) sees _ refl))
+  executable-seen (seen.Schema s) sees untyped =
+      absurd (schema-is d (schema_seen s) (sym sees) undefined unextended)
+  executable-seen (seen.Directive n) sees untyped =
+      absurd (undirected n.now (declared (seen.Directive n) sees _ refl))
   executable-seen (seen.Operation n) sees untyped = inl (n.now, declared (seen.Operation n) sees _ refl)
   executable-seen (seen.Fragment n) sees untyped = inr (n.now, declared (seen.Fragment n) sees _ refl)
 

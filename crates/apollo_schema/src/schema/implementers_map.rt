@@ -27,7 +27,6 @@ fn declared_interfaces(ty: &ExtendedType) -> &[ComponentName]
 /// Notes a name under an interface: that of an object type, or else of an interface type. The error is out of
 /// memory.
 fn note(
-    alloc: Global,
     map: &mut Table<Name, Implementers>,
     interface: &ComponentName,
     name: &Name,
@@ -39,6 +38,7 @@ fn note(
         implementers.add(name, is_object)?;
         return Ok(());
     }
+    let alloc = *map.as_index_map().allocator();
     let mut implementers = Implementers::with_keys(alloc, map.hash_keys());
     implementers.add(name, is_object)?;
     map.insert(interface.name.clone()?, implementers)?;
@@ -47,7 +47,6 @@ fn note(
 
 /// Notes the name of a type under each interface that the type declares. The error is out of memory.
 fn note_type(
-    alloc: Global,
     map: &mut Table<Name, Implementers>,
     name: &Name,
     ty: &ExtendedType,
@@ -57,7 +56,7 @@ fn note_type(
 {
     let interfaces = declared_interfaces(ty);
     for interface in interfaces {
-        note(alloc, map, interface, name, ty.is_object())?;
+        note(map, interface, name, ty.is_object())?;
     }
     Ok(())
 }
@@ -75,7 +74,7 @@ impl Schema {
     {
         let mut map = Table::with_keys(alloc, self.types.hash_keys());
         for (name, ty) in self.types.iter() {
-            note_type(alloc, &mut map, name, ty)?;
+            note_type(&mut map, name, ty)?;
         }
         Ok(map)
     }

@@ -21,10 +21,11 @@ use crate::tables::Tables;
 use apollo_component::extension::ExtensionSource;
 use apollo_folding::adoption::{adopted_definitions, implied_definition};
 use apollo_folding::builder_error::BuilderError;
-use apollo_folding::orphans::{note_orphans, note_schema_orphans};
+use apollo_folding::fold::Fold;
 use apollo_types::schema_definition::SchemaDefinition;
 use graphql_ast::type_system as ast;
 use graphql_nodes::node::Node;
+use graphql_nodes::source::SourceMap;
 use std::alloc::{AllocError, Global};
 
 impl Tables {
@@ -32,12 +33,11 @@ impl Tables {
     fn adopt(&mut self, adopts: bool) -> Result<(), BuilderError>
         ensures stands { OnOk result (Becomes self.old (with_adopted adopts) self.new) }
         ensures refused { IfErr result (λ error. RefusedAs error (SpentOn self.old (with_adopted adopts))) }
-        ensures sources { self.new.sources ≡ self.old.sources }
     {
         if !adopts {
             return Ok(());
         }
-        let definitions = adopted_definitions(self.alloc, &self.waiting)?;
+        let definitions = adopted_definitions(self.fold.alloc, &self.waiting)?;
         self.take(definitions.as_slice(), false)?;
         Ok(())
     }
@@ -54,7 +54,7 @@ impl Tables {
             return Ok(None);
         }
         let implied = implied_definition(
-            self.alloc,
+            self.fold.alloc,
             self.schema_extensions.as_slice(),
             &self.types,
             adopts,
@@ -68,12 +68,12 @@ impl Tables {
             → Ends start (implied_schema adopts xs) xs self.new) }
         ensures refused { IfErr result (λ error.
             RefusedAs error (SpentOn self.old (λ xs. xs ++ implied_schema adopts xs))) }
-        ensures sources { self.new.sources ≡ self.old.sources }
     {
         let implied = self.implied_schema(adopts)?;
-        note_orphans(&self.waiting, &mut self.faults)?;
+        self.fold.note_orphans(&self.waiting)?;
         let Some(node) = implied else {
-            note_schema_orphans(self.schema_extensions.as_slice(), &mut self.faults)?;
+            self.fold
+                .note_schema_orphans(self.schema_extensions.as_slice())?;
             return Ok(());
         };
         self.put_schema(&node)?;
@@ -85,7 +85,6 @@ impl Tables {
         ensures completes { OnOk result ((start : ℕ) (xs : List ListItem) → Stands start xs self.old
             → Completes start adopts xs self.new) }
         ensures refused { IfErr result (λ error. RefusedAs error (SpentOn self.old (completed adopts))) }
-        ensures sources { self.new.sources ≡ self.old.sources }
     {
         self.adopt(adopts)?;
         self.end(adopts)?;
@@ -118,32 +117,40 @@ fn refusal(error: BuilderError) -> BuildFailure
 }
 
 impl Tables {
-    /// What was built, and the source: the schema where nothing was found, or else what could be built beside
-    /// the faults. The error is out of memory, and puts the source back at this number.
-    fn into_schema(self, before: u64) -> (Result<Schema, BuildFailure>, ExtensionSource)
+    /// What was built, with these source files, and the source: the schema where nothing was found, or else
+    /// what could be built beside the faults. The error is out of memory, and puts the source back at this
+    /// number.
+    fn into_schema(
+        self,
+        sources: SourceMap,
+        before: u64,
+    ) -> (Result<Schema, BuildFailure>, ExtensionSource)
         ensures built { IfOk result.0 (λ schema.
             ForCompleted self (λ start adopts xs. MeansSchema start adopts xs schema)) }
         ensures faultless { OnOk result.0 (ForCompleted self (λ start adopts xs. faults_of adopts xs ≡ [])) }
         ensures faults { IfErr result.0 (λ failure.
             IfFaults failure (λ partial faults.
-            ForCompleted self (λ start adopts xs. IsPartOf start adopts xs self.sources partial faults))) }
-        ensures sources { IfOk result.0 (λ schema. schema.sources ≡ self.sources) }
+            ForCompleted self (λ start adopts xs. IsPartOf start adopts xs sources partial faults))) }
+        ensures sources { IfOk result.0 (λ schema. schema.sources ≡ sources) }
         ensures failed { result.0 ≢ Err BuildFailure.Failed }
         ensures unspent { result.0 ≢ Err BuildFailure.ExtensionIds }
-        ensures source { HasBuilt result.0 → result.1 ≡ self.ids }
+        ensures source { HasBuilt result.0 → result.1 ≡ self.fold.ids }
         ensures rolled_back { WasRefused result.0 → result.1 ≡ source_at before }
     {
         let Tables {
-            alloc,
-            sources,
             schema_definition,
             schema_extensions: _,
             types,
             directive_definitions,
             waiting: _,
+            fold,
+        } = self;
+        let Fold {
+            alloc,
+            keys: _,
             ids,
             faults,
-        } = self;
+        } = fold;
         let Ok(schema_definition) = definition_or_none(alloc, schema_definition) else {
             return (
                 Err(BuildFailure::Memory),
@@ -172,28 +179,32 @@ impl Tables {
         (Err(BuildFailure::Faults(found)), ids)
     }
 
-    /// Completes the list, and answers what was built, and the source. After a refusal that is the one from
-    /// before the call.
-    pub fn finish(self, adopts: bool) -> (Result<Schema, BuildFailure>, ExtensionSource)
+    /// Completes the list, and answers what was built, with these source files, and the source. After a
+    /// refusal that is the one from before the call.
+    pub fn finish(
+        self,
+        sources: SourceMap,
+        adopts: bool,
+    ) -> (Result<Schema, BuildFailure>, ExtensionSource)
         ensures built { IfOk result.0 (λ schema.
             ForLists self (λ start xs. MeansSchema start adopts xs schema)) }
         ensures faultless { OnOk result.0 (ForLists self (λ start xs. faults_of adopts xs ≡ [])) }
         ensures faults { IfErr result.0 (λ failure.
             IfFaults failure (λ partial faults.
-            ForLists self (λ start xs. IsPartOf start adopts xs self.sources partial faults))) }
-        ensures sources { IfOk result.0 (λ schema. schema.sources ≡ self.sources) }
+            ForLists self (λ start xs. IsPartOf start adopts xs sources partial faults))) }
+        ensures sources { IfOk result.0 (λ schema. schema.sources ≡ sources) }
         ensures failed { result.0 ≢ Err BuildFailure.Failed }
         ensures spent { result.0 ≡ Err BuildFailure.ExtensionIds
             → ForLists self (λ start xs. SpendsIds start adopts xs) }
         ensures source { HasBuilt result.0
             → ForLists self (λ start xs. result.1 ≡ source_at (start + folds adopts xs)) }
-        ensures rolled_back { WasRefused result.0 → result.1 ≡ self.ids }
+        ensures rolled_back { WasRefused result.0 → result.1 ≡ self.fold.ids }
         ensures not_below { ForLists self (λ start xs. start ≤ next_number result.1) }
     {
         let before = self.next_number();
         let mut tables = self;
         match tables.complete(adopts) {
-            Ok(()) => tables.into_schema(before),
+            Ok(()) => tables.into_schema(sources, before),
             Err(error) => (Err(refusal(error)), ExtensionSource::starting_at(before)),
         }
     }

@@ -2,7 +2,6 @@
 ghost use Rattle.std.specs.Prelude.{◌≡◌, OnOk};
 
 use super::Tables;
-use apollo_component::extension::ExtensionSource;
 use std::alloc::AllocError;
 
 /// Puts a copy of a value in the place of another.
@@ -14,12 +13,10 @@ fn copy_into<T: Clone + Drop>(target: &mut T, original: &T) -> Result<(), AllocE
 }
 
 impl Tables {
-    /// Takes over copies of all that others hold, but for their source.
+    /// Takes over copies of all that others hold, but for what they fold with.
     fn copy_from(&mut self, original: &Tables) -> Result<(), AllocError>
-        ensures { OnOk result (self.new
-            ≡ record original.now { alloc = self.old.alloc; ids = self.old.ids }) }
+        ensures { OnOk result (self.new ≡ record original.now { fold = self.old.fold }) }
     {
-        copy_into(&mut self.sources, &original.sources)?;
         copy_into(&mut self.schema_definition, &original.schema_definition)?;
         copy_into(&mut self.schema_extensions, &original.schema_extensions)?;
         copy_into(&mut self.types, &original.types)?;
@@ -28,7 +25,6 @@ impl Tables {
             &original.directive_definitions,
         )?;
         copy_into(&mut self.waiting, &original.waiting)?;
-        copy_into(&mut self.faults, &original.faults)?;
         Ok(())
     }
 }
@@ -38,8 +34,7 @@ impl Clone for Tables {
     ghost is_clone = { λ a b. b ≡ a };
 
     fn clone(&self) -> Result<Tables, AllocError> {
-        let ids = ExtensionSource::starting_at(self.ids.next_number());
-        let mut copy = Tables::new(self.alloc, self.types.hash_keys(), ids);
+        let mut copy = Tables::new(self.fold.clone()?);
         copy.copy_from(self)?;
         Ok(copy)
     }

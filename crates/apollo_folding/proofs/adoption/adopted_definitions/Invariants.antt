@@ -2,4 +2,5 @@ use Rattle.apollo_meaning.proofs.Prelude.{◌≡◌, map, flat_map, items_of, ex
 use Rattle.apollo_folding.proofs.adoption.adopted_definitions.Given as goal
 
 abbrev pub invariant-loop-extensions : goal.invariant-loop-extensions
-invariant-loop-extensions l = items_of l.adopted ≡ flat_map (λ held. adopted_by (extended_parts held)) (map (λ t. t.now) l.yielded)
+invariant-loop-extensions l = items_of l.adopted ≡ flat_map (λ held. adopted_by (extended_parts held))
+    (map (λ t. t.now) l.yielded)

@@ -1,6 +1,8 @@
-use Rattle.apollo_meaning.proofs.Prelude.{◌≡◌, ◌++◌, map, take, sym, ap, ◌∙◌, append_assoc, arith, take_all, component_name}
+use Rattle.apollo_meaning.proofs.Prelude.{◌≡◌, ◌++◌, map, take, sym, ap, ◌∙◌, append_assoc, arith, take_all}
+use Rattle.apollo_meaning.proofs.Prelude.{component_name}
 use Rattle.apollo_types.specs.SchemaRoots.{root_of}
-use Rattle.apollo_folding.specs.RootTables.{root_with_origin, first_named, with_roots, put_root, held_fault, held_faults}
+use Rattle.apollo_folding.specs.RootTables.{root_with_origin, first_named, with_roots, put_root, held_fault}
+use Rattle.apollo_folding.specs.RootTables.{held_faults}
 use Rattle.apollo_meaning.proofs.Faults.KeptLemmas.{map-turn}
 use Rattle.apollo_folding.proofs.RootLemmas.{put-first, root_of-first, held_faults-turn}
 use Rattle.apollo_folding.proofs.from_ast.schema_definition.fold_roots.Goals as goal
@@ -17,9 +19,7 @@ loop-root-preserved c =
     let before = c.args.faults.now in
     let was = c.loop-root.invariant in
     record {
-      named = λ base rs h.
-          c.in_ok-fold_root.ensures.named
-          ∙ ap (put_root op name) (was.named base rs h)
+      named = λ base rs h. c.in_ok-fold_root.ensures.named ∙ ap (put_root op name) (was.named base rs h)
           ∙ put-first base (rs ++ map f (take i xs)) op name
           ∙ ap (with_roots base) (sym (map-turn f rs xs i x (omega arith) c.root-item.is));
       faults = λ base rs h.
@@ -36,10 +36,12 @@ pub returns-clause-named : goal.returns-clause-named
 returns-clause-named c = λ base rs h.
     let xs = c.args.roots.now in
     let whole : take c.loop-root.root-index xs ≡ xs = take_all c.loop-root.root-index xs (omega arith) in
-    c.loop-root.invariant.named base rs h ∙ ap (λ l. with_roots base (rs ++ map (root_with_origin c.args.origin) l)) whole
+    c.loop-root.invariant.named base rs h
+    ∙ ap (λ l. with_roots base (rs ++ map (root_with_origin c.args.origin) l)) whole
 
 pub returns-clause-faults : goal.returns-clause-faults
 returns-clause-faults c = λ base rs h.
     let xs = c.args.roots.now in
     let whole : take c.loop-root.root-index xs ≡ xs = take_all c.loop-root.root-index xs (omega arith) in
-    c.loop-root.invariant.faults base rs h ∙ ap (λ l. c.args.faults.now ++ held_faults rs c.args.origin l) whole
+    c.loop-root.invariant.faults base rs h ∙ ap (λ l. c.args.faults.now ++ held_faults rs c.args.origin l)
+    whole

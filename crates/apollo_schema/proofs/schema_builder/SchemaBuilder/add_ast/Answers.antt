@@ -1,6 +1,5 @@
-use Rattle.apollo_meaning.proofs.Prelude.{◌≡◌, ◌+◌, ◌^◌, ◌≤◌, ℕ, List, ◌++◌, length, arith}
-use Rattle.apollo_meaning.proofs.Prelude.{sym, ap, subst, ◌∙◌}
-use Rattle.apollo_meaning.proofs.Prelude.{next_number, source_at, Added, Folding, ListItem, added}
+use Rattle.apollo_meaning.proofs.Prelude.{◌≡◌, ◌+◌, ◌^◌, ◌≤◌, ℕ, List, ◌++◌, length, arith, sym, ap, subst}
+use Rattle.apollo_meaning.proofs.Prelude.{◌∙◌, next_number, source_at, Added, Folding, ListItem, added}
 use Rattle.apollo_meaning.proofs.Prelude.{added_items, folding_order, folded}
 use Rattle.apollo_folding.specs.declared.builder_error.BuilderError.{BuilderError}
 use Rattle.apollo_folding.specs.declared.builder_error.BuilderError.TheVariants.{ExtensionIds}
@@ -17,7 +16,7 @@ pub invariant_of-self-2 : goal.invariant_of-self-2
 invariant_of-self-2 c =
     let b = c.self.inside in
     let more = added b.ignore_builtin_redefinitions c.args.document.now.definitions in
-    subst (λ (l : List ListItem). Stands b.first_number l c.take_document.new.self)
+    subst (λ (l : List ListItem). Stands b.first_number l c.take_document.new.self.tables)
     (more_items b.added.items more
     ∙ ap (λ (l : List Added). added_items (with_built_ins l)) (sym c.with-self-inside.ensures))
     (c.in_default-take_document.ensures.stands b.first_number (added_items (whole_list b))
@@ -45,7 +44,7 @@ returns-in-Err-clause-spent c = λ spent.
     let more = added b.ignore_builtin_redefinitions c.args.document.now.definitions in
     let is : c.in-Err.error ≡ ExtensionIds = cc in
     let reason = subst (λ (e : BuilderError). RefusedAs e ((start : ℕ) (xs : List ListItem)
-    → Stands start xs c.in-Open.tables → 2 ^ 64 ≤ start + length (folded (xs ++ added_items more))))
+    → Stands start xs c.in-Open.held.tables → 2 ^ 64 ≤ start + length (folded (xs ++ added_items more))))
     is c.in-Err.ensures.refused in
     subst (λ (b : Building). SpendsSoFar (with_document c.args.document.now b))
     (seen-as b c.in-Open.is c.self.view_is)
@@ -60,7 +59,7 @@ returns-clause-unspent c = λ spends.
     let stands = c.in_default-take_document.ensures.stands b.first_number (added_items (whole_list b))
     (holds-as b c.in-Open.is c.self.invariant) in
     let all = folding_order (added_items (whole_list b ++ more)) in
-    let left : next_number c.take_document.new.self.ids ≡ b.first_number + length all =
+    let left : next_number c.take_document.new.self.tables.fold.ids ≡ b.first_number + length all =
     ap next_number stands.next ∙ folds_with b.first_number (whole_list b) more in
     let spent : 2 ^ 64 ≤ b.first_number + length all =
     subst (λ (b : Building). SpendsSoFar (with_document c.args.document.now b))

@@ -1,5 +1,5 @@
-use Rattle.apollo_meaning.proofs.Prelude.{◌≡◌, false, List, [], sym, ap, subst, ◌∙◌, append-nil}
-use Rattle.apollo_meaning.proofs.Prelude.{next_number, Added, added, added_items}
+use Rattle.apollo_meaning.proofs.Prelude.{◌≡◌, false, List, [], sym, ap, subst, ◌∙◌, append-nil, next_number}
+use Rattle.apollo_meaning.proofs.Prelude.{Added, added, added_items}
 use Rattle.apollo_meaning.specs.BuiltInTable.{built_in_definitions}
 use Rattle.apollo_schema.specs.BuilderStands.{Open, with_built_ins}
 use Rattle.apollo_schema.specs.Stands.{Stands}
@@ -15,12 +15,12 @@ invariant_of-result c =
     subst (λ n. Stands n (added_items (with_built_ins c.none.result.items)) tables)
     (sym c.next_number-first_number.ensures)
     (subst (λ (l : List Added). Stands (next_number c.args.source) (added_items l) tables)
-    (sym (none_more c.none.result.items c.none.ensures)) c.in_ok-tables.ensures.stands)
+    (sym (none_more c.none.result.items c.none.ensures)) c.in_ok-tables.ensures)
 
 pub returns : goal.returns
 returns c = λ i. record {
   start = c.next_number-first_number.ensures i;
   adopts = false;
   ignores = false;
-  standing = Open (none_more c.none.result.items c.none.ensures i) (c.in_ok-tables.ensures.sources i);
+  standing = Open (none_more c.none.result.items c.none.ensures i) (c.with_keys-sources.ensures i);
 }

@@ -10,17 +10,20 @@ returns-in_err-adopt-clause-refused c =
     rw (exit.1, exit.2) (RefusedAs-weaker c.in_err-adopt.field-0.0 _ _ (λ full start xs was.
     let ys = with_adopted c.args.adopts xs in
     let some = full start xs was in
-    omega (arith, some, length-folded-front ys (implied_schema c.args.adopts ys))) c.in_err-adopt.ensures.refused)
+    omega (arith, some, length-folded-front ys (implied_schema c.args.adopts ys)))
+    c.in_err-adopt.ensures.refused)
 
 pub returns-in_err-end-clause-refused : goal.returns-in_err-end-clause-refused
 returns-in_err-end-clause-refused c =
     let exit = err_from_is_err_and c.from_residual-in_err-end.result c.from_residual-in_err-end.ensures.1 in
-    rw (exit.1, exit.2) (RefusedAs-weaker c.in_err-end.field-0.0 _ _ (λ full start xs was.
-    full start (with_adopted c.args.adopts xs) (c.in_ok-adopt.ensures.stands start xs was)) c.in_err-end.ensures.refused)
+    rw (exit.1, exit.2) (RefusedAs-weaker c.in_err-end.field-0.0 _ _ (λ full start xs was. full start
+    (with_adopted c.args.adopts xs) (c.in_ok-adopt.ensures.stands start xs was))
+    c.in_err-end.ensures.refused)
 
 pub returns-clause-completes : goal.returns-clause-completes
 returns-clause-completes c = λ start xs was.
-    let ended = c.in_ok-end.ensures.ends start (with_adopted c.args.adopts xs) (c.in_ok-adopt.ensures.stands start xs was) in
+    let ended = c.in_ok-end.ensures.ends start (with_adopted c.args.adopts xs) (c.in_ok-adopt.ensures.stands
+    start xs was) in
     record {
       definition = ended.definition;
       types = ended.types;

@@ -1,10 +1,8 @@
-use Rattle.apollo_meaning.proofs.Prelude.{◌≡◌, ℕ, List, ◌++◌, take, ListItem, added, added_items}
+use Rattle.apollo_meaning.proofs.Prelude.{ℕ, List, ◌++◌, take, ListItem, added, added_items}
 use Rattle.apollo_schema.specs.Stands.{Stands}
 use Rattle.apollo_schema.proofs.tables.Tables.take.Given as goal
 
 abbrev pub invariant-loop-definition : goal.invariant-loop-definition
 invariant-loop-definition l =
-    record {
-      stands : (start : ℕ) (xs : List ListItem) → Stands start xs l.fn.self → Stands start (xs ++ added_items (added l.ignores (take l.definition-index l.definitions))) l.self;
-      sources : l.self.sources ≡ l.fn.self.sources;
-    }
+    let taken = added_items (added l.ignores (take l.definition-index l.definitions)) in
+    (start : ℕ) (xs : List ListItem) → Stands start xs l.fn.self → Stands start (xs ++ taken) l.self

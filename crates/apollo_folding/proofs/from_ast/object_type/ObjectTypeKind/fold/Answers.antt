@@ -2,7 +2,8 @@ use Rattle.apollo_meaning.proofs.Prelude.{◌∙◌, flat_map}
 use Rattle.graphql_nodes.specs.declared.type_kind.TypeKind.TheVariants as kinds
 use Rattle.apollo_meaning.specs.declared.collision.Collection.TheVariants as collections
 use Rattle.apollo_folding.specs.DeclaredParts.{part_as}
-use Rattle.apollo_folding.proofs.PartNames.{names_of, fields_of, names-joined, fields-joined, found-before, found-last}
+use Rattle.apollo_folding.proofs.PartNames.{names_of, fields_of, names-joined, fields-joined, found-before}
+use Rattle.apollo_folding.proofs.PartNames.{found-last}
 use Rattle.apollo_folding.proofs.from_ast.object_type.ObjectTypeKind.fold.Goals as goal
 
 pub returns-clause-faults : goal.returns-clause-faults

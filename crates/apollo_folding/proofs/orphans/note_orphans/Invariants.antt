@@ -1,5 +1,0 @@
-use Rattle.apollo_meaning.proofs.Prelude.{◌≡◌, ◌++◌, map, flat_map, extended_parts, orphan}
-use Rattle.apollo_folding.proofs.orphans.note_orphans.Given as goal
-
-abbrev pub invariant-loop-extensions : goal.invariant-loop-extensions
-invariant-loop-extensions l = l.faults ≡ l.fn.faults ++ map orphan (flat_map extended_parts (map (λ t. t.now) l.yielded))
