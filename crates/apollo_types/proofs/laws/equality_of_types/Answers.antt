@@ -1,5 +1,6 @@
 use Rattle.graphql_nodes.proofs.TableEquality.{tables_of_names}
-use Rattle.apollo_types.proofs.TypeEquality.{scalars, objects, interfaces, unions, enums, input_objects, extended_types}
+use Rattle.apollo_types.proofs.TypeEquality.{scalars, objects, interfaces, unions, enums, input_objects}
+use Rattle.apollo_types.proofs.TypeEquality.{extended_types}
 use Rattle.apollo_types.proofs.laws.equality_of_types.Goals as goal
 
 pub returns-clause-scalar_type : goal.returns-clause-scalar_type

@@ -5,22 +5,29 @@ use Rattle.apollo_types.proofs.schema_definition.SchemaDefinitionClone.clone.Goa
 -- p is a clone of o, where clones are the same
 abbrev IsClone : {T : Type 0} → Option T → Option T → Type 0
 IsClone None None = Unit {0}
-IsClone None (Some y) = ⊥
-IsClone (Some x) None = ⊥
 IsClone (Some x) (Some y) = y ≡ x
+IsClone _ _ = ⊥
 
 same : {T : Type 0} (o p : Option T) → IsClone o p → p ≡ o
 same None None h = refl
-same None (Some y) h = elim h [ ]
-same (Some x) None h = elim h [ ]
 same (Some x) (Some y) h = ap Some h
+same o p h = absurd h
 
 pub returns : goal.returns
 returns c =
     let t = c.args.self.now in
-    let d : c.in_ok-clone.field-0 ≡ t.description = same t.description c.in_ok-clone.field-0 c.in_ok-clone.ensures.cases in
-    let q : c.in_ok-clone-3.field-0 ≡ t.query = same t.query c.in_ok-clone-3.field-0 c.in_ok-clone-3.ensures.cases in
-    let m : c.in_ok-clone-4.field-0 ≡ t.mutation = same t.mutation c.in_ok-clone-4.field-0 c.in_ok-clone-4.ensures.cases in
-    let s : c.in_ok-clone-5.field-0 ≡ t.subscription = same t.subscription c.in_ok-clone-5.field-0 c.in_ok-clone-5.ensures.cases in
-    let l : c.in_ok-clone-2.field-0.0 ≡ t.directives.0 = same_from_all_zip _ t.directives.0 c.in_ok-clone-2.field-0.0 c.in_ok-clone-2.ensures.cases (λ x y e. e) in
-    record { cases = λ i. record { description = d i; directives = record { 0 = l i }; query = q i; mutation = m i; subscription = s i } }
+    let d : c.in_ok-clone.field-0 ≡ t.description = same _ _ c.in_ok-clone.ensures.cases in
+    let l : c.in_ok-clone-2.field-0.0 ≡ t.directives.0 =
+    same_from_all_zip _ _ _ c.in_ok-clone-2.ensures.cases (λ x y e. e) in
+    let q : c.in_ok-clone-3.field-0 ≡ t.query = same _ _ c.in_ok-clone-3.ensures.cases in
+    let m : c.in_ok-clone-4.field-0 ≡ t.mutation = same _ _ c.in_ok-clone-4.ensures.cases in
+    let s : c.in_ok-clone-5.field-0 ≡ t.subscription = same _ _ c.in_ok-clone-5.ensures.cases in
+    record {
+      cases = λ i. record {
+        description = d i;
+        directives = record { 0 = l i };
+        query = q i;
+        mutation = m i;
+        subscription = s i;
+      };
+    }
