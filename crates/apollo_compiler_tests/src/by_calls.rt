@@ -5,7 +5,7 @@ use crate::compiling::{PLAIN, expect_told, told, told_of_both};
 use crate::making::{marked, name, products, unchecked_fragment, unchecked_names};
 use apollo_compiler::{CompileError, HashKeys, build_schema};
 use apollo_coordinate::coordinates::TypeCoordinate;
-use bench_notation::reading::read;
+use bench_notation::documents::read;
 use bench_notation::refusal::ReadError;
 use graphql_ast::Document;
 use likeness::{both, is_printed};

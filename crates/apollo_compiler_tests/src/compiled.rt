@@ -5,7 +5,7 @@ use apollo_compiler::{
     Compiled, Definition, HashKeys, build_executable_document, build_schema, compile,
     compile_with_keys,
 };
-use bench_notation::reading::read_divided;
+use bench_notation::documents::read_divided;
 use bench_notation::refusal::ReadError;
 use std::alloc::{AllocError, Global};
 use std::test::Fail;

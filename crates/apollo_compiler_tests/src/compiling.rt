@@ -2,8 +2,8 @@
 //! prove.
 
 use apollo_compiler::{CompileOptions, Compiled, Document, ExecutableOptions, compile};
+use bench_notation::documents::read;
 use bench_notation::printing::print;
-use bench_notation::reading::read;
 use bench_notation::refusal::ReadError;
 use likeness::both;
 use std::alloc::{AllocError, Global};

@@ -5,8 +5,8 @@
 use crate::compiling::PLAIN;
 use crate::texts::read;
 use apollo_compiler::{Compiled, Document, FileId, compile};
+use bench_notation::documents::read_divided;
 use bench_notation::printing::print;
-use bench_notation::reading::read_divided;
 use std::alloc::{AllocError, Global};
 use std::process::Abort;
 

@@ -2,7 +2,7 @@
 
 use crate::compiling::PLAIN;
 use apollo_compiler::{CompileOptions, Document, HashKeys, build_schema, compile_with_keys};
-use bench_notation::reading::read_divided;
+use bench_notation::documents::read_divided;
 use bench_notation::refusal::ReadError;
 use graphql_nodes::collections::shared::Shared;
 use graphql_nodes::source::{FileId, SourceFile};

@@ -6,6 +6,6 @@ mod conversions;
 #[cfg(test)]
 mod equality;
 #[cfg(test)]
-mod lookups;
+mod forms;
 #[cfg(test)]
-mod reading;
+mod lookups;

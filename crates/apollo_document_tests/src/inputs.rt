@@ -2,7 +2,7 @@
 
 use apollo_schema::schema::Schema;
 use apollo_schema::schema_builder::SchemaBuilder;
-use bench_notation::reading::{DividedDocuments, read_divided};
+use bench_notation::documents::{DividedDocuments, read_divided};
 use graphql_ast::document::Document;
 use std::alloc::{AllocError, Global};
 use std::process::Abort;

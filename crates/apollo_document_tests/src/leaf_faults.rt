@@ -112,18 +112,18 @@ fn without_a_schema_types_are_unknown(rt: HostRuntime) -> Result<(), Fail> {
     expect(&rt, &account, &UNKNOWN)
 }
 
-const AT_HAND: [(&str, &str); 1] = [(
+const GIVEN: [(&str, &str); 1] = [(
     "def object Query\nfield user User\ndef object User\n===\noperation query -\nsel 0 field user\nsel 0 field __schema\n",
     "`user`: a field of object, interface or union type must have subselections\n`__schema`: a field of object, interface or union type must have subselections\nelsewhere:\n`__schema`: a field of object, interface or union type must have subselections\n",
 )];
 
 #[test]
-fn types_are_those_of_the_schema_at_hand(rt: HostRuntime) -> Result<(), Fail> {
+fn types_are_those_of_the_schema_given(rt: HostRuntime) -> Result<(), Fail> {
     let account = Built {
         is_over: true,
         view: Leaves,
     };
-    expect(&rt, &account, &AT_HAND)
+    expect(&rt, &account, &GIVEN)
 }
 
 /// The leaf faults of a document with their places, and whether its build dropped something that was selected

@@ -6,7 +6,7 @@ use apollo_executable::{
     SelectionSet,
 };
 use apollo_schema::schema::Schema;
-use bench_notation::reading::read;
+use bench_notation::documents::read;
 use graphql_ast::directive::{Argument, Directive, DirectiveList};
 use graphql_ast::value::Value;
 use graphql_nodes::collections::items::Items;

@@ -3,7 +3,7 @@
 use crate::building::{PLAIN, Settings, add_all, builder_with, expect};
 use apollo_component::extension::IdsSpent;
 use apollo_folding::builder_error::BuilderError;
-use bench_notation::reading::read;
+use bench_notation::documents::read;
 
 #[test]
 fn second_roots_second_definitions_and_lone_extensions_of_schemas_are_faults(rt: HostRuntime) {

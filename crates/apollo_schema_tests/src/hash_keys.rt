@@ -4,7 +4,7 @@ use crate::building::{Built, add_all, push_built, schema_in};
 use apollo_component::extension::ExtensionSource;
 use apollo_schema::build_failure::BuildFailure;
 use apollo_schema::schema_builder::SchemaBuilder;
-use bench_notation::reading::read;
+use bench_notation::documents::read;
 use graphql_nodes::collections::hash_keys::HashKeys;
 use std::alloc::{AllocError, Global};
 use std::process::Abort;

@@ -3,7 +3,7 @@
 
 use crate::building::{ADOPTING, PLAIN, Settings, built_of, is_built_of, schema_in};
 use apollo_schema::build_failure::BuildFailure;
-use bench_notation::reading::read;
+use bench_notation::documents::read;
 use graphql_ast::document::Document;
 use likeness::push_copy;
 use std::alloc::{AllocError, Global};

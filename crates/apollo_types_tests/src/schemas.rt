@@ -3,7 +3,7 @@
 use apollo_schema::schema::Schema;
 use apollo_schema::schema_builder::SchemaBuilder;
 use apollo_types::extended_type::ExtendedType;
-use bench_notation::reading::read;
+use bench_notation::documents::read;
 use graphql_ast::document::Document;
 use std::alloc::{AllocError, Global};
 

@@ -6,13 +6,13 @@ use Rattle.graphql_ast.specs.declared.definition.Definition.{Definition}
 use Rattle.graphql_ast.specs.declared.document.Document.{Document}
 use Rattle.bench_notation.specs.declared.above.Above.{Above}
 use Rattle.bench_notation.specs.declared.above.Position.{Position}
-use Rattle.bench_notation.specs.declared.reading.Division.{Division}
-use Rattle.bench_notation.specs.declared.reading.Division.TheVariants as v
+use Rattle.bench_notation.specs.declared.documents.Division.{Division}
+use Rattle.bench_notation.specs.declared.documents.Division.TheVariants as v
 use Rattle.bench_notation.specs.declared.above.Above.TheVariants as a
 use Rattle.bench_notation.specs.declared.line.Line.{Line}
 use Rattle.bench_notation.specs.declared.line.Line.TheVariants as l
 use Rattle.bench_notation.specs.declared.item.OpenItem.{OpenItem}
-use Rattle.bench_notation.specs.declared.reading.DocumentReader.{DocumentReader}
+use Rattle.bench_notation.specs.declared.documents.DocumentReader.{DocumentReader}
 use Rattle.bench_notation.specs.Components.{above_below, header_alone, whole_item, with_component}
 use Rattle.bench_notation.specs.declared.refusal.RefusedLine.{RefusedLine}
 use Rattle.bench_notation.specs.declared.refusal.ReadError.{ReadError}

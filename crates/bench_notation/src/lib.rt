@@ -1,6 +1,6 @@
 //! The bench notation: a line notation for GraphQL documents, which has no GraphQL text in it.
 //!
-//! [`read`](reading::read) makes documents of a text, and [`print`](printing::print) makes a text of
+//! [`read`](documents::read) makes documents of a text, and [`print`](printing::print) makes a text of
 //! definitions.
 //!
 //! Proved: what is read is what the lines say; no line that could be read is refused; printing is exact.
@@ -13,6 +13,7 @@
 
 pub mod above;
 mod directive_parts;
+pub mod documents;
 pub mod executable_header;
 mod executable_line;
 mod item;
@@ -25,7 +26,6 @@ mod nesting;
 mod nodes;
 mod open_field;
 pub mod printing;
-pub mod reading;
 pub mod refusal;
 pub mod selection_line;
 pub mod selection_printing;

@@ -13,7 +13,7 @@ use apollo_document::Faults as DocumentFaults;
 use apollo_executable::document::ExecutableDocument;
 use apollo_meaning::build_error::Faults as SchemaFaults;
 use apollo_schema::schema::Schema;
-use bench_notation::reading::{DividedDocuments, read, read_divided};
+use bench_notation::documents::{DividedDocuments, read, read_divided};
 use gqlbench_counts::questions::{Question, field_questions, subtype_questions};
 use gqltool_run::failure::Failure as InputFailure;
 use graphql_ast::document::Document;

@@ -11,7 +11,7 @@ use apollo_compiler::compiled::Compiled;
 use apollo_compiler::compiling::compile_with_keys;
 use apollo_executable::document::ExecutableDocument;
 use apollo_schema::schema::Schema;
-use bench_notation::reading::DividedDocuments;
+use bench_notation::documents::DividedDocuments;
 use gqlbench_counts::questions::{count_fields, count_subtypes};
 use gqlbench_counts::walked::count_walked;
 use graphql_ast::definition::Definition;

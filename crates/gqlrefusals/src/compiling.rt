@@ -1,7 +1,7 @@
 //! Documents that are compiled in one call: `compile`.
 
 use apollo_compiler::{CompileError, CompileOptions, Compiled, Document, compile};
-use bench_notation::reading::{read, read_divided};
+use bench_notation::documents::{read, read_divided};
 use gqlrefusals_schemas::inputs::Input;
 use gqlrefusals_values::stop::{Stop, Told};
 use std::alloc::{AllocError, Global};

@@ -7,7 +7,7 @@ use apollo_document::field_set::FieldSet;
 use apollo_executable::ExecutableDocument;
 use apollo_folding::builder_error::BuilderError;
 use apollo_schema::schema::Schema;
-use bench_notation::reading::read_divided;
+use bench_notation::documents::read_divided;
 use gqlrefusals_schemas::builders::schema_of;
 use gqlrefusals_schemas::inputs::Input;
 use gqlrefusals_values::stop::{Stop, Told, expect, tell_line, tell_made};

@@ -6,7 +6,7 @@ use apollo_folding::builder_error::BuilderError;
 use apollo_schema::build_failure::{BuildFailure, WithErrors};
 use apollo_schema::schema::Schema;
 use apollo_schema::schema_builder::SchemaBuilder;
-use bench_notation::reading::read;
+use bench_notation::documents::read;
 use gqlrefusals_values::stop::{Stop, Told, expect};
 use graphql_ast::document::Document;
 use std::alloc::{AllocError, Global};

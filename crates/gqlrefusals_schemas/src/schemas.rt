@@ -9,7 +9,7 @@ use apollo_schema::schema::Schema;
 use apollo_types::extended_type::ExtendedType;
 use apollo_types::extensible::Extensible;
 use apollo_types::type_of_kind::TypeOfKind;
-use bench_notation::reading::read;
+use bench_notation::documents::read;
 use gqlrefusals_values::stop::{Told, tell_line, tell_made};
 use graphql_ast::definition::Definition;
 use graphql_nodes::collections::key_set::KeySet;

@@ -20,18 +20,18 @@ use crate::walk_command::whole_walk_answer;
 use apollo_coordinate::laws::coordinates;
 use graphql_nodes::collections::hash_keys::HashKeys;
 use program_io::input::Input;
-use program_io::reading::read_text;
+use program_io::texts::read_text;
 use std::alloc::Global;
 
 /// The answer to these words and all that there is to read.
 ///
 /// `Usage` and `NoCoordinate` come for words that [`read_task`] refuses, and nothing is read then.
 /// `CannotRead` comes where the input can't be read as a text: of
-/// [`BytesAtHand`](program_io::input::BytesAtHand) only where it isn't UTF-8. `RefusedLine` names the first
-/// line of it that says nothing where it stands, and `NoDivision` that none divides it, for `doc`, `walk` and
-/// `leaf`. `ExtensionIds` comes only where the numbers don't suffice for the extensions of the input.
-/// `Memory` is out of memory, and says nothing of the words or the input. There is no other error. What was
-/// built is left to the end of the process.
+/// [`BytesInMemory`](program_io::input::BytesInMemory) only where it isn't UTF-8. `RefusedLine` names the
+/// first line of it that says nothing where it stands, and `NoDivision` that none divides it, for `doc`,
+/// `walk` and `leaf`. `ExtensionIds` comes only where the numbers don't suffice for the extensions of the
+/// input. `Memory` is out of memory, and says nothing of the words or the input. There is no other error.
+/// What was built is left to the end of the process.
 pub fn answer_to<R: Input>(
     alloc: Global,
     keys: HashKeys,

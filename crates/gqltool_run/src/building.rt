@@ -12,7 +12,7 @@ use apollo_compiler::compiled::Compiled;
 use apollo_compiler::compiling::compile_with_keys;
 use apollo_meaning::build_error::Faults;
 use apollo_schema::schema::Schema;
-use bench_notation::reading::read;
+use bench_notation::documents::read;
 use graphql_nodes::collections::hash_keys::HashKeys;
 use std::alloc::Global;
 

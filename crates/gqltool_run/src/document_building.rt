@@ -9,7 +9,7 @@ use crate::leaving::leave_to_exit;
 use apollo_compiler::compile_options::CompileOptions;
 use apollo_compiler::compiled::Compiled;
 use apollo_compiler::compiling::compile_with_keys;
-use bench_notation::reading::read_divided;
+use bench_notation::documents::read_divided;
 use graphql_nodes::collections::hash_keys::HashKeys;
 use std::alloc::Global;
 

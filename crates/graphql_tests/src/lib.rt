@@ -16,9 +16,9 @@ mod definitions;
 #[cfg(test)]
 mod documents;
 #[cfg(test)]
-mod parts;
+mod notation;
 #[cfg(test)]
-mod reading;
+mod parts;
 #[cfg(test)]
 mod selections;
 #[cfg(test)]

@@ -12,7 +12,7 @@ use crate::failure::Failure;
 use crate::naming::names_input;
 use graphql_nodes::collections::hash_keys::HashKeys;
 use graphql_nodes::visible_text::visible;
-use peglinden_words::reading::read_words;
+use peglinden_words::command_line::read_words;
 use peglinden_words::request::Request;
 use peglinden_words::words_error::WordsError;
 use program_io::files::Files;

@@ -3,7 +3,7 @@
 use crate::rows::{FILES, Row, ended, expect};
 use graphql_nodes::collections::hash_keys::HashKeys;
 use peglinden_run::running::run;
-use program_io::at_hand::FilesAtHand;
+use program_io::in_memory::FilesInMemory;
 use program_io::status::Status;
 use std::io::{self, Error, ErrorKind, Read};
 
@@ -94,7 +94,7 @@ fn standard_input_fails(rt: HostRuntime) {
         rt.alloc(),
         HashKeys::FIXED,
         &["format", "nowhere.graphql", "-"],
-        &FilesAtHand(&FILES),
+        &FilesInMemory(&FILES),
         &mut ClosedReader,
         &mut output,
         &mut errors,

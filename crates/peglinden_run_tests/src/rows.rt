@@ -3,8 +3,8 @@
 
 use graphql_nodes::collections::hash_keys::HashKeys;
 use peglinden_run::running::run;
-use program_io::at_hand::FilesAtHand;
-use program_io::input::BytesAtHand;
+use program_io::in_memory::FilesInMemory;
+use program_io::input::BytesInMemory;
 use program_io::status::Status;
 use std::alloc::Global;
 use std::io::Write;
@@ -86,8 +86,8 @@ pub fn ended<O: Write, E: Write>(
     output: &mut O,
     errors: &mut E,
 ) -> Status {
-    let files = FilesAtHand(&FILES);
-    let mut reader = BytesAtHand(input);
+    let files = FilesInMemory(&FILES);
+    let mut reader = BytesInMemory(input);
     run(
         alloc,
         HashKeys::FIXED,

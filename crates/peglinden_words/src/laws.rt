@@ -1,4 +1,4 @@
-//! What some words ask for, by the definition that [`read_words`](crate::reading::read_words) states.
+//! What some words ask for, by the definition that [`read_words`](crate::command_line::read_words) states.
 ghost use Rattle.std.specs.Prelude.{◌≡◌, ◌∷◌, [], None, Some, codes, false, true};
 ghost use Rattle.peglinden_words.specs.Refusals.{are_mistaken, call_for_help};
 ghost use Rattle.peglinden_words.specs.Requests.{asked};

@@ -4,10 +4,10 @@
 #![tactic(auto)]
 
 mod arguments;
+pub mod command_line;
 mod commands;
 mod input_names;
 pub mod laws;
-pub mod reading;
 pub mod request;
 mod values;
 pub mod words_error;

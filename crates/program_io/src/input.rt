@@ -1,11 +1,11 @@
 //! Inputs that are read as a whole.
 
 use crate::file_error::FileError;
-use crate::reading::{copied, refusal};
+use crate::texts::{copied, refusal};
 use std::alloc::Global;
 use std::io::Read;
 
-/// What is read as a whole: any reader, or [`BytesAtHand`].
+/// What is read as a whole: any reader, or [`BytesInMemory`].
 ///
 /// The contract of `Read` has no word for a reader that fails. Here there is one, so that whoever reads an
 /// input can say that nothing else keeps it from being read.
@@ -45,9 +45,9 @@ impl<R: Read> Input for R {
 
 /// Bytes in memory, of which reading fails only where memory runs out.
 #[derive(Debug, Clone, Copy)]
-pub struct BytesAtHand<'a>(pub &'a [u8]);
+pub struct BytesInMemory<'a>(pub &'a [u8]);
 
-impl Input for BytesAtHand<'_> {
+impl Input for BytesInMemory<'_> {
     ghost use Rattle.std.specs.Prelude.{◌≡◌};
 
     ghost holds = { λ input bytes. bytes ≡ input.0.now };

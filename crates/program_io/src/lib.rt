@@ -5,12 +5,12 @@
 //! the writer fails.
 #![tactic(auto)]
 
-pub mod at_hand;
 pub mod file_error;
 pub mod files;
+pub mod in_memory;
 pub mod input;
-pub mod reading;
 pub mod status;
 pub mod system;
+pub mod texts;
 pub mod with_input;
 pub mod writing;

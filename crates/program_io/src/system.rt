@@ -2,7 +2,7 @@
 
 use crate::file_error::FileError;
 use crate::files::Files;
-use crate::reading::{read_text, refusal};
+use crate::texts::{read_text, refusal};
 use std::alloc::Global;
 use std::fs::{self, File};
 

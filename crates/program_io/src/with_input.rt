@@ -5,7 +5,7 @@ ghost use Rattle.program_io.specs.declared.file_error.FileError.{FileError};
 
 use crate::file_error::FileError;
 use crate::files::Files;
-use crate::reading::text_of_copy;
+use crate::texts::text_of_copy;
 use std::alloc::Global;
 
 /// Whether this path names standard input: it is `-`.

@@ -1,7 +1,7 @@
 //! Answers of `walk` that go out in pieces.
 
 use crate::running::{answer_on, ended, expect_run};
-use program_io::input::BytesAtHand;
+use program_io::input::BytesInMemory;
 use program_io::status::Status;
 use std::alloc::{AllocError, Global};
 use std::io::{self, Error, ErrorKind, Write};
@@ -44,7 +44,7 @@ fn is_answered(alloc: Global, input: &str, expected: &str) -> bool {
 fn a_long_walk_is_written_to_its_end(rt: HostRuntime) -> Result<(), Fail> {
     let input = long_query(rt.alloc())?;
     let expected = long_answer(rt.alloc())?;
-    let mut reader = BytesAtHand(input.as_bytes());
+    let mut reader = BytesInMemory(input.as_bytes());
     expect_run(
         &rt,
         &["walk"],
@@ -86,7 +86,7 @@ const LIMIT: usize = 70_000;
 fn a_long_walk_that_is_cut_short_is_a_beginning_of_the_answer(rt: HostRuntime) -> Result<(), Fail> {
     let input = long_query(rt.alloc())?;
     let expected = long_answer(rt.alloc())?;
-    let mut reader = BytesAtHand(input.as_bytes());
+    let mut reader = BytesInMemory(input.as_bytes());
     let mut written = LimitedWriter {
         bytes: Vec::new(rt.alloc()),
         limit: LIMIT,

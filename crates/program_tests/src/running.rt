@@ -6,7 +6,7 @@ use gqltool_run::answering::answer_to;
 use gqltool_run::failure::Failure;
 use gqltool_run::running::run;
 use graphql_nodes::collections::hash_keys::HashKeys;
-use program_io::input::{BytesAtHand, Input};
+use program_io::input::{BytesInMemory, Input};
 use program_io::status::Status;
 use std::alloc::Global;
 use std::io::Write;
@@ -42,5 +42,5 @@ pub fn expect_run<R: Input>(
 
 /// What is answered on these bytes.
 pub fn answer_on(alloc: Global, words: &[&str], bytes: &[u8]) -> Result<Answer, Failure> {
-    answer_to(alloc, HashKeys::FIXED, words, &mut BytesAtHand(bytes))
+    answer_to(alloc, HashKeys::FIXED, words, &mut BytesInMemory(bytes))
 }

@@ -4,7 +4,7 @@
 use crate::failing::{FailingReader, FailingWriter};
 use crate::running::{answer_on, ended, expect_run};
 use gqltool_run::failure::Failure;
-use program_io::input::{BytesAtHand, Input};
+use program_io::input::{BytesInMemory, Input};
 use program_io::status::Status;
 use std::alloc::Global;
 use std::io::{self, Error, ErrorKind, Read, Write};
@@ -49,11 +49,11 @@ fn input_that_is_no_text(rt: HostRuntime) {
     for input in rows {
         let mut reader = input;
         expect_run(&rt, &["schema"], &mut reader, Status::Refused, "", NOT_READ);
-        let mut at_hand = BytesAtHand(input);
+        let mut in_memory = BytesInMemory(input);
         expect_run(
             &rt,
             &["schema"],
-            &mut at_hand,
+            &mut in_memory,
             Status::Refused,
             "",
             NOT_READ,
@@ -62,14 +62,14 @@ fn input_that_is_no_text(rt: HostRuntime) {
 }
 
 #[test]
-fn bytes_at_hand_are_run_on_as_a_reader_is(rt: HostRuntime) {
+fn bytes_in_memory_are_run_on_as_a_reader_is(rt: HostRuntime) {
     let rows: [(&[u8], Status, &str, &str); 2] = [
         (b"def object T\n", Status::Done, "def object T\n", ""),
         (b"foo\n", Status::Refused, "", "line 1: unknown line\n"),
     ];
     for (bytes, status, output, errors) in rows {
-        let mut at_hand = BytesAtHand(bytes);
-        expect_run(&rt, &["schema"], &mut at_hand, status, output, errors);
+        let mut in_memory = BytesInMemory(bytes);
+        expect_run(&rt, &["schema"], &mut in_memory, status, output, errors);
     }
 }
 

@@ -6,8 +6,8 @@ use Rattle.std.proofs.lemmas.List.Elements.{All-more}
 use Rattle.graphql_nodes.specs.declared.source.SourceSpan.{SourceSpan}
 use Rattle.bench_notation.specs.Line.{IsLine, bytes_left, line_location, lines_of, pieces_left, texts_of}
 use Rattle.bench_notation.specs.Documents.{LeadTo, Takes}
-use Rattle.bench_notation.specs.declared.reading.DocumentReader.{DocumentReader}
-use Rattle.bench_notation.proofs.reading.take_lines.Goals as goal
+use Rattle.bench_notation.specs.declared.documents.DocumentReader.{DocumentReader}
+use Rattle.bench_notation.proofs.documents.take_lines.Goals as goal
 
 is_line : {text : List ℕ} {location : SourceSpan} {old new : DocumentReader} → Takes text location old new → IsLine text
 is_line {location = location} takes = record { location = location; line = takes.line; says = takes.says }

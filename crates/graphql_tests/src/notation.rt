@@ -1,8 +1,8 @@
 //! What is read from lines: extensions as they stand, before a schema is built of them, and the locations of
 //! nodes.
 
+use bench_notation::documents::{read, read_divided};
 use bench_notation::printing::print;
-use bench_notation::reading::{read, read_divided};
 use bench_notation::refusal::ReadError;
 use graphql_ast::definition::Definition;
 use graphql_ast::document::Document;

@@ -1,4 +1,4 @@
-//! Reading a whole text of the notation.
+//! Documents, read from a whole text of the notation.
 ghost use Rattle.std.specs.Prelude.{◌≡◌, All, IfErr, IfOk, OnOk, Some};
 ghost use Rattle.bench_notation.specs.Components.{header_alone};
 ghost use Rattle.bench_notation.specs.Documents.{AreDividedDocumentsOf, AreDocumentsOf, IsDividedReadError};

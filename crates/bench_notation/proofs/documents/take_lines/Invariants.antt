@@ -2,8 +2,8 @@
 use Rattle.std.proofs.Common.{ℕ, ◌≡◌, ◌+◌, ◌≤◌, List, Bor, Option, take, drop, length, All}
 use Rattle.bench_notation.specs.Line.{IsLine, bytes_left, lines_of, pieces_left}
 use Rattle.bench_notation.specs.Documents.{LeadTo}
-use Rattle.bench_notation.specs.declared.reading.DocumentReader.{DocumentReader}
-use Rattle.bench_notation.proofs.reading.take_lines.Given as goal
+use Rattle.bench_notation.specs.declared.documents.DocumentReader.{DocumentReader}
+use Rattle.bench_notation.proofs.documents.take_lines.Given as goal
 
 pub record HasRead (text : List ℕ) (start : DocumentReader) (number : ℕ) (left : Option (Bor (List ℕ))) (reader : DocumentReader) : Type 0 where
   pub read : All IsLine (take number (lines_of text))

@@ -6,7 +6,7 @@ use Rattle.clap.specs.Simple.{App}
 use Rattle.clap.specs.Walk.{texts}
 use Rattle.peglinden_words.proofs.CommandLemmas.{program_is_free, program_wants_command}
 use Rattle.peglinden_words.proofs.ReadingLemmas.{asked_is, refused_is, repeated_is, request_is}
-use Rattle.peglinden_words.proofs.reading.read_words.Goals as goal
+use Rattle.peglinden_words.proofs.command_line.read_words.Goals as goal
 
 pub unwrap-requires : goal.unwrap-requires
 unwrap-requires c =

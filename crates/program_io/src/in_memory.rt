@@ -5,16 +5,16 @@ ghost use Rattle.program_io.specs.Files.{bytes_at};
 
 use crate::file_error::FileError;
 use crate::files::Files;
-use crate::reading::text_of_copy;
+use crate::texts::text_of_copy;
 use std::alloc::Global;
 use std::io::{self, ErrorKind};
 
 /// Files in memory: their paths and their bytes. Of two files of one path the first counts. A path of none is
 /// not found; reading a file that is there fails only where it isn't UTF-8, or memory runs out.
 #[derive(Clone, Copy)]
-pub struct FilesAtHand<'a>(pub &'a [(&'a str, &'a [u8])]);
+pub struct FilesInMemory<'a>(pub &'a [(&'a str, &'a [u8])]);
 
-impl FilesAtHand<'_> {
+impl FilesInMemory<'_> {
     /// The bytes of the file of this path.
     fn find(&self, path: &str) -> Option<&[u8]>
         ensures { option_map (λ bytes. bytes.now) result ≡ bytes_at self.now.0.now path.now }
@@ -28,7 +28,7 @@ impl FilesAtHand<'_> {
     }
 }
 
-impl Files for FilesAtHand<'_> {
+impl Files for FilesInMemory<'_> {
     ghost use Rattle.std.specs.Prelude.{◌≡◌, None, Some};
     ghost use Rattle.program_io.specs.Files.{bytes_at};
 

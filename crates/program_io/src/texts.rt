@@ -1,4 +1,4 @@
-//! Bytes and their texts.
+//! Texts, and the bytes that they are read from.
 ghost use Rattle.std.specs.Prelude.{◌≡◌, IfErr, IfOk, string_bytes, ⊤};
 ghost use Rattle.program_io.specs.Files.{IsFileCause, IsNoText, IsReadCause};
 
