@@ -8,7 +8,8 @@ use Rattle.graphql_nodes.specs.NameView.{plain_name}
 use Rattle.graphql_nodes.proofs.Comparisons.{Compares, At, of_part, names, lists, numbers}
 use Rattle.graphql_nodes.proofs.TableEquality.{sets, by_texts}
 use Rattle.graphql_ast.proofs.DirectiveEquality.{directives}
-use Rattle.apollo_component.specs.BareComponents.{bare_component, bare_component_name, bare_directives, bare_origin}
+use Rattle.apollo_component.specs.BareComponents.{bare_component, bare_component_name, bare_directives}
+use Rattle.apollo_component.specs.BareComponents.{bare_origin}
 use Rattle.apollo_component.specs.Extensions.{number_of}
 use Rattle.apollo_component.specs.declared.component.Component.{Component}
 use Rattle.apollo_component.specs.declared.component.ComponentName.{ComponentName}
@@ -23,14 +24,18 @@ use Rattle.apollo_component.specs.contracts.extension.ExtensionIdPartialEq.TheIm
 use Rattle.apollo_component.specs.contracts.extension.IdsSpentPartialEq.TheImpl as ids_spent
 use Rattle.apollo_component.specs.contracts.extension.ComponentOriginPartialEq.TheImpl as component_origin
 
-pub components : {A B : Type 0} {E : A → A → Bool} {f : A → B} → Compares E f → Compares (λ (x y : Component A). E x.node.value y.node.value) (bare_component f)
+pub components : {A B : Type 0} {E : A → A → Bool} {f : A → B} → Compares E f
+    → Compares (λ (x y : Component A). E x.node.value y.node.value) (bare_component f)
 components {A} t = of_part (λ (c : Component A). c.node.value) t
 
 pub component_names : Compares component_name.ghosts.eq bare_component_name
 component_names = of_part (λ (c : ComponentName). c.name) names
 
-pub sets_of_component_names : Compares (set_eq component_name.ghosts.eq) (members_by_text (λ (c : ComponentName). c.name))
-sets_of_component_names = by_texts (λ text. record { origin = Definition; name = plain_name text }) (λ c. c.name.text) (λ _ _. refl) (sets (on_equiv (λ (c : ComponentName). c.name.text) nat_list_eq_equiv))
+pub sets_of_component_names : Compares (set_eq component_name.ghosts.eq)
+    (members_by_text (λ (c : ComponentName). c.name))
+sets_of_component_names =
+    by_texts (λ text. record { origin = Definition; name = plain_name text }) (λ c. c.name.text) (λ _ _. refl)
+    (sets (on_equiv (λ (c : ComponentName). c.name.text) nat_list_eq_equiv))
 
 pub directive_lists : Compares directive_list.ghosts.eq bare_directives
 directive_lists = of_part (λ (l : DirectiveList). l.0) (lists (components directives))

@@ -1,7 +1,10 @@
 -- What `first_of_each` drops, by places of the whole list.
-use Rattle.std.proofs.Common.{◌≡◌, ℕ, ◌+◌, Bool, true, false, cond, not, ◌||◌, List, [], ◌∷◌, ◌++◌, length, map, take, drop, Option, None, Some, is_some, filter, unwrap_or, refl, sym, ap, ◌∙◌, append_assoc, length-append, arith}
+use Rattle.std.proofs.Common.{◌≡◌, ℕ, ◌+◌, Bool, true, cond, not, List, [], ◌∷◌, ◌++◌, length, map}
+use Rattle.std.proofs.Common.{take}
+use Rattle.std.proofs.Common.{drop, is_some, filter, refl, sym, ap, ◌∙◌, subst, append_assoc, length-append}
+use Rattle.std.proofs.Common.{arith}
 use Rattle.std.specs.List.{All, enumerate_from, find, list_any}
-use Rattle.std.specs.Option.{option_map_or, option_or}
+use Rattle.std.specs.Option.{option_map_or}
 use Rattle.std.specs.Cmp.{IsEquivalence}
 use Rattle.std.proofs.Math.Seq.{take-append_seam}
 use Rattle.std.proofs.lemmas.List.{append-nil, length-map, take-append-drop}
@@ -11,16 +14,13 @@ use Rattle.std.proofs.lemmas.List.Folds.{find-append, list_any-append}
 use Rattle.std.proofs.lemmas.List.FromFn.{length-enumerate_from}
 use Rattle.apollo_component.specs.EachAfter.{each_after}
 use Rattle.apollo_component.specs.FirstOfEach.{first_of_each, is_later, later_of_each, kept_for}
-use Rattle.apollo_component.proofs.FirstOfEachLemmas.{list_any-first_of_each, first_of_each-push_new, first_of_each-push_old, find-first_of_each}
+use Rattle.apollo_component.proofs.FirstOfEachLemmas.{list_any-first_of_each, first_of_each-push_new}
+use Rattle.apollo_component.proofs.FirstOfEachLemmas.{first_of_each-push_old, find-first_of_each}
 
 -- something is found where something passes
 pub found-any : {X : Type 0} (test : X → Bool) (xs : List X) → is_some (find test xs) ≡ list_any test xs
 found-any test [] = refl
-found-any test (x ∷ xs) = by (test x) (found-any test xs)
-  where
-    by : (b : Bool) → is_some (find test xs) ≡ list_any test xs → is_some (cond b (Some x) (find test xs)) ≡ (b || list_any test xs)
-    by true rest = refl
-    by false rest = rest
+found-any test (x ∷ xs) = grind (arith, found-any test xs)
 
 -- the first ones among these of the whole list, and the later ones, where these begin at this place
 abbrev first_from : {X : Type 0} → (X → X → Bool) → List X → ℕ → List X → List X
@@ -38,51 +38,73 @@ abbrev pub said : {X Y : Type 0} → (X → X → Bool) → (X → X → Y) → 
 said same say = each_after (saying same say)
 
 module _ {X : Type 0} (same : X → X → Bool) (before : List X) (x : X) (xs : List X) where
+  abbrev whole : List X
+  whole = before ++ x ∷ xs
+
+  abbrev next : ℕ
+  next = length before + 1
+
   -- x is the first of those that it is the same as, or a later one, by those before it
-  later-here : is_later same (before ++ x ∷ xs) (length before, x) ≡ list_any (same x) before
+  later-here : is_later same whole (length before, x) ≡ list_any (same x) before
   later-here = ap (list_any (same x)) (take-append_seam before (x ∷ xs))
 
-  first-step : (b : Bool) → list_any (same x) before ≡ b
-      → first_from same (before ++ x ∷ xs) (length before) (x ∷ xs) ≡ cond b (first_from same (before ++ x ∷ xs) (length before + 1) xs) (x ∷ first_from same (before ++ x ∷ xs) (length before + 1) xs)
-  first-step true old = rw (later-here, old) refl
-  first-step false new = rw (later-here, new) refl
+  first-step : first_from same whole (length before) (x ∷ xs)
+      ≡ cond (list_any (same x) before) (first_from same whole next xs) (x ∷ first_from same whole next xs)
+  first-step = grind (arith, later-here)
 
-  later-step : (b : Bool) → list_any (same x) before ≡ b
-      → later_from same (before ++ x ∷ xs) (length before) (x ∷ xs) ≡ cond b (x ∷ later_from same (before ++ x ∷ xs) (length before + 1) xs) (later_from same (before ++ x ∷ xs) (length before + 1) xs)
-  later-step true old = rw (later-here, old) refl
-  later-step false new = rw (later-here, new) refl
+  later-step : later_from same whole (length before) (x ∷ xs)
+      ≡ cond (list_any (same x) before) (x ∷ later_from same whole next xs) (later_from same whole next xs)
+  later-step = grind (arith, later-here)
+
+  -- what is said of the elements after x, where x is the last of those before them
+  moved : (P : List X → ℕ → Type 0) → P ((before ++ x ∷ []) ++ xs) (length (before ++ x ∷ [])) → P whole next
+  moved P h =
+      subst (P whole) (length-append before (x ∷ []))
+      (subst (λ l. P l (length (before ++ x ∷ []))) (append_assoc before (x ∷ []) xs) h)
 
 module _ {X : Type 0} (same : X → X → Bool) (laws : IsEquivalence same) where
-  first-of : (before xs : List X) → first_of_each same (before ++ xs) ≡ first_of_each same before ++ first_from same (before ++ xs) (length before) xs
-  first-of before [] = ap (first_of_each same) (append-nil before) ∙ sym (append-nil (first_of_each same before))
-  first-of before (x ∷ xs) =
-      sym (ap (first_of_each same) (append_assoc before (x ∷ []) xs)) ∙ first-of (before ++ x ∷ []) xs
-      ∙ (λ i. first_of_each same (before ++ x ∷ []) ++ first_from same (append_assoc before (x ∷ []) xs i) (length-append before (x ∷ []) i) xs)
-      ∙ by (list_any (same x) before) refl (first_from same (before ++ x ∷ xs) (length before + 1) xs)
-      ∙ ap (λ l. first_of_each same before ++ l) (sym (first-step same before x xs (list_any (same x) before) refl))
-    where
-      by : (b : Bool) → list_any (same x) before ≡ b → (rest : List X) → first_of_each same (before ++ x ∷ []) ++ rest ≡ first_of_each same before ++ cond b rest (x ∷ rest)
-      by true old rest = ap (λ l. l ++ rest) (first_of_each-push_old same laws before x old)
-      by false new rest = ap (λ l. l ++ rest) (first_of_each-push_new same laws before x new) ∙ append_assoc (first_of_each same before) (x ∷ []) rest
+  first-of : (before xs : List X) → first_of_each same (before ++ xs)
+      ≡ first_of_each same before ++ first_from same (before ++ xs) (length before) xs
+  first-of before [] =
+      ap (first_of_each same) (append-nil before) ∙ sym (append-nil (first_of_each same before))
+  first-of before (x ∷ xs) = grind (
+    arith,
+    moved same before x xs (λ l n. first_of_each same l
+        ≡ first_of_each same (before ++ x ∷ []) ++ first_from same l n xs)
+        (first-of (before ++ x ∷ []) xs),
+    first-step same before x xs,
+    first_of_each-push_old same laws before x,
+    first_of_each-push_new same laws before x,
+    append_assoc (first_of_each same before) (x ∷ [])
+        (first_from same (before ++ x ∷ xs) (length before + 1) xs),
+  )
 
   -- the first of each are those that are no later ones
   pub first_of_each-by_place : (xs : List X) → first_of_each same xs ≡ first_from same xs 0 xs
   first_of_each-by_place xs = first-of [] xs
 
   -- each of the later ones is the same as one that is kept
-  pub later-kept : (xs : List X) → All (λ x. is_some (find (same x) (first_of_each same xs)) ≡ true) (later_of_each same xs)
-  later-kept xs = All-map (λ x. is_some (find (same x) (first_of_each same xs)) ≡ true) (λ p. p.1) (filter (is_later same xs) (enumerate_from 0 xs))
-      (All-weaker (λ p. is_later same xs p ≡ true) (λ p. is_some (find (same p.1) (first_of_each same xs)) ≡ true) kept (filter (is_later same xs) (enumerate_from 0 xs)) (filter_passes (is_later same xs) (enumerate_from 0 xs)))
+  pub later-kept : (xs : List X)
+      → All (λ x. is_some (find (same x) (first_of_each same xs)) ≡ true) (later_of_each same xs)
+  later-kept xs =
+      All-map (λ x. is_some (find (same x) (first_of_each same xs)) ≡ true) (λ p. p.1) _
+      (All-weaker (λ p. is_later same xs p ≡ true) _ kept _
+      (filter_passes (is_later same xs) (enumerate_from 0 xs)))
     where
-      kept : (p : ℕ × X) → list_any (same p.1) (take p.0 xs) ≡ true → is_some (find (same p.1) (first_of_each same xs)) ≡ true
-      kept p late =
-          found-any (same p.1) (first_of_each same xs) ∙ list_any-first_of_each same laws p.1 xs
-          ∙ ap (list_any (same p.1)) (sym (take-append-drop p.0 xs))
-          ∙ list_any-append (same p.1) (take p.0 xs) (drop p.0 xs)
-          ∙ ap (λ b. b || list_any (same p.1) (drop p.0 xs)) late
+      kept : (p : ℕ × X) → list_any (same p.1) (take p.0 xs) ≡ true
+          → is_some (find (same p.1) (first_of_each same xs)) ≡ true
+      kept p late = grind (
+        arith,
+        late,
+        found-any (same p.1) (first_of_each same xs),
+        list_any-first_of_each same laws p.1 xs,
+        take-append-drop p.0 xs,
+        list_any-append (same p.1) (take p.0 xs) (drop p.0 xs),
+      )
 
   -- each is the first or a later one
-  pub length-first_later : (xs : List X) → length (first_of_each same xs) + length (later_of_each same xs) ≡ length xs
+  pub length-first_later : (xs : List X)
+      → length (first_of_each same xs) + length (later_of_each same xs) ≡ length xs
   length-first_later xs =
       let places = enumerate_from 0 xs in
       omega (
@@ -99,23 +121,19 @@ module _ {X : Type 0} (same : X → X → Bool) (laws : IsEquivalence same) wher
     told whole = map (λ x. say (kept_for same (first_of_each same whole) x) x)
 
     -- what is said where one that is the same stands before is said of the later ones
-    said-of : (before xs : List X) → said same say before xs ≡ told (before ++ xs) (later_from same (before ++ xs) (length before) xs)
+    said-of : (before xs : List X)
+        → said same say before xs ≡ told (before ++ xs) (later_from same (before ++ xs) (length before) xs)
     said-of before [] = refl
-    said-of before (x ∷ xs) =
-        by (find (same x) before) refl
-        (said-of (before ++ x ∷ []) xs ∙ (λ i. told (append_assoc before (x ∷ []) xs i) (later_from same (append_assoc before (x ∷ []) xs i) (length-append before (x ∷ []) i) xs)))
-      where
-        by : (o : Option X) → find (same x) before ≡ o
-            → said same say (before ++ x ∷ []) xs ≡ told (before ++ x ∷ xs) (later_from same (before ++ x ∷ xs) (length before + 1) xs)
-            → said same say before (x ∷ xs) ≡ told (before ++ x ∷ xs) (later_from same (before ++ x ∷ xs) (length before) (x ∷ xs))
-        by None none rest =
-            let new : list_any (same x) before ≡ false = sym (found-any (same x) before) ∙ ap is_some none in
-            rw none (rest ∙ ap (told (before ++ x ∷ xs)) (sym (later-step same before x xs false new)))
-        by (Some k) some rest =
-            let old : list_any (same x) before ≡ true = sym (found-any (same x) before) ∙ ap is_some some in
-            let kept : kept_for same (first_of_each same (before ++ x ∷ xs)) x ≡ k =
-            ap (λ o. unwrap_or o x) (find-first_of_each same laws x (before ++ x ∷ xs) ∙ find-append (same x) before (x ∷ xs) ∙ ap (λ o. option_or o (find (same x) (x ∷ xs))) some) in
-            rw some (ap (λ l. say k x ∷ l) rest ∙ (λ i. say (sym kept i) x ∷ told (before ++ x ∷ xs) (later_from same (before ++ x ∷ xs) (length before + 1) xs)) ∙ ap (told (before ++ x ∷ xs)) (sym (later-step same before x xs true old)))
+    said-of before (x ∷ xs) = grind (
+      arith,
+      moved same before x xs (λ l n. said same say (before ++ x ∷ []) xs ≡ told l (later_from same l n xs))
+          (said-of (before ++ x ∷ []) xs),
+      later-step same before x xs,
+      found-any (same x) before,
+      find-first_of_each same laws x (before ++ x ∷ xs),
+      find-append (same x) before (x ∷ xs),
+    )
 
-    pub said-later : (xs : List X) → said same say [] xs ≡ map (λ x. say (kept_for same (first_of_each same xs) x) x) (later_of_each same xs)
+    pub said-later : (xs : List X) → said same say [] xs
+        ≡ map (λ x. say (kept_for same (first_of_each same xs) x) x) (later_of_each same xs)
     said-later xs = said-of [] xs

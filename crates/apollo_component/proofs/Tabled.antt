@@ -1,43 +1,47 @@
 -- Tables that have at each key what a function gives of it. Tables with the same under each key. What tables
 -- give, key by key.
-use Rattle.std.proofs.Common.{◌≡◌, Bool, true, false, cond, not, ◌||◌, List, [], ◌∷◌, ◌++◌, Option, Some, None, is_some, map, filter, refl, sym, ap, subst, ◌∙◌, true≢false}
+use Rattle.std.proofs.Common.{◌≡◌, Bool, true, false, cond, not, List, [], ◌∷◌, ◌++◌, Option, Some, None}
+use Rattle.std.proofs.Common.{map, filter, refl, sym, ap, subst, ◌∙◌, arith}
 use Rattle.std.specs.List.{list_any, flat_map, IsDistinct, AllByRecursion}
 use Rattle.std.specs.Map.{lookup, set_value}
-use Rattle.graphql_nodes.specs.Tables.{HasUniqueKeys, keys_of}
 use Rattle.std.specs.Cmp.{IsEquivalence}
+use Rattle.std.proofs.lemmas.List.Elements.{filter_passes, recursion_from_All}
 use Rattle.std.proofs.lemmas.Map.{lookup-none}
-use Rattle.std.proofs.lemmas.Map.Entries.{lookup_head, lookup_tail, none_past_head}
+use Rattle.std.proofs.lemmas.Map.Entries.{none_past_head}
 use Rattle.std.proofs.lemmas.Map.Keys.{IsDistinct-head, IsDistinct-tail}
 use Rattle.indexmap.specs.IndexMap.{insert_entry}
 use Rattle.indexmap.specs.IndexSet.{insert_key}
+use Rattle.graphql_nodes.specs.Tables.{HasUniqueKeys, keys_of}
 use Rattle.apollo_component.specs.FirstOfEach.{first_of_each}
-use Rattle.apollo_component.proofs.FirstOfEachLemmas.{first_of_each-push_new, first_of_each-push_old, list_any-first_of_each}
+use Rattle.apollo_component.proofs.FirstOfEachLemmas.{first_of_each-push_new, first_of_each-push_old}
+use Rattle.apollo_component.proofs.FirstOfEachLemmas.{list_any-first_of_each}
+use Rattle.apollo_component.proofs.Lists.Cases.{bool_cases}
 use Rattle.apollo_component.proofs.Lists.Each.{each-filter, each-weaken, flat_map-each}
 
 module _ {K : Type 0} (same : K → K → Bool) where
-  apart : (x : K) (ks : List K) → AllByRecursion (λ k. same x k ≡ false) (filter (λ k. not (same x k)) ks)
-  apart x [] = tt
-  apart x (k ∷ ks) = by (same x k) refl (apart x ks)
-    where
-      by : (b : Bool) → same x k ≡ b → AllByRecursion (λ k. same x k ≡ false) (filter (λ k. not (same x k)) ks)
-          → AllByRecursion (λ k. same x k ≡ false) (cond (not b) (k ∷ filter (λ k. not (same x k)) ks) (filter (λ k. not (same x k)) ks))
-      by true e rest = rest
-      by false e rest = (e, rest)
-
   filter-distinct : (p : K → Bool) (ks : List K) → IsDistinct same ks → IsDistinct same (filter p ks)
   unfolding IsDistinct
   filter-distinct p [] d = tt
   filter-distinct p (k ∷ ks) d = by (p k) (filter-distinct p ks d.1)
     where
-      by : (b : Bool) → IsDistinct same (filter p ks) → IsDistinct same (cond b (k ∷ filter p ks) (filter p ks))
-      by true rest = (each-weaken (λ y. (same k y ≡ false) × (p y ≡ true)) (λ y. same k y ≡ false) (λ y h. h.0) (filter p ks) (each-filter (λ y. same k y ≡ false) p ks d.0), rest)
+      by : (b : Bool) → IsDistinct same (filter p ks)
+          → IsDistinct same (cond b (k ∷ filter p ks) (filter p ks))
+      by true rest = (
+        each-weaken _ (λ y. same k y ≡ false) (λ y h. h.0) _
+            (each-filter (λ y. same k y ≡ false) p ks d.0),
+        rest,
+      )
       by false rest = rest
 
   -- those that are left differ
   pub first_of_each-distinct : (xs : List K) → IsDistinct same (first_of_each same xs)
   unfolding IsDistinct
   first_of_each-distinct [] = tt
-  first_of_each-distinct (x ∷ xs) = (apart x (first_of_each same xs), filter-distinct (λ y. not (same x y)) (first_of_each same xs) (first_of_each-distinct xs))
+  first_of_each-distinct (x ∷ xs) = (
+    each-weaken (λ y. not (same x y) ≡ true) (λ y. same x y ≡ false) (λ y h. grind (arith, h)) _
+        (recursion_from_All _ _ (filter_passes (λ y. not (same x y)) (first_of_each same xs))),
+    filter-distinct (λ y. not (same x y)) (first_of_each same xs) (first_of_each-distinct xs),
+  )
 
 -- a table that has at each key what f gives of it
 abbrev pub tabled : {K V : Type 0} → (K → V) → List K → List (K × V)
@@ -45,61 +49,57 @@ tabled f ks = map (λ k. (k, f k)) ks
 
 module _ {K : Type 0} (same : K → K → Bool) (laws : IsEquivalence same) where
   -- one more thing, if it is new, is what insertion adds
-  pub first_of_each-insert : (xs : List K) (x : K) → first_of_each same (xs ++ x ∷ []) ≡ insert_key same (first_of_each same xs) x
-  first_of_each-insert xs x = by (list_any (same x) xs) refl
-    where
-      by : (b : Bool) → list_any (same x) xs ≡ b → first_of_each same (xs ++ x ∷ []) ≡ insert_key same (first_of_each same xs) x
-      by true e = first_of_each-push_old same laws xs x e ∙ sym (ap (λ c. cond c (first_of_each same xs) (first_of_each same xs ++ x ∷ [])) (list_any-first_of_each same laws x xs ∙ e))
-      by false e = first_of_each-push_new same laws xs x e ∙ sym (ap (λ c. cond c (first_of_each same xs) (first_of_each same xs ++ x ∷ [])) (list_any-first_of_each same laws x xs ∙ e))
+  pub first_of_each-insert : (xs : List K) (x : K)
+      → first_of_each same (xs ++ x ∷ []) ≡ insert_key same (first_of_each same xs) x
+  first_of_each-insert xs x = grind (
+    arith,
+    list_any-first_of_each same laws x xs,
+    first_of_each-push_old same laws xs x,
+    first_of_each-push_new same laws xs x,
+  )
 
   module _ {V : Type 0} where
-    tabled-apart : (f g : K → V) (c : K) → ((k : K) → same c k ≡ false → f k ≡ g k) → (ks : List K) → AllByRecursion (λ k. same c k ≡ false) ks → tabled f ks ≡ tabled g ks
+    tabled-apart : (f g : K → V) (c : K) → ((k : K) → same c k ≡ false → f k ≡ g k) → (ks : List K)
+        → AllByRecursion (λ k. same c k ≡ false) ks → tabled f ks ≡ tabled g ks
     tabled-apart f g c agree [] a = refl
-    tabled-apart f g c agree (k ∷ ks) a = ap (λ v. (k, v) ∷ tabled f ks) (agree k a.0) ∙ ap (λ l. (k, g k) ∷ l) (tabled-apart f g c agree ks a.1)
+    tabled-apart f g c agree (k ∷ ks) a = λ i. (k, agree k a.0 i) ∷ tabled-apart f g c agree ks a.1 i
 
     -- the table with another value at one key is that of what gives it there, and the same elsewhere
-    pub tabled-insert : (f g : K → V) (c : K) → ((k : K) → same c k ≡ false → f k ≡ g k) → ((k : K) → same c k ≡ true → g k ≡ g c) → (ks : List K) → IsDistinct same ks
+    pub tabled-insert : (f g : K → V) (c : K) → ((k : K) → same c k ≡ false → f k ≡ g k)
+        → ((k : K) → same c k ≡ true → g k ≡ g c) → (ks : List K) → IsDistinct same ks
         → insert_entry same (tabled f ks) c (g c) ≡ tabled g (insert_key same ks c)
     unfolding IsDistinct
     tabled-insert f g c agree one [] d = refl
-    tabled-insert f g c agree one (k ∷ ks) d = by (same c k) refl (list_any (same c) ks) (tabled-insert f g c agree one ks d.1)
+    tabled-insert f g c agree one (k ∷ ks) d =
+        grind (arith, agree k, one k, others, tabled-insert f g c agree one ks d.1)
       where
-        others : same c k ≡ true → AllByRecursion (λ y. same c y ≡ false) ks
-        others p = each-weaken (λ y. same k y ≡ false) (λ y. same c y ≡ false) (λ y h. laws.congr c k y p ∙ h) ks d.0
-
-        by : (b : Bool) → same c k ≡ b → (e : Bool) → insert_entry same (tabled f ks) c (g c) ≡ tabled g (cond e ks (ks ++ c ∷ []))
-            → cond b ((k, g c) ∷ tabled f ks) ((k, f k) ∷ insert_entry same (tabled f ks) c (g c)) ≡ tabled g (cond (b || e) (k ∷ ks) ((k ∷ ks) ++ c ∷ []))
-        by true p e rest = ap (λ v. (k, v) ∷ tabled f ks) (sym (one k p)) ∙ ap (λ l. (k, g k) ∷ l) (tabled-apart f g c agree ks (others p))
-        by false p true rest = ap (λ v. (k, v) ∷ insert_entry same (tabled f ks) c (g c)) (agree k p) ∙ ap (λ l. (k, g k) ∷ l) rest
-        by false p false rest = ap (λ v. (k, v) ∷ insert_entry same (tabled f ks) c (g c)) (agree k p) ∙ ap (λ l. (k, g k) ∷ l) rest
+        others : same c k ≡ true → tabled f ks ≡ tabled g ks
+        others p = tabled-apart f g c agree ks
+            (each-weaken (λ y. same k y ≡ false) (λ y. same c y ≡ false)
+            (λ y h. laws.congr c k y p ∙ h) ks d.0)
 
     -- what stands at a key of the table
-    pub lookup-tabled : (f : K → V) (c : K) → ((k : K) → same c k ≡ true → f k ≡ f c) → (ks : List K) → lookup (same c) (tabled f ks) ≡ cond (list_any (same c) ks) (Some (f c)) None
+    pub lookup-tabled : (f : K → V) (c : K) → ((k : K) → same c k ≡ true → f k ≡ f c) → (ks : List K)
+        → lookup (same c) (tabled f ks) ≡ cond (list_any (same c) ks) (Some (f c)) None
     lookup-tabled f c one [] = refl
-    lookup-tabled f c one (k ∷ ks) = by (same c k) refl (lookup-tabled f c one ks)
-      where
-        by : (b : Bool) → same c k ≡ b → lookup (same c) (tabled f ks) ≡ cond (list_any (same c) ks) (Some (f c)) None
-            → cond b (Some (f k)) (lookup (same c) (tabled f ks)) ≡ cond (b || list_any (same c) ks) (Some (f c)) None
-        by true p rest = ap Some (one k p)
-        by false p rest = rest
+    lookup-tabled f c one (k ∷ ks) = grind (arith, one k, lookup-tabled f c one ks)
 
 -- a value written where a key is found is what insertion puts there
-pub insert_entry-found : {K V : Type 0} (eq : K → K → Bool) (es : List (K × V)) (k : K) (v w : V) → lookup (eq k) es ≡ Some v → set_value (eq k) es w ≡ insert_entry eq es k w
-insert_entry-found eq [] k v w h = absurd (true≢false (sym (ap is_some h)))
-insert_entry-found eq (e ∷ es) k v w h = by (eq k e.0) h (insert_entry-found eq es k v w)
-  where
-    by : (b : Bool) → cond b (Some e.1) (lookup (eq k) es) ≡ Some v → (lookup (eq k) es ≡ Some v → set_value (eq k) es w ≡ insert_entry eq es k w)
-        → cond b ((e.0, w) ∷ es) (e ∷ set_value (eq k) es w) ≡ cond b ((e.0, w) ∷ es) (e ∷ insert_entry eq es k w)
-    by true h rest = refl
-    by false h rest = ap (λ l. e ∷ l) (rest h)
+pub insert_entry-found : {K V : Type 0} (eq : K → K → Bool) (es : List (K × V)) (k : K) (v w : V)
+    → lookup (eq k) es ≡ Some v → set_value (eq k) es w ≡ insert_entry eq es k w
+insert_entry-found eq [] k v w h = cc
+insert_entry-found eq (e ∷ es) k v w h = grind (arith, insert_entry-found eq es k v w)
 
 -- tables with the same keys, of which no two are the same, are one where they have the same under each
-pub entries_from_lookups : {K V : Type 0} {eq : K → K → Bool} → IsEquivalence eq → (es fs : List (K × V)) → HasUniqueKeys eq es → keys_of fs ≡ keys_of es → ((k : K) → lookup (eq k) fs ≡ lookup (eq k) es) → fs ≡ es
+pub entries_from_lookups : {K V : Type 0} {eq : K → K → Bool} → IsEquivalence eq → (es fs : List (K × V))
+    → HasUniqueKeys eq es → keys_of fs ≡ keys_of es → ((k : K) → lookup (eq k) fs ≡ lookup (eq k) es)
+    → fs ≡ es
 entries_from_lookups laws [] [] apart keys each = refl
 entries_from_lookups laws [] (f ∷ fs) apart keys each = cc
 entries_from_lookups laws (e ∷ es) [] apart keys each = cc
 entries_from_lookups {K} {V} {eq} laws (e ∷ es) (f ∷ fs) apart keys each =
-    let rest = entries_from_lookups laws es fs (IsDistinct-tail eq e.0 (keys_of es) apart) other_keys others in
+    let rest =
+    entries_from_lookups laws es fs (IsDistinct-tail eq e.0 (keys_of es) apart) other_keys others in
     λ i. (key i, value i) ∷ rest i
   where
     key : f.0 ≡ e.0
@@ -109,26 +109,31 @@ entries_from_lookups {K} {V} {eq} laws (e ∷ es) (f ∷ fs) apart keys each =
     other_keys = cc
 
     value : f.1 ≡ e.1
-    value =
-        let found : Some f.1 ≡ Some e.1 =
-        sym (lookup_head (eq e.0) f fs (ap (eq e.0) key ∙ laws.refl e.0)) ∙ each e.0 ∙ lookup_head (eq e.0) e es (laws.refl e.0) in
-        cc
+    value = grind (arith, key, laws.refl e.0, each e.0)
 
     -- the first entry hides nothing under another key, and under its own there is nothing else
     others : (k : K) → lookup (eq k) fs ≡ lookup (eq k) es
-    others k = by (eq k e.0) refl
-      where
-        by : (b : Bool) → eq k e.0 ≡ b → lookup (eq k) fs ≡ lookup (eq k) es
-        by true own =
-            lookup-none (eq k) fs (none_past_head laws k f fs (subst (IsDistinct eq) (sym keys) apart) (ap (eq k) key ∙ own))
-            ∙ sym (lookup-none (eq k) es (none_past_head laws k e es apart own))
-        by false other = sym (lookup_tail (eq k) f fs (ap (eq k) key ∙ other)) ∙ each k ∙ lookup_tail (eq k) e es other
+    others k = bool_cases (eq k e.0)
+        (λ own. lookup-none (eq k) fs
+        (none_past_head laws k f fs (subst (IsDistinct eq) (sym keys) apart) (ap (eq k) key ∙ own))
+        ∙ sym (lookup-none (eq k) es (none_past_head laws k e es apart own)))
+        (λ other. grind (arith, key, other, each k))
 
 -- what a table gives, entry by entry, is what it gives under its keys
-pub given-by_keys : {K V X : Type 0} {same : K → K → Bool} → IsEquivalence same → (give : K → Option V → List X) (es : List (K × V)) → HasUniqueKeys same es → flat_map (λ e. give e.0 (Some e.1)) es ≡ flat_map (λ k. give k (lookup (same k) es)) (keys_of es)
+pub given-by_keys : {K V X : Type 0} {same : K → K → Bool} → IsEquivalence same
+    → (give : K → Option V → List X) (es : List (K × V)) → HasUniqueKeys same es
+    → flat_map (λ e. give e.0 (Some e.1)) es ≡ flat_map (λ k. give k (lookup (same k) es)) (keys_of es)
 given-by_keys laws give [] unique = refl
-given-by_keys {same = same} laws give (e ∷ es) unique =
-    ap (λ l. give e.0 (Some e.1) ++ l) (given-by_keys laws give es (IsDistinct-tail same e.0 (keys_of es) unique)
-    ∙ flat_map-each (λ k. same e.0 k ≡ false) (λ k. give k (lookup (same k) es)) (λ k. give k (lookup (same k) (e ∷ es)))
-    (λ k apart. ap (λ b. give k (cond b (Some e.1) (lookup (same k) es))) (sym (laws.symm k e.0 ∙ apart))) (keys_of es) (IsDistinct-head same e.0 (keys_of es) unique))
-    ∙ ap (λ b. give e.0 (cond b (Some e.1) (lookup (same e.0) es)) ++ flat_map (λ k. give k (lookup (same k) (e ∷ es))) (keys_of es)) (sym (laws.refl e.0))
+given-by_keys {K} {V} {X} {same} laws give (e ∷ es) unique =
+    grind (
+      arith,
+      laws.refl e.0,
+      given-by_keys laws give es (IsDistinct-tail same e.0 (keys_of es) unique),
+      later,
+    )
+  where
+    later : flat_map (λ k. give k (lookup (same k) es)) (keys_of es)
+        ≡ flat_map (λ k. give k (lookup (same k) (e ∷ es))) (keys_of es)
+    later = flat_map-each (λ k. same e.0 k ≡ false) _ _
+        (λ k apart. ap (λ b. give k (cond b (Some e.1) (lookup (same k) es))) (sym (laws.symm k e.0 ∙ apart)))
+        (keys_of es) (IsDistinct-head same e.0 (keys_of es) unique)

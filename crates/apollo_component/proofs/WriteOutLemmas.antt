@@ -1,11 +1,12 @@
 -- What one more component adds to the parts of each origin.
-use Rattle.std.proofs.Common.{◌≡◌, Bool, true, false, cond, ◌||◌, List, [], ◌∷◌, ◌++◌, Option, None, Some, is_some, map, filter, refl, sym, ap, ◌∙◌, true≢false}
-use Rattle.std.specs.List.{filter_map, cons_option, list_any}
+use Rattle.std.proofs.Common.{◌≡◌, false, List, [], ◌∷◌, ◌++◌, Option, true, map, refl, sym}
+use Rattle.std.proofs.Common.{ap, ◌∙◌, arith, filter}
+use Rattle.std.specs.List.{filter_map, list_any}
 use Rattle.std.specs.Map.{lookup}
 use Rattle.std.specs.Prelude.{unwrap_or}
 use Rattle.std.specs.Cmp.{IsEquivalence, on_equiv, nat_eq_equiv}
 use Rattle.std.proofs.lemmas.List.{append-nil, map-append}
-use Rattle.std.proofs.lemmas.List.Elements.{filter-append, filter_map-append}
+use Rattle.std.proofs.lemmas.List.Elements.{filter_map-append}
 use Rattle.indexmap.specs.IndexMap.{insert_entry}
 use Rattle.graphql_ast.specs.Parts.{of_sort, with_lists, with_some, parts_of, no_parts, with_part}
 use Rattle.graphql_ast.specs.declared.parts.Part.{Part}
@@ -17,119 +18,117 @@ use Rattle.apollo_component.specs.WriteOut.{SourcedPart, origins_in, of_origin, 
 use Rattle.apollo_component.specs.declared.extension.ComponentOrigin.{ComponentOrigin}
 use Rattle.apollo_component.specs.declared.extension.ComponentOrigin.TheVariants.{Definition, Extension}
 use Rattle.apollo_component.specs.declared.extension.ExtensionId.{ExtensionId}
+use Rattle.apollo_component.specs.declared.parts_by_origin.PartsByOrigin.{PartsByOrigin}
 use Rattle.apollo_component.proofs.FirstOfEachLemmas.{list_any-first_of_each}
-use Rattle.apollo_component.proofs.Tabled.{tabled, first_of_each-distinct, first_of_each-insert, tabled-insert, lookup-tabled}
+use Rattle.apollo_component.proofs.Lists.Ends.{filter-push_dropped, filter-push_kept}
+use Rattle.apollo_component.proofs.Tabled.{tabled, first_of_each-distinct, first_of_each-insert}
+use Rattle.apollo_component.proofs.Tabled.{tabled-insert}
+use Rattle.apollo_component.proofs.Tabled.{lookup-tabled}
 
 same_id-equiv : IsEquivalence same_id
 same_id-equiv = on_equiv number_of nat_eq_equiv
 
--- one part more is the last of its sort
-filter_map-push : {X Y : Type 0} (which : X → Option Y) (xs : List X) (x : X) → filter_map which (xs ++ x ∷ []) ≡ with_some (which x) (filter_map which xs)
-filter_map-push {X} {Y} which xs x = filter_map-append which xs (x ∷ []) ∙ by (which x)
-  where
-    by : (o : Option Y) → filter_map which xs ++ cons_option o [] ≡ with_some o (filter_map which xs)
-    by None = append-nil (filter_map which xs)
-    by (Some y) = refl
+-- one more is the last that is chosen, if it is
+filter_map-push : {X Y : Type 0} (which : X → Option Y) (xs : List X) (x : X)
+    → filter_map which (xs ++ x ∷ []) ≡ with_some (which x) (filter_map which xs)
+filter_map-push which xs x =
+    grind (arith, filter_map-append which xs (x ∷ []), append-nil (filter_map which xs))
 
-parts_of-push : (ps : List Part) (p : Part) → parts_of (ps ++ p ∷ []) ≡ with_part p (parts_of ps)
-parts_of-push ps p = (λ i. with_lists (λ s. filter_map-push (of_sort s) ps p i))
+module _ (cs : List SourcedPart) (c : SourcedPart) where
+  -- so with identities
+  ids-push : filter_map id_of (origins_in (cs ++ c ∷ []))
+      ≡ with_some (id_of c.0) (filter_map id_of (origins_in cs))
+  ids-push =
+      ap (filter_map id_of) (map-append (λ c. c.0) cs (c ∷ [])) ∙ filter_map-push id_of (origins_in cs) c.0
 
-module _ (origin : ComponentOrigin) (cs : List SourcedPart) (c : SourcedPart) where
-  -- it is of its origin alone
-  of_origin-own : same_origin origin c.0 ≡ true → of_origin origin (cs ++ c ∷ []) ≡ with_part c.1 (of_origin origin cs)
-  of_origin-own e =
-      ap (λ l. parts_of (map (λ c. c.1) l)) (filter-append (λ c. same_origin origin c.0) cs (c ∷ []) ∙ ap (λ b. filter (λ c. same_origin origin c.0) cs ++ cond b (c ∷ []) []) e)
-      ∙ ap parts_of (map-append (λ c. c.1) (filter (λ c. same_origin origin c.0) cs) (c ∷ []))
-      ∙ parts_of-push (map (λ c. c.1) (filter (λ c. same_origin origin c.0) cs)) c.1
+  module _ (origin : ComponentOrigin) where
+    abbrev its : List SourcedPart
+    its = filter (λ c. same_origin origin c.0) cs
 
-  of_origin-other : same_origin origin c.0 ≡ false → of_origin origin (cs ++ c ∷ []) ≡ of_origin origin cs
-  of_origin-other e = ap (λ l. parts_of (map (λ c. c.1) l)) (filter-append (λ c. same_origin origin c.0) cs (c ∷ []) ∙ ap (λ b. filter (λ c. same_origin origin c.0) cs ++ cond b (c ∷ []) []) e ∙ append-nil (filter (λ c. same_origin origin c.0) cs))
+    -- a component is of its origin, the last part of its sort
+    of_origin-own : same_origin origin c.0 ≡ true
+        → of_origin origin (cs ++ c ∷ []) ≡ with_part c.1 (of_origin origin cs)
+    of_origin-own e =
+        ap (λ l. parts_of (map (λ c. c.1) l)) (filter-push_kept (λ c. same_origin origin c.0) cs c e)
+        ∙ ap parts_of (map-append (λ c. c.1) its (c ∷ []))
+        ∙ (λ i. with_lists (λ s. filter_map-push (of_sort s) (map (λ c. c.1) its) c.1 i))
+
+    -- and of no other
+    of_origin-other : same_origin origin c.0 ≡ false → of_origin origin (cs ++ c ∷ []) ≡ of_origin origin cs
+    of_origin-other e =
+        ap (λ l. parts_of (map (λ c. c.1) l)) (filter-push_dropped (λ c. same_origin origin c.0) cs c e)
 
 -- identities of one number have the same parts
-of_origin-number : (cs : List SourcedPart) (a b : ExtensionId) → same_id a b ≡ true → of_origin (Extension b) cs ≡ of_origin (Extension a) cs
-of_origin-number cs a b e = (λ i. parts_of (map (λ c. c.1) (filter (λ c. one c.0 i) cs)))
+of_origin-number : (cs : List SourcedPart) (a b : ExtensionId) → same_id a b ≡ true
+    → of_origin (Extension b) cs ≡ of_origin (Extension a) cs
+of_origin-number cs a b e = λ i. parts_of (map (λ c. c.1) (filter (λ c. one c.0 i) cs))
   where
     one : (o : ComponentOrigin) → same_origin (Extension b) o ≡ same_origin (Extension a) o
     one Definition = refl
     one (Extension d) = sym (same_id-equiv.congr a b d e)
 
 -- an identity that isn't there has no parts
-of_origin-none : (cs : List SourcedPart) (id : ExtensionId) → list_any (same_id id) (filter_map id_of (origins_in cs)) ≡ false → of_origin (Extension id) cs ≡ no_parts
+of_origin-none : (cs : List SourcedPart) (id : ExtensionId)
+    → list_any (same_id id) (filter_map id_of (origins_in cs)) ≡ false
+    → of_origin (Extension id) cs ≡ no_parts
 of_origin-none cs id none = ap (λ l. parts_of (map (λ c. c.1) l)) (nothing cs none)
   where
-    nothing : (cs : List SourcedPart) → list_any (same_id id) (filter_map id_of (origins_in cs)) ≡ false → filter (λ c. same_origin (Extension id) c.0) cs ≡ []
+    nothing : (cs : List SourcedPart) → list_any (same_id id) (filter_map id_of (origins_in cs)) ≡ false
+        → filter (λ c. same_origin (Extension id) c.0) cs ≡ []
     nothing [] h = refl
-    nothing (c ∷ cs) h = by c.0 h (nothing cs)
-      where
-        by : (o : ComponentOrigin) → list_any (same_id id) (cons_option (id_of o) (filter_map id_of (origins_in cs))) ≡ false
-            → (list_any (same_id id) (filter_map id_of (origins_in cs)) ≡ false → filter (λ c. same_origin (Extension id) c.0) cs ≡ [])
-            → cond (same_origin (Extension id) o) (c ∷ filter (λ c. same_origin (Extension id) c.0) cs) (filter (λ c. same_origin (Extension id) c.0) cs) ≡ []
-        by Definition h rest = rest h
-        by (Extension e) h rest = found (same_id id e) h
-          where
-            found : (b : Bool) → (b || list_any (same_id id) (filter_map id_of (origins_in cs))) ≡ false → cond b (c ∷ filter (λ c. same_origin (Extension id) c.0) cs) (filter (λ c. same_origin (Extension id) c.0) cs) ≡ []
-            found true h = absurd (true≢false h)
-            found false h = rest h
+    nothing ((Definition, p) ∷ cs) h = nothing cs h
+    nothing ((Extension e, p) ∷ cs) h = grind (arith, nothing cs)
 
--- a component of the definition
-pub by_origin-definition : (cs : List SourcedPart) (p : Part) → record { definition = with_part p (of_origin Definition cs); extensions = of_extensions cs } ≡ by_origin (cs ++ (Definition, p) ∷ [])
-by_origin-definition cs p = (λ i. record {
-  definition = sym (of_origin-own Definition cs (Definition, p) refl) i;
-  extensions = map (λ e. (e, sym (of_origin-other (Extension e) cs (Definition, p) refl) i)) (first_of_each same_id (same i));
-})
-  where
-    same : filter_map id_of (origins_in cs) ≡ filter_map id_of (origins_in (cs ++ (Definition, p) ∷ []))
-    same = sym (ap (filter_map id_of) (map-append (λ c. c.0) cs ((Definition, p) ∷ [])) ∙ filter_map-append id_of (origins_in cs) (Definition ∷ []) ∙ append-nil (filter_map id_of (origins_in cs)))
+module _ (b : PartsByOrigin) (cs : List SourcedPart) (was : b ≡ by_origin cs) (p : Part) where
+  -- a part of the definition is put there
+  pub definition-push : (o : ComponentOrigin) (definition : Parts) → o ≡ Definition
+      → definition ≡ with_part p b.definition
+      → record { definition = definition; extensions = b.extensions } ≡ by_origin (cs ++ (o, p) ∷ [])
+  definition-push o definition is put = rw (is, put, was) (λ i. record {
+    definition = sym (of_origin-own cs (Definition, p) Definition refl) i;
+    extensions = tabled (λ e. sym (of_origin-other cs (Definition, p) (Extension e) refl) i)
+        (first_of_each same_id (sym (ids-push cs (Definition, p)) i));
+  })
 
-module _ (cs : List SourcedPart) (id : ExtensionId) (p : Part) where
-  abbrev ids : List ExtensionId
-  ids = filter_map id_of (origins_in cs)
+  module _ (id : ExtensionId) where
+    abbrev ids : List ExtensionId
+    ids = filter_map id_of (origins_in cs)
 
-  abbrev before : ExtensionId → Parts
-  before e = of_origin (Extension e) cs
+    abbrev before : ExtensionId → Parts
+    before e = of_origin (Extension e) cs
 
-  abbrev after : ExtensionId → Parts
-  after e = of_origin (Extension e) (cs ++ (Extension id, p) ∷ [])
+    abbrev after : ExtensionId → Parts
+    after e = of_origin (Extension e) (cs ++ (Extension id, p) ∷ [])
 
-  -- a component of an extension is no one of the definition's
-  pub definition-kept : of_origin Definition cs ≡ of_origin Definition (cs ++ (Extension id, p) ∷ [])
-  definition-kept = sym (of_origin-other Definition cs (Extension id, p) refl)
+    -- it is put at its identity
+    of_extensions-insert : insert_entry same_id (of_extensions cs) id (with_part p (before id))
+        ≡ of_extensions (cs ++ (Extension id, p) ∷ [])
+    of_extensions-insert =
+        ap (insert_entry same_id (of_extensions cs) id)
+        (sym (of_origin-own cs (Extension id, p) (Extension id) (same_id-equiv.refl id)))
+        ∙ tabled-insert same_id same_id-equiv before after id
+        (λ e apart. sym (of_origin-other cs (Extension id, p) (Extension e)
+        (same_id-equiv.symm e id ∙ apart)))
+        (of_origin-number (cs ++ (Extension id, p) ∷ []) id) (first_of_each same_id ids)
+        (first_of_each-distinct same_id ids)
+        ∙ ap (tabled after) (sym (first_of_each-insert same_id same_id-equiv ids id)
+        ∙ ap (first_of_each same_id) (sym (ids-push cs (Extension id, p))))
 
-  -- it is put at its identity
-  of_extensions-insert : insert_entry same_id (of_extensions cs) id (with_part p (of_origin (Extension id) cs)) ≡ of_extensions (cs ++ (Extension id, p) ∷ [])
-  of_extensions-insert =
-      ap (insert_entry same_id (of_extensions cs) id) (sym (of_origin-own (Extension id) cs (Extension id, p) (same_id-equiv.refl id)))
-      ∙ tabled-insert same_id same_id-equiv before after id others (of_origin-number (cs ++ (Extension id, p) ∷ []) id) (first_of_each same_id ids) (first_of_each-distinct same_id ids)
-      ∙ ap (tabled after) (sym (first_of_each-insert same_id same_id-equiv ids id) ∙ ap (first_of_each same_id) more)
-    where
-      others : (e : ExtensionId) → same_id id e ≡ false → before e ≡ after e
-      others e apart = sym (of_origin-other (Extension e) cs (Extension id, p) (same_id-equiv.symm e id ∙ apart))
+    -- what stands at an identity are its parts
+    held : unwrap_or (lookup (same_id id) (of_extensions cs)) no_parts ≡ before id
+    held = grind (
+      arith,
+      lookup-tabled same_id same_id-equiv before id (of_origin-number cs id) (first_of_each same_id ids),
+      list_any-first_of_each same_id same_id-equiv id ids,
+      of_origin-none cs id,
+    )
 
-      more : ids ++ id ∷ [] ≡ filter_map id_of (origins_in (cs ++ (Extension id, p) ∷ []))
-      more = sym (ap (filter_map id_of) (map-append (λ c. c.0) cs ((Extension id, p) ∷ [])) ∙ filter_map-append id_of (origins_in cs) (Extension id ∷ []))
-
-  held : lookup (same_id id) (of_extensions cs) ≡ cond (list_any (same_id id) (first_of_each same_id ids)) (Some (before id)) None
-  held = lookup-tabled same_id same_id-equiv before id (of_origin-number cs id) (first_of_each same_id ids)
-
-  -- what stands at an identity are its parts
-  held-found : (parts : Parts) → lookup (same_id id) (of_extensions cs) ≡ Some parts → parts ≡ of_origin (Extension id) cs
-  held-found parts h = by (list_any (same_id id) (first_of_each same_id ids)) (sym held ∙ h)
-    where
-      by : (b : Bool) → cond b (Some (before id)) None ≡ Some parts → parts ≡ before id
-      by true h = sym (ap (λ o. unwrap_or o parts) h)
-      by false h = absurd (true≢false (sym (ap is_some h)))
-
-  held-none : lookup (same_id id) (of_extensions cs) ≡ None → no_parts ≡ of_origin (Extension id) cs
-  held-none h = by (list_any (same_id id) ids) refl
-    where
-      by : (b : Bool) → list_any (same_id id) ids ≡ b → no_parts ≡ before id
-      by false e = sym (of_origin-none cs id e)
-      by true e = absurd (true≢false (ap is_some (sym (held ∙ ap (λ b. cond b (Some (before id)) None) (list_any-first_of_each same_id same_id-equiv id ids ∙ e)) ∙ h)))
-
-  -- so a part more of an extension is one component more
-  pub of_extensions-push : with_extension_part id p (of_extensions cs) ≡ of_extensions (cs ++ (Extension id, p) ∷ [])
-  of_extensions-push = ap (λ parts. insert_entry same_id (of_extensions cs) id (with_part p parts)) (by (lookup (same_id id) (of_extensions cs)) refl) ∙ of_extensions-insert
-    where
-      by : (o : Option Parts) → lookup (same_id id) (of_extensions cs) ≡ o → unwrap_or o no_parts ≡ before id
-      by None h = held-none h
-      by (Some parts) h = held-found parts h
+    -- so a part of an extension is put there
+    pub extension-push : (o : ComponentOrigin) (extensions : List (ExtensionId × Parts)) → o ≡ Extension id
+        → extensions ≡ with_extension_part id p b.extensions
+        → record { definition = b.definition; extensions = extensions } ≡ by_origin (cs ++ (o, p) ∷ [])
+    extension-push o extensions is put = rw (is, put, was) (λ i. record {
+      definition = sym (of_origin-other cs (Extension id, p) Definition refl) i;
+      extensions = (ap (λ parts. insert_entry same_id (of_extensions cs) id (with_part p parts)) held
+          ∙ of_extensions-insert) i;
+    })

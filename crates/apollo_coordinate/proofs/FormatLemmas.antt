@@ -1,22 +1,28 @@
 -- A text that is refused for its format is refused for nothing else, and is not of the form.
 use Rattle.std.proofs.Common.{◌≡◌, ◌++◌, ℕ, List, codes, refl, subst, sym, ◌∙◌, inl, inr}
 use Rattle.graphql_nodes.specs.declared.name.InvalidNameError.{InvalidNameError}
-use Rattle.apollo_coordinate.specs.CoordinateText.{IsAttributeText, IsFieldArgumentText, IsDirectiveText, SaysCoordinate}
-use Rattle.apollo_coordinate.specs.Refusals.{IsNoNames, IsNoAttribute, IsNoDirective, IsNoArgument, IsNoPair, IsNoArgumentOf, IsNoFieldArgument, IsNoDirectiveArgument}
+use Rattle.apollo_coordinate.specs.CoordinateText.{IsAttributeText, IsFieldArgumentText, IsDirectiveText}
+use Rattle.apollo_coordinate.specs.CoordinateText.{SaysCoordinate}
+use Rattle.apollo_coordinate.specs.Refusals.{IsNoNames, IsNoAttribute, IsNoDirective, IsNoArgument, IsNoPair}
+use Rattle.apollo_coordinate.specs.Refusals.{IsNoArgumentOf, IsNoFieldArgument, IsNoDirectiveArgument}
 use Rattle.apollo_coordinate.specs.declared.coordinates.TypeAttributeCoordinate.{TypeAttributeCoordinate}
 use Rattle.apollo_coordinate.specs.declared.coordinates.FieldArgumentCoordinate.{FieldArgumentCoordinate}
 use Rattle.apollo_coordinate.specs.declared.coordinates.DirectiveArgumentCoordinate.{DirectiveArgumentCoordinate}
-use Rattle.apollo_coordinate.specs.declared.coordinates.SchemaCoordinate.TheVariants.{TypeAttribute, FieldArgument, DirectiveArgument}
+use Rattle.apollo_coordinate.specs.declared.coordinates.SchemaCoordinate.TheVariants.{TypeAttribute}
+use Rattle.apollo_coordinate.specs.declared.coordinates.SchemaCoordinate.TheVariants.{FieldArgument}
+use Rattle.apollo_coordinate.specs.declared.coordinates.SchemaCoordinate.TheVariants.{DirectiveArgument}
 use Rattle.apollo_coordinate.specs.declared.parse_error.SchemaCoordinateParseError.{SchemaCoordinateParseError}
-use Rattle.apollo_coordinate.specs.declared.parse_error.SchemaCoordinateParseError.TheVariants.{InvalidFormat, InvalidName}
-use Rattle.apollo_coordinate.proofs.GrammarLemmas.{cut_lacks, no_attribute, no_directive, no_field_argument, no_directive_argument}
+use Rattle.apollo_coordinate.specs.declared.parse_error.SchemaCoordinateParseError.TheVariants.{InvalidFormat}
+use Rattle.apollo_coordinate.specs.declared.parse_error.SchemaCoordinateParseError.TheVariants.{InvalidName}
+use Rattle.apollo_coordinate.proofs.GrammarLemmas.{cut_lacks, no_attribute, no_directive, no_field_argument}
+use Rattle.apollo_coordinate.proofs.GrammarLemmas.{no_directive_argument}
 use Rattle.apollo_coordinate.proofs.MarkLemmas.{one_cut}
 use Rattle.apollo_coordinate.proofs.TextLemmas.{field_argument_form}
 
 -- a form whose refusals for the format are its only ones
 abbrev pub IsRefusedAlone : (List ℕ → SchemaCoordinateParseError → Type 0) → Type 0
-IsRefusedAlone IsNo =
-    (t : List ℕ) (e : SchemaCoordinateParseError) → IsNo t InvalidFormat → IsNo t e → e ≡ InvalidFormat
+IsRefusedAlone IsNo = (t : List ℕ) (e : SchemaCoordinateParseError) → IsNo t InvalidFormat → IsNo t e
+    → e ≡ InvalidFormat
 
 no_name : (e : InvalidNameError) → InvalidFormat ≡ InvalidName e → ⊥
 no_name e same = cc
@@ -58,8 +64,8 @@ module _ (IsHead : List ℕ → Type 0) (IsNoHead : List ℕ → SchemaCoordinat
   argument_of_format t e (inr a) (inr b) =
       let same = one_cut 40 a.0 a.1 b.0 b.1 a.2.0 b.2.0 (sym a.2.1 ∙ b.2.1) in
       let head = subst (λ (h : List ℕ). IsNoPair IsHead IsNoHead h a.1 InvalidFormat) same.0 a.3 in
-      pair_format b.0 b.1 e
-      (subst (λ (r : List ℕ). IsNoPair IsHead IsNoHead b.0 r InvalidFormat) same.1 head) b.3
+      pair_format b.0 b.1 e (subst (λ (r : List ℕ). IsNoPair IsHead IsNoHead b.0 r InvalidFormat) same.1 head)
+      b.3
 
 pub field_argument_format : IsRefusedAlone IsNoFieldArgument
 field_argument_format = argument_of_format IsAttributeText IsNoAttribute no_attribute attribute_format
@@ -75,9 +81,8 @@ attribute_said t c e said none =
 
 pub field_argument_said : (t : List ℕ) (c : FieldArgumentCoordinate) (e : SchemaCoordinateParseError)
     → SaysCoordinate t (FieldArgument c) → IsNoFieldArgument t e → ⊥
-field_argument_said t c e said none =
-    no_field_argument t e none
-    (subst IsFieldArgumentText said.0 (field_argument_form c said.1.0.0 said.1.1.0.0 said.1.1.1.0.0))
+field_argument_said t c e said none = no_field_argument t e none (subst IsFieldArgumentText said.0
+    (field_argument_form c said.1.0.0 said.1.1.0.0 said.1.1.1.0.0))
 
 pub directive_argument_said : (t : List ℕ) (c : DirectiveArgumentCoordinate) (e : SchemaCoordinateParseError)
     → SaysCoordinate t (DirectiveArgument c) → IsNoDirectiveArgument t e → ⊥

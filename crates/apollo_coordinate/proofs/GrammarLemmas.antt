@@ -1,11 +1,16 @@
 -- What the marks of a text say of its form, and that a refused text is outside the grammar.
-use Rattle.std.proofs.Common.{◌≡◌, ◌≢◌, ◌<◌, ◌++◌, ℕ, List, [], ◌∷◌, true, false, not, nat_eq, codes, refl, sym, ap, subst, ◌∙◌, inl, inr, arith}
+use Rattle.std.proofs.Common.{◌≡◌, ◌≢◌, ◌<◌, ◌++◌, ℕ, List, [], ◌∷◌, true, false, not, nat_eq, codes, refl}
+use Rattle.std.proofs.Common.{sym, ap, subst, ◌∙◌, inl, inr, arith}
 use Rattle.std.specs.Cmp.Lexicographic.{pointwise}
 use Rattle.std.proofs.lemmas.List.Elements.{All-weaker, All-append, All-cons}
 use Rattle.graphql_nodes.specs.NameSyntax.{IsName, IsNameStart, IsNameContinue}
 use Rattle.graphql_nodes.proofs.Comparisons.{head_same, tail_same}
-use Rattle.apollo_coordinate.specs.CoordinateText.{IsTypeText, IsAttributeText, IsArgumentText, IsFieldArgumentText, IsDirectiveText, IsDirectiveArgumentText, IsCoordinateText}
-use Rattle.apollo_coordinate.specs.Refusals.{Lacks, IsCut, IsNoNames, IsNoAttribute, IsNoDirective, IsNoArgument, IsNoPair, IsNoArgumentOf, IsNoFieldArgument, IsNoDirectiveArgument}
+use Rattle.apollo_coordinate.specs.CoordinateText.{IsTypeText, IsAttributeText, IsArgumentText}
+use Rattle.apollo_coordinate.specs.CoordinateText.{IsFieldArgumentText, IsDirectiveText}
+use Rattle.apollo_coordinate.specs.CoordinateText.{IsDirectiveArgumentText, IsCoordinateText}
+use Rattle.apollo_coordinate.specs.Refusals.{Lacks, IsCut, IsNoNames, IsNoAttribute, IsNoDirective}
+use Rattle.apollo_coordinate.specs.Refusals.{IsNoArgument, IsNoPair, IsNoArgumentOf, IsNoFieldArgument}
+use Rattle.apollo_coordinate.specs.Refusals.{IsNoDirectiveArgument}
 use Rattle.apollo_coordinate.specs.declared.parse_error.SchemaCoordinateParseError.{SchemaCoordinateParseError}
 use Rattle.apollo_coordinate.specs.declared.parse_error.SchemaCoordinateParseError.TheVariants.{InvalidFormat}
 use Rattle.apollo_coordinate.proofs.MarkLemmas.{no_cut, one_cut}
@@ -41,10 +46,8 @@ at_sign = middle_mark 64 (omega arith) (omega arith)
 -- a name has no mark
 pub name_lacks : (mark : ℕ) → IsMark mark → (t : List ℕ) → IsName t → Lacks mark t
 name_lacks mark never [] name = absurd name
-name_lacks mark never (c ∷ cs) name =
-    All-weaker IsNameContinue (λ b. b ≢ mark)
-    (λ b continues same. never (subst IsNameContinue same continues)) (c ∷ cs)
-    (All-cons IsNameContinue c cs (inl name.0) name.1)
+name_lacks mark never (c ∷ cs) name = All-weaker IsNameContinue (λ b. b ≢ mark) (λ b continues same. never
+    (subst IsNameContinue same continues)) (c ∷ cs) (All-cons IsNameContinue c cs (inl name.0) name.1)
 
 -- a text that begins with `@`
 abbrev pub BeginsAt : List ℕ → Type 0
@@ -72,8 +75,8 @@ head_begins (c ∷ cs) more form at =
     attribute_begins (c ∷ cs) form (cs, let first : c ≡ 64 = head_same at.1 in λ i. first i ∷ cs)
 
 pub field_argument_begins : (t : List ℕ) → IsFieldArgumentText t → BeginsAt t → ⊥
-field_argument_begins t form at =
-    head_begins form.0 (codes "(" ++ (form.1 ++ codes ":)")) form.3 (at.0, sym form.2 ∙ at.1)
+field_argument_begins t form at = head_begins form.0 (codes "(" ++ (form.1 ++ codes ":)")) form.3
+    (at.0, sym form.2 ∙ at.1)
 
 pub attribute_lacks : (t : List ℕ) → IsAttributeText t → Lacks 40 t
 attribute_lacks t form =
@@ -111,8 +114,7 @@ only_directive t at lacks (inr (inr (inr (inr form)))) = absurd (argument_cut Is
 pub argument_begins : (t : List ℕ) → IsDirectiveArgumentText t → BeginsAt t
 argument_begins t form = (
   form.3.0 ++ (codes "(" ++ (form.1 ++ codes ":)")),
-  form.2
-      ∙ ap (λ (h : List ℕ). h ++ (codes "(" ++ (form.1 ++ codes ":)"))) form.3.1,
+  form.2 ∙ ap (λ (h : List ℕ). h ++ (codes "(" ++ (form.1 ++ codes ":)"))) form.3.1,
 )
 
 pub only_field_argument : (t : List ℕ) → (BeginsAt t → ⊥) → (Lacks 40 t → ⊥) → IsCoordinateText t
@@ -154,8 +156,8 @@ pub no_directive : (t : List ℕ) (e : SchemaCoordinateParseError) → IsNoDirec
 no_directive t e (inl none) form = none.0 form.0 form.1
 no_directive t e (inr name) form = name.2.0 (subst IsName (tail_same (sym form.1 ∙ name.1)) form.2)
 
-pub no_argument : (a : List ℕ) (e : SchemaCoordinateParseError) → IsNoArgument (a ++ codes ":)") e
-    → IsName a → ⊥
+pub no_argument : (a : List ℕ) (e : SchemaCoordinateParseError) → IsNoArgument (a ++ codes ":)") e → IsName a
+    → ⊥
 no_argument a e (inl none) name = none.0 a (name_lacks 58 colon a name) refl
 no_argument a e (inr found) name =
     found.3.0 (subst IsName (one_cut 58 a (codes ")") found.0 (codes ")") (name_lacks 58 colon a name) found.1
@@ -170,8 +172,8 @@ no_pair IsHead IsNoHead refuses head a e (inl first) form name = refuses head e 
 no_pair IsHead IsNoHead refuses head a e (inr second) form name = no_argument a e second.1 name
 
 no_argument_of : (IsHead : List ℕ → Type 0) (IsNoHead : List ℕ → SchemaCoordinateParseError → Type 0)
-    → ((h : List ℕ) → IsHead h → Lacks 40 h) → ((h : List ℕ) (e : SchemaCoordinateParseError) → IsNoHead h e
-    → IsHead h → ⊥)
+    → ((h : List ℕ) → IsHead h → Lacks 40 h)
+    → ((h : List ℕ) (e : SchemaCoordinateParseError) → IsNoHead h e → IsHead h → ⊥)
     → (t : List ℕ) (e : SchemaCoordinateParseError) → IsNoArgumentOf IsHead IsNoHead t e
     → IsArgumentText IsHead t → ⊥
 no_argument_of IsHead IsNoHead lacks refuses t e (inl none) form = argument_cut IsHead t form none.0

@@ -2,7 +2,9 @@
 use Rattle.std.proofs.Common.{◌≡◌, sym, subst}
 use Rattle.apollo_coordinate.specs.Refusals.{WhenRefused}
 use Rattle.apollo_coordinate.specs.declared.parse_error.SchemaCoordinateParseError.{SchemaCoordinateParseError}
-use Rattle.apollo_coordinate.specs.declared.parse_error.SchemaCoordinateParseError.TheVariants.{InvalidFormat, InvalidName, Memory}
+use Rattle.apollo_coordinate.specs.declared.parse_error.SchemaCoordinateParseError.TheVariants.{InvalidFormat}
+use Rattle.apollo_coordinate.specs.declared.parse_error.SchemaCoordinateParseError.TheVariants.{InvalidName}
+use Rattle.apollo_coordinate.specs.declared.parse_error.SchemaCoordinateParseError.TheVariants.{Memory}
 
 -- what holds of the error that is asked for holds of the one that is answered, unless memory ran out
 pub answered : (Holds : SchemaCoordinateParseError → Type 0) (e asked : SchemaCoordinateParseError)

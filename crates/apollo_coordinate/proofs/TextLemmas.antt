@@ -1,20 +1,31 @@
 -- The text of a coordinate of valid names: it is in the grammar, and of no other coordinate.
-use Rattle.std.proofs.Common.{◌≡◌, ◌++◌, ℕ, List, None, Result, Ok, Err, codes, refl, sym, subst, ◌∙◌, inl, inr, append_assoc}
+use Rattle.std.proofs.Common.{◌≡◌, ◌++◌, ℕ, List, None, Result, Ok, Err, codes, refl, sym, subst, ◌∙◌, inl}
+use Rattle.std.proofs.Common.{inr, append_assoc}
 use Rattle.std.specs.List.{AllByRecursion}
 use Rattle.graphql_nodes.specs.Comparing.{bare_name}
 use Rattle.graphql_nodes.specs.NameSyntax.{IsName}
 use Rattle.graphql_nodes.specs.NameView.{NameView}
 use Rattle.graphql_nodes.proofs.Comparisons.{tail_same}
-use Rattle.apollo_coordinate.specs.CoordinateText.{IsAttributeText, IsFieldArgumentText, IsDirectiveText, IsDirectiveArgumentText, IsCoordinateText, HasNames, SaysCoordinate, coordinate_text, coordinate_parts, bare_coordinate}
+use Rattle.apollo_coordinate.specs.CoordinateText.{IsAttributeText, IsFieldArgumentText, IsDirectiveText}
+use Rattle.apollo_coordinate.specs.CoordinateText.{IsDirectiveArgumentText, IsCoordinateText, HasNames}
+use Rattle.apollo_coordinate.specs.CoordinateText.{SaysCoordinate, coordinate_text, coordinate_parts}
+use Rattle.apollo_coordinate.specs.CoordinateText.{bare_coordinate}
 use Rattle.apollo_coordinate.specs.Refusals.{Lacks}
 use Rattle.apollo_coordinate.specs.Readings.{IsReadingOf, IsReadBack}
 use Rattle.apollo_coordinate.specs.declared.coordinates.FieldArgumentCoordinate.{FieldArgumentCoordinate}
 use Rattle.apollo_coordinate.specs.declared.coordinates.SchemaCoordinate.{SchemaCoordinate}
-use Rattle.apollo_coordinate.specs.declared.coordinates.SchemaCoordinate.TheVariants.{Ty, TypeAttribute, FieldArgument, Directive, DirectiveArgument}
+use Rattle.apollo_coordinate.specs.declared.coordinates.SchemaCoordinate.TheVariants.{Ty, TypeAttribute}
+use Rattle.apollo_coordinate.specs.declared.coordinates.SchemaCoordinate.TheVariants.{FieldArgument}
+use Rattle.apollo_coordinate.specs.declared.coordinates.SchemaCoordinate.TheVariants.{Directive}
+use Rattle.apollo_coordinate.specs.declared.coordinates.SchemaCoordinate.TheVariants.{DirectiveArgument}
 use Rattle.apollo_coordinate.specs.declared.parse_error.SchemaCoordinateParseError.{SchemaCoordinateParseError}
-use Rattle.apollo_coordinate.specs.declared.parse_error.SchemaCoordinateParseError.TheVariants.{InvalidFormat, InvalidName, Memory}
+use Rattle.apollo_coordinate.specs.declared.parse_error.SchemaCoordinateParseError.TheVariants.{InvalidFormat}
+use Rattle.apollo_coordinate.specs.declared.parse_error.SchemaCoordinateParseError.TheVariants.{InvalidName}
+use Rattle.apollo_coordinate.specs.declared.parse_error.SchemaCoordinateParseError.TheVariants.{Memory}
 use Rattle.apollo_coordinate.proofs.MarkLemmas.{one_cut}
-use Rattle.apollo_coordinate.proofs.GrammarLemmas.{BeginsAt, point, bracket, colon, name_lacks, type_begins, attribute_begins, field_argument_begins, attribute_lacks, directive_lacks, attribute_cut, argument_cut}
+use Rattle.apollo_coordinate.proofs.GrammarLemmas.{BeginsAt, point, bracket, colon, name_lacks, type_begins}
+use Rattle.apollo_coordinate.proofs.GrammarLemmas.{attribute_begins, field_argument_begins, attribute_lacks}
+use Rattle.apollo_coordinate.proofs.GrammarLemmas.{directive_lacks, attribute_cut, argument_cut}
 
 pub field_argument_form : (c : FieldArgumentCoordinate) → IsName c.ty.text → IsName c.field.text
     → IsName c.argument.text → IsFieldArgumentText (coordinate_text (FieldArgument c))
@@ -39,14 +50,13 @@ in_grammar (Ty c) names = inl names.0
 in_grammar (TypeAttribute c) names = inr (inl (c.ty.text, c.attribute.text, refl, names.0, names.1.0))
 in_grammar (FieldArgument c) names = inr (inr (inl (field_argument_form c names.0 names.1.0 names.1.1.0)))
 in_grammar (Directive c) names = inr (inr (inr (inl (c.directive.text, refl, names.0))))
-in_grammar (DirectiveArgument c) names =
-    inr (inr (inr (inr (
-      codes "@" ++ c.directive.text,
-      c.argument.text,
-      refl,
-      (c.directive.text, refl, names.0),
-      names.1.0,
-    ))))
+in_grammar (DirectiveArgument c) names = inr (inr (inr (inr (
+  codes "@" ++ c.directive.text,
+  c.argument.text,
+  refl,
+  (c.directive.text, refl, names.0),
+  names.1.0,
+))))
 
 -- the marks of the text
 abbrev HasMarks : SchemaCoordinate → List ℕ → Type 0
@@ -91,60 +101,40 @@ bare_same n m h = λ i. record { text = h i; location = None }
 
 argument_same : (a b : NameView) → IsName a.text → IsName b.text → a.text ++ codes ":)" ≡ b.text ++ codes ":)"
     → bare_name a ≡ bare_name b
-argument_same a b m n h =
-    bare_same a b (one_cut 58 a.text (codes ")") b.text (codes ")") (name_lacks 58 colon a.text m)
-    (name_lacks 58 colon b.text n) h).0
+argument_same a b m n h = bare_same a b (one_cut 58 a.text (codes ")") b.text (codes ")")
+    (name_lacks 58 colon a.text m) (name_lacks 58 colon b.text n) h).0
 
 -- a text, with the marks that two coordinates have in it
 same_form : (c d : SchemaCoordinate) → HasNames c → HasNames d → coordinate_text c ≡ coordinate_text d
     → HasMarks c (coordinate_text c) → HasMarks d (coordinate_text c) → bare_coordinate c ≡ bare_coordinate d
 same_form (Ty c) (Ty d) m n h u v = let n = bare_same c.ty d.ty h in λ i. Ty (record { ty = n i })
-same_form (Ty c) (TypeAttribute d) m n h u v = absurd (v.2 u.2)
-same_form (Ty c) (FieldArgument d) m n h u v = absurd (v.1 u.1)
-same_form (Ty c) (Directive d) m n h u v = absurd (u.0 v.0)
-same_form (Ty c) (DirectiveArgument d) m n h u v = absurd (u.0 v.0)
-same_form (TypeAttribute c) (Ty d) m n h u v = absurd (u.2 v.2)
 same_form (TypeAttribute c) (TypeAttribute d) m n h u v =
-    let cut = one_cut 46 c.ty.text c.attribute.text d.ty.text d.attribute.text
-    (name_lacks 46 point c.ty.text m.0) (name_lacks 46 point d.ty.text n.0) h in
+    let cut = one_cut 46 c.ty.text c.attribute.text d.ty.text d.attribute.text (name_lacks 46 point c.ty.text
+    m.0) (name_lacks 46 point d.ty.text n.0) h in
     let first = bare_same c.ty d.ty cut.0 in
     let second = bare_same c.attribute d.attribute cut.1 in
     λ i. TypeAttribute (record { ty = first i; attribute = second i })
-same_form (TypeAttribute c) (FieldArgument d) m n h u v = absurd (v.1 u.1)
-same_form (TypeAttribute c) (Directive d) m n h u v = absurd (u.0 v.0)
-same_form (TypeAttribute c) (DirectiveArgument d) m n h u v = absurd (u.0 v.0)
-same_form (FieldArgument c) (Ty d) m n h u v = absurd (u.1 v.1)
-same_form (FieldArgument c) (TypeAttribute d) m n h u v = absurd (u.1 v.1)
 same_form (FieldArgument c) (FieldArgument d) m n h u v =
     let cut = one_cut 46 c.ty.text (c.field.text ++ (codes "(" ++ (c.argument.text ++ codes ":)"))) d.ty.text
     (d.field.text ++ (codes "(" ++ (d.argument.text ++ codes ":)"))) (name_lacks 46 point c.ty.text m.0)
     (name_lacks 46 point d.ty.text n.0) h in
-    let next = one_cut 40 c.field.text (c.argument.text ++ codes ":)") d.field.text
-    (d.argument.text ++ codes ":)") (name_lacks 40 bracket c.field.text m.1.0)
-    (name_lacks 40 bracket d.field.text n.1.0) cut.1 in
+    let next = one_cut 40 c.field.text (c.argument.text ++ codes ":)") d.field.text (d.argument.text
+    ++ codes ":)") (name_lacks 40 bracket c.field.text m.1.0) (name_lacks 40 bracket d.field.text n.1.0)
+    cut.1 in
     let first = bare_same c.ty d.ty cut.0 in
     let second = bare_same c.field d.field next.0 in
     let third = argument_same c.argument d.argument m.1.1.0 n.1.1.0 next.1 in
     λ i. FieldArgument (record { ty = first i; field = second i; argument = third i })
-same_form (FieldArgument c) (Directive d) m n h u v = absurd (u.0 v.0)
-same_form (FieldArgument c) (DirectiveArgument d) m n h u v = absurd (u.0 v.0)
-same_form (Directive c) (Ty d) m n h u v = absurd (v.0 u.0)
-same_form (Directive c) (TypeAttribute d) m n h u v = absurd (v.0 u.0)
-same_form (Directive c) (FieldArgument d) m n h u v = absurd (v.0 u.0)
 same_form (Directive c) (Directive d) m n h u v =
     let n = bare_same c.directive d.directive (tail_same h) in λ i. Directive (record { directive = n i })
-same_form (Directive c) (DirectiveArgument d) m n h u v = absurd (v.1 u.1)
-same_form (DirectiveArgument c) (Ty d) m n h u v = absurd (v.0 u.0)
-same_form (DirectiveArgument c) (TypeAttribute d) m n h u v = absurd (v.0 u.0)
-same_form (DirectiveArgument c) (FieldArgument d) m n h u v = absurd (v.0 u.0)
-same_form (DirectiveArgument c) (Directive d) m n h u v = absurd (u.1 v.1)
 same_form (DirectiveArgument c) (DirectiveArgument d) m n h u v =
-    let cut = one_cut 40 c.directive.text (c.argument.text ++ codes ":)") d.directive.text
-    (d.argument.text ++ codes ":)") (name_lacks 40 bracket c.directive.text m.0)
-    (name_lacks 40 bracket d.directive.text n.0) (tail_same h) in
+    let cut = one_cut 40 c.directive.text (c.argument.text ++ codes ":)") d.directive.text (d.argument.text
+    ++ codes ":)") (name_lacks 40 bracket c.directive.text m.0) (name_lacks 40 bracket d.directive.text
+    n.0) (tail_same h) in
     let first = bare_same c.directive d.directive cut.0 in
     let second = argument_same c.argument d.argument m.1.0 n.1.0 cut.1 in
     λ i. DirectiveArgument (record { directive = first i; argument = second i })
+same_form c d m n h u v = absurd (search (u.0, v.0, u.1, v.1, u.2, v.2))
 
 pub apart : (c d : SchemaCoordinate) → HasNames c → HasNames d → coordinate_text c ≡ coordinate_text d
     → bare_coordinate c ≡ bare_coordinate d
@@ -185,8 +175,8 @@ said_in_grammar t c said = subst IsCoordinateText said.0 (in_grammar c (said_nam
 -- whatever reads the text of a coordinate of valid names answers it, or out of memory
 pub reads : (c : SchemaCoordinate) (result : Result SchemaCoordinate SchemaCoordinateParseError) → HasNames c
     → IsReadingOf (coordinate_text c) result → IsReadBack c result
-reads c (Ok d) names reading =
-    sym (said_bare d reading.0.1) ∙ apart d c (said_names d reading.0.1) names reading.0.0
+reads c (Ok d) names reading = sym (said_bare d reading.0.1) ∙ apart d c (said_names d reading.0.1) names
+    reading.0.0
 reads c (Err Memory) names reading = refl
 reads c (Err InvalidFormat) names reading = absurd (reading.1.0 (in_grammar c names))
 reads c (Err (InvalidName e)) names reading = absurd (reading.1.0 (in_grammar c names))

@@ -1,3 +1,2 @@
-pub mod CaseLemmas
 pub mod CompletionLemmas
 pub mod OrphanLemmas

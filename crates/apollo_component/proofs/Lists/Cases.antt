@@ -1,5 +1,6 @@
 -- Cases with their equations, and what is found in a list or an option.
-use Rattle.std.proofs.Common.{◌≡◌, Bool, true, false, cond, List, [], ◌∷◌, Option, Some, None, is_some, filter, map, slice_get, option_map, refl, ap, arith}
+use Rattle.std.proofs.Common.{◌≡◌, Bool, true, false, cond, List, [], ◌∷◌, Option, Some, None, is_some}
+use Rattle.std.proofs.Common.{filter, map, slice_get, option_map, refl, ap, arith}
 use Rattle.std.specs.List.{find, list_any}
 use Rattle.std.specs.Map.{lookup}
 
@@ -15,7 +16,8 @@ pub is_some-map : {X Y : Type 0} (f : X → Y) (o : Option X) → is_some (optio
 is_some-map f None = refl
 is_some-map f (Some x) = refl
 
-pub list_any-map : {X Y : Type 0} (p : Y → Bool) (f : X → Y) (xs : List X) → list_any p (map f xs) ≡ list_any (λ x. p (f x)) xs
+pub list_any-map : {X Y : Type 0} (p : Y → Bool) (f : X → Y) (xs : List X)
+    → list_any p (map f xs) ≡ list_any (λ x. p (f x)) xs
 list_any-map p f [] = refl
 list_any-map p f (x ∷ xs) = rw (list_any-map p f xs)
 
@@ -29,12 +31,14 @@ pub find-first : {X : Type 0} (p : X → Bool) (xs : List X) → find p xs ≡ s
 find-first p [] = refl
 find-first p (x ∷ xs) = grind (arith, find-first p xs)
 
-pub lookup-keyed : {K X : Type 0} (test : K → Bool) (key : X → K) (xs : List X) → lookup test (map (λ x. (key x, x)) xs) ≡ find (λ x. test (key x)) xs
+pub lookup-keyed : {K X : Type 0} (test : K → Bool) (key : X → K) (xs : List X)
+    → lookup test (map (λ x. (key x, x)) xs) ≡ find (λ x. test (key x)) xs
 lookup-keyed test key [] = refl
 lookup-keyed test key (x ∷ xs) = ap (cond (test (key x)) (Some x)) (lookup-keyed test key xs)
 
 -- the first that passes among what is made of each, and where nothing passes
-pub find-made : {X Y : Type 0} (p : Y → Bool) (f : X → Y) (xs : List X) → find p (map f xs) ≡ option_map f (find (λ x. p (f x)) xs)
+pub find-made : {X Y : Type 0} (p : Y → Bool) (f : X → Y) (xs : List X)
+    → find p (map f xs) ≡ option_map f (find (λ x. p (f x)) xs)
 find-made p f [] = refl
 find-made p f (x ∷ xs) = grind (arith, find-made p f xs)
 

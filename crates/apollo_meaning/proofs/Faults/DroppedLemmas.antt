@@ -1,15 +1,11 @@
 -- What is at fault among components and roots is what `first_of_each` drops.
-use Rattle.apollo_meaning.proofs.Prelude.{arith, ◌≡◌, ◌+◌, Bool, true, false, cond, List, [], ◌∷◌, ◌++◌, length, map, take, Some, refl, sym, ap, ◌∙◌, find, flat_map, option_map_or, IsEquivalence, on_equiv, flat_map-append, append-nil, map-append, NameView, same_text, OperationType, first_of_each, each_after, each_after-append, each_after-start, Collection, Fault, Entry, collision, collision_at, collisions, SchemaPart, Root, roots_in, ListItem, schema_extensions, schema_faults, schema_joining_faults, schemas, Placed, extension_places, first_place}
+use Rattle.apollo_meaning.proofs.Prelude.{arith, ◌≡◌, ◌+◌, List, [], ◌∷◌, ◌++◌, length, map, take, Some, refl, sym, ap, ◌∙◌, find, flat_map, option_map_or, IsEquivalence, on_equiv, flat_map-append, append-nil, map-append, NameView, same_text, first_of_each, each_after, each_after-append, each_after-start, Collection, Fault, Entry, collision, collision_at, collisions, SchemaPart, Root, roots_in, ListItem, schema_extensions, schema_faults, schema_joining_faults, schemas, Placed, extension_places, first_place, later_of_each, saying, said, said-later, length-first_later, same_name, dropped_component, same_operation, entry_laws, find-made}
 use Rattle.std.proofs.lemmas.List.{length-map}
 use Rattle.graphql_nodes.specs.OperationTexts.{operation_text}
-use Rattle.apollo_component.specs.FirstOfEach.{later_of_each}
-use Rattle.apollo_component.proofs.LaterLemmas.{saying, said, said-later, length-first_later}
 use Rattle.apollo_meaning.specs.declared.build_error.BuildError.TheVariants as errors
-use Rattle.apollo_meaning.specs.Faults.Collisions.{same_name, dropped_component}
-use Rattle.apollo_meaning.specs.Schema.Definition.{same_operation}
 use Rattle.apollo_meaning.specs.Faults.RootFaults.{root_fault, root_faults, same_root, dropped_root}
 use Rattle.apollo_meaning.specs.Faults.ListFaults.{found_of_schema}
-use Rattle.apollo_component.proofs.FirstOfEachLemmas.{entry_laws}
+use Rattle.apollo_meaning.proofs.Lists.{option_map_or-map}
 use Rattle.apollo_meaning.proofs.Faults.FoundLemmas.{schema_faults_with-joining}
 
 abbrev names : List Entry → List NameView
@@ -23,46 +19,41 @@ module _ (c : Collection) (ty : NameView) where
   abbrev repeated : Entry → Entry → Fault
   repeated k e = (e.1, collision c k.0 ty)
 
-  collision-said : (before : List Entry) (e : Entry) → collision_at c ty (names before) e ≡ option_map_or (λ k. repeated k e ∷ []) (find (same_name e) before) []
-  collision-said [] e = refl
-  collision-said (k ∷ before) e = by (same_text e.0 k.0) (collision-said before e)
-    where
-      by : (b : Bool) → collision_at c ty (names before) e ≡ option_map_or (λ k. repeated k e ∷ []) (find (same_name e) before) []
-          → option_map_or (λ kept. (e.1, collision c kept ty) ∷ []) (cond b (Some k.0) (find (same_text e.0) (names before))) []
-          ≡ option_map_or (λ k. repeated k e ∷ []) (cond b (Some k) (find (same_name e) before)) []
-      by true rest = refl
-      by false rest = rest
+  collision-said : (before : List Entry) (e : Entry)
+      → collision_at c ty (names before) e ≡ saying same_name repeated before e
+  collision-said before e = ap (λ o. option_map_or (λ kept. (e.1, collision c kept ty) ∷ []) o [])
+      (find-made (same_text e.0) (λ (k : Entry). k.0) before) ∙ option_map_or-map
+      (λ kept. (e.1, collision c kept ty) ∷ []) (λ (k : Entry). k.0) [] (find (same_name e) before)
 
-  collisions-said : (before es : List Entry) → collisions c ty (names before) es ≡ said same_name repeated before es
-  collisions-said before es =
-      (λ i. each_after (λ done e. (ap (λ l. collision_at c ty l e) (sym (map-append (λ (e : Entry). e.0) before done)) ∙ collision-said (before ++ done) e) i) [] es)
+  collisions-said : (before es : List Entry)
+      → collisions c ty (names before) es ≡ said same_name repeated before es
+  collisions-said before es = (λ i. each_after (λ done e.
+      (ap (λ l. collision_at c ty l e) (sym (map-append (λ (e : Entry). e.0) before done))
+      ∙ collision-said (before ++ done) e) i) [] es)
       ∙ sym (each_after-start (saying same_name repeated) before es)
 
-  pub collisions-dropped : (es : List Entry) → collisions c ty [] es ≡ map (dropped_component c ty (first_of_each same_name es)) (later_of_each same_name es)
+  pub collisions-dropped : (es : List Entry) → collisions c ty [] es
+      ≡ map (dropped_component c ty (first_of_each same_name es)) (later_of_each same_name es)
   collisions-dropped es = collisions-said [] es ∙ said-later same_name same_name_laws repeated es
 
-  pub collisions-joined : (es more : List Entry) → collisions c ty [] (es ++ more) ≡ collisions c ty [] es ++ collisions c ty (names es) more
+  pub collisions-joined : (es more : List Entry)
+      → collisions c ty [] (es ++ more) ≡ collisions c ty [] es ++ collisions c ty (names es) more
   collisions-joined es more =
-      collisions-said [] (es ++ more) ∙ each_after-append (saying same_name repeated) [] es more ∙ sym (λ i. collisions-said [] es i ++ collisions-said es more i)
+      collisions-said [] (es ++ more) ∙ each_after-append (saying same_name repeated) [] es more
+      ∙ sym (λ i. collisions-said [] es i ++ collisions-said es more i)
 
   -- each is kept or at fault
-  pub each-kept-or-fault : (es : List Entry) → length (first_of_each same_name es) + length (collisions c ty [] es) ≡ length es
+  pub each-kept-or-fault : (es : List Entry)
+      → length (first_of_each same_name es) + length (collisions c ty [] es) ≡ length es
   each-kept-or-fault es =
-      ap (λ l. length (first_of_each same_name es) + length l) (collisions-dropped es)
-      ∙ ap (λ n. length (first_of_each same_name es) + n) (length-map (later_of_each same_name es) (dropped_component c ty (first_of_each same_name es)))
-      ∙ length-first_later same_name same_name_laws es
+      rw (collisions-dropped es, length-map) (length-first_later same_name same_name_laws es)
 
 operation_laws : IsEquivalence same_operation
-operation_laws = record { refl = same; symm = flip; congr = through }
-  where
-    same : (a : OperationType) → same_operation a a ≡ true
-    same a = grind arith
-
-    flip : (a b : OperationType) → same_operation a b ≡ same_operation b a
-    flip a b = grind arith
-
-    through : (a b d : OperationType) → same_operation a b ≡ true → same_operation a d ≡ same_operation b d
-    through a b d e = grind arith
+operation_laws = record {
+  refl = λ a. grind arith;
+  symm = λ a b. grind arith;
+  congr = λ a b d e. grind arith;
+}
 
 pub same_root_laws : IsEquivalence same_root
 same_root_laws = on_equiv (λ r. r.value.0) operation_laws
@@ -71,27 +62,31 @@ same_root_laws = on_equiv (λ r. r.value.0) operation_laws
 abbrev repeated_root : Root → Root → Fault
 repeated_root k r = (r.location, errors.DuplicateRootOperation k.value.1.location (operation_text r.value.0))
 
-pub roots-dropped : (rs : List Root) → root_faults [] rs ≡ map (dropped_root (first_of_each same_root rs)) (later_of_each same_root rs)
+pub roots-dropped : (rs : List Root)
+    → root_faults [] rs ≡ map (dropped_root (first_of_each same_root rs)) (later_of_each same_root rs)
 roots-dropped rs = said-later same_root same_root_laws repeated_root rs
 
-pub roots-joined : (rs more : List Root) → root_faults [] (rs ++ more) ≡ root_faults [] rs ++ root_faults rs more
+pub roots-joined : (rs more : List Root)
+    → root_faults [] (rs ++ more) ≡ root_faults [] rs ++ root_faults rs more
 roots-joined rs more = each_after-append root_fault [] rs more
 
 -- extensions of the schema that join parts, one after another
-schemas-joined : (parts es : List SchemaPart) → schema_joining_faults parts es ≡ root_faults (roots_in parts) (roots_in es)
+schemas-joined : (parts es : List SchemaPart)
+    → schema_joining_faults parts es ≡ root_faults (roots_in parts) (roots_in es)
 schemas-joined parts [] = refl
 schemas-joined parts (e ∷ es) =
-    let more : roots_in (parts ++ e ∷ []) ≡ roots_in parts ++ e.roots = rw (flat_map-append, append-nil e.roots) refl in
-    ap (λ l. root_faults (roots_in parts) e.roots ++ l) (schemas-joined (parts ++ e ∷ []) es ∙ ap (λ l. root_faults l (roots_in es)) more)
+    let more : roots_in (parts ++ e ∷ []) ≡ roots_in parts ++ e.roots = rw (flat_map-append, append-nil) in
+    ap (λ l. root_faults (roots_in parts) e.roots ++ l) (schemas-joined (parts ++ e ∷ []) es
+    ∙ ap (λ l. root_faults l (roots_in es)) more)
     ∙ sym (each_after-append root_fault (roots_in parts) e.roots (roots_in es))
 
 -- and all those of a list, with its first definition of the schema
 pub found-roots : (xs : List ListItem) (s : Placed SchemaPart) → first_place schemas xs [] ≡ Some s
     → found_of_schema xs s.1 ≡ root_faults [] (roots_in (s.1 ∷ schema_extensions xs))
-found-roots xs s is =
-    ap (λ l. schema_faults [] s.1 ++ l) (
-    ap (λ o. flat_map (λ e. option_map_or (λ f. schema_faults (f.1 ∷ schema_extensions (take e.0 xs)) e.1) o []) (extension_places schemas xs)) is
-    ∙ schema_faults_with-joining s.1 xs
+found-roots xs s is = ap (λ l. schema_faults [] s.1 ++ l) (
+    ap (λ o. flat_map (λ e. option_map_or
+    (λ f. schema_faults (f.1 ∷ schema_extensions (take e.0 xs)) e.1) o [])
+    (extension_places schemas xs)) is ∙ schema_faults_with-joining s.1 xs
     ∙ schemas-joined (s.1 ∷ []) (schema_extensions xs)
     ∙ ap (λ l. root_faults l (roots_in (schema_extensions xs))) (append-nil s.1.roots))
     ∙ sym (each_after-append root_fault [] s.1.roots (roots_in (schema_extensions xs)))

@@ -1,23 +1,23 @@
 -- What a list says of a name with one more item.
-use Rattle.apollo_meaning.proofs.Prelude.{◌≡◌, ℕ, ◌+◌, ◌≤◌, cond, List, [], ◌∷◌, ◌++◌, length, filter, slice_get, Some, None, ap, ◌∙◌, append_assoc, length-append, arith, filter_map, option_or, lookup, append-nil, map-append, filter-append, filter_map-append, each_after-push, enumerate_from-append, filter_map-push_none, TypePart, SchemaPart, key_of, ListItem, Defined, Extended, SchemaDefined, SchemaExtended, Folding, defined_part, extended_part, defined_schema, extended_schema, same, first, extensions_of, first_schema, schema_extensions, folded_at, folded, found_at, found, waited_at, waited, extensions_with_origin}
-use Rattle.apollo_component.proofs.Lists.Ends.{lookup-append, slice_get-push}
+use Rattle.apollo_meaning.proofs.Prelude.{◌≡◌, ℕ, ◌+◌, ◌≤◌, cond, List, [], ◌∷◌, ◌++◌, length, filter, slice_get, Some, None, ap, length-append, arith, filter_map, option_or, lookup, map-append, filter-append, filter_map-append, each_after-push, each_after-append, enumerate_from-append, filter_map-push_none, TypePart, SchemaPart, key_of, ListItem, Defined, Extended, SchemaDefined, SchemaExtended, Folding, defined_part, extended_part, defined_schema, extended_schema, same, first, extensions_of, first_schema, schema_extensions, folded_at, folded, found_at, found, waited_at, waited, extensions_with_origin, lookup-append, slice_get-push}
 use Rattle.apollo_meaning.specs.Items.Named.{named, definitions}
 
 -- the first definition of a name in a front, or else in the rest
-pub first-append : (xs ys : List ListItem) (n : List ℕ) → first (xs ++ ys) n ≡ option_or (first xs n) (first ys n)
+pub first-append : (xs ys : List ListItem) (n : List ℕ)
+    → first (xs ++ ys) n ≡ option_or (first xs n) (first ys n)
 first-append xs ys n =
-    ap (λ l. lookup (same n) (named l)) (filter_map-append defined_part xs ys)
-    ∙ ap (lookup (same n)) (map-append (λ p. (key_of p, p)) (filter_map defined_part xs) (filter_map defined_part ys))
-    ∙ lookup-append (same n) (definitions xs) (definitions ys)
+    rw (filter_map-append, map-append) (lookup-append (same n) (definitions xs) (definitions ys))
 
 module _ (xs : List ListItem) (p : TypePart) where
   pub definitions-push_definition : definitions (xs ++ Defined p ∷ []) ≡ definitions xs ++ (key_of p, p) ∷ []
   definitions-push_definition = rw (filter_map-append, map-append)
 
-  pub first-push_definition : (n : List ℕ) → first (xs ++ Defined p ∷ []) n ≡ option_or (first xs n) (cond (same n (key_of p)) (Some p) None)
+  pub first-push_definition : (n : List ℕ)
+      → first (xs ++ Defined p ∷ []) n ≡ option_or (first xs n) (cond (same n (key_of p)) (Some p) None)
   first-push_definition n = first-append xs (Defined p ∷ []) n
 
-  pub extensions_of-push_extension : (n : List ℕ) → extensions_of (xs ++ Extended p ∷ []) n ≡ extensions_of xs n ++ cond (same n (key_of p)) (p ∷ []) []
+  pub extensions_of-push_extension : (n : List ℕ)
+      → extensions_of (xs ++ Extended p ∷ []) n ≡ extensions_of xs n ++ cond (same n (key_of p)) (p ∷ []) []
   extensions_of-push_extension n = rw (filter_map-append, filter-append)
 
 -- an item that defines no type, and one that extends none, changes no definition, and no extension
@@ -28,25 +28,20 @@ module _ (xs : List ListItem) (x : ListItem) where
   pub first-push_undefined : defined_part x ≡ None → (n : List ℕ) → first (xs ++ x ∷ []) n ≡ first xs n
   first-push_undefined none n = ap (lookup (same n)) (definitions-push_undefined none)
 
-  pub extensions_of-push_unextended : extended_part x ≡ None → (n : List ℕ) → extensions_of (xs ++ x ∷ []) n ≡ extensions_of xs n
-  extensions_of-push_unextended none n = ap (filter (λ p. same n (key_of p))) (filter_map-push_none extended_part xs x none)
+  pub extensions_of-push_unextended : extended_part x ≡ None → (n : List ℕ)
+      → extensions_of (xs ++ x ∷ []) n ≡ extensions_of xs n
+  extensions_of-push_unextended none n =
+      ap (filter (λ p. same n (key_of p))) (filter_map-push_none extended_part xs x none)
 
--- the same for definitions and extensions of the schema
-module _ (xs : List ListItem) (s : SchemaPart) where
-  pub first_schema-push_definition : first_schema (xs ++ SchemaDefined s ∷ []) ≡ option_or (first_schema xs) (Some s)
-  first_schema-push_definition = ap (λ l. slice_get l 0) (filter_map-append defined_schema xs (SchemaDefined s ∷ [])) ∙ slice_get-push (filter_map defined_schema xs) s
-
-  pub schema_extensions-push_extension : schema_extensions (xs ++ SchemaExtended s ∷ []) ≡ schema_extensions xs ++ s ∷ []
-  schema_extensions-push_extension = filter_map-append extended_schema xs (SchemaExtended s ∷ [])
-
-module _ (xs : List ListItem) (x : ListItem) where
+  -- nor of the schema
   pub first_schema-push_undefined : defined_schema x ≡ None → first_schema (xs ++ x ∷ []) ≡ first_schema xs
   first_schema-push_undefined none = ap (λ l. slice_get l 0) (filter_map-push_none defined_schema xs x none)
 
-  pub schema_extensions-push_unextended : extended_schema x ≡ None → schema_extensions (xs ++ x ∷ []) ≡ schema_extensions xs
+  pub schema_extensions-push_unextended : extended_schema x ≡ None
+      → schema_extensions (xs ++ x ∷ []) ≡ schema_extensions xs
   schema_extensions-push_unextended none = filter_map-push_none extended_schema xs x none
 
-module _ (xs : List ListItem) (x : ListItem) where
+  -- what an item adds to what is folded, found and waited for
   pub folded-push : folded (xs ++ x ∷ []) ≡ folded xs ++ folded_at xs x
   folded-push = each_after-push folded_at [] xs x
 
@@ -56,12 +51,23 @@ module _ (xs : List ListItem) (x : ListItem) where
   pub waited-push : waited (xs ++ x ∷ []) ≡ waited xs ++ waited_at xs x
   waited-push = each_after-push waited_at [] xs x
 
+-- definitions and extensions of the schema
+module _ (xs : List ListItem) (s : SchemaPart) where
+  pub first_schema-push_definition :
+      first_schema (xs ++ SchemaDefined s ∷ []) ≡ option_or (first_schema xs) (Some s)
+  first_schema-push_definition = rw filter_map-append (slice_get-push (filter_map defined_schema xs) s)
+
+  pub schema_extensions-push_extension :
+      schema_extensions (xs ++ SchemaExtended s ∷ []) ≡ schema_extensions xs ++ s ∷ []
+  schema_extensions-push_extension = filter_map-append extended_schema xs (SchemaExtended s ∷ [])
+
 -- the folded extensions of a name, after others
-pub extensions_with_origin-append : (n : List ℕ) (start : ℕ) (ps qs : List Folding) → extensions_with_origin n start (ps ++ qs) ≡ extensions_with_origin n start ps ++ extensions_with_origin n (start + length ps) qs
-extensions_with_origin-append n start ps qs = rw (enumerate_from-append start ps qs, filter_map-append, filter-append, map-append)
+pub extensions_with_origin-append : (n : List ℕ) (start : ℕ) (ps qs : List Folding)
+    → extensions_with_origin n start (ps ++ qs)
+    ≡ extensions_with_origin n start ps ++ extensions_with_origin n (start + length ps) qs
+extensions_with_origin-append n start ps qs =
+    rw (enumerate_from-append start ps qs, filter_map-append, filter-append, map-append)
 
 -- a longer list folds no less
 pub length-folded-front : (xs ys : List ListItem) → length (folded xs) ≤ length (folded (xs ++ ys))
-length-folded-front xs [] = omega (arith, ap (λ l. length (folded l)) (append-nil xs))
-length-folded-front xs (y ∷ ys) =
-    omega (arith, length-folded-front (xs ++ y ∷ []) ys, ap (λ l. length (folded l)) (append_assoc xs (y ∷ []) ys), ap length (folded-push xs y), length-append (folded xs) (folded_at xs y))
+length-folded-front xs ys = rw (each_after-append folded_at [] xs ys, length-append) (omega arith)

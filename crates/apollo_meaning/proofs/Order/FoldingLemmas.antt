@@ -1,79 +1,83 @@
 -- Extensions that are folded one after another.
-use Rattle.apollo_meaning.proofs.Prelude.{◌≡◌, ℕ, ◌+◌, ◌<◌, ◌≤◌, get_or, take, drop, Bool, List, [], ◌∷◌, ◌++◌, length, map, true, sym, ap, ◌∙◌, append_assoc, length-append, arith, filter_map, map-append, take_more, take-append-drop, filter-append, filter_map-append, TypeKind, Definition, enumerate_from-append, TypePart, kind_of, same_kind, item_of, items_of, extended_part, extended_parts, of_kind, Sourced, type_of_kind, type_from, extension_part, numbered, type_kind}
+use Rattle.apollo_meaning.proofs.Prelude.{◌≡◌, ℕ, ◌+◌, ◌<◌, ◌≤◌, get_or, take, drop, Bool, List, [], ◌∷◌, ◌++◌, length, map, true, refl, sym, ap, ◌∙◌, append_assoc, length-append, arith, map-append, take_more, take-append-drop, filter-append, filter_map-append, TypeKind, Definition, enumerate_from-append, TypePart, kind_of, same_kind, extended_parts, of_kind, Sourced, type_of_kind, type_from, extension_part, numbered, type_kind}
+use Rattle.graphql_nodes.specs.declared.type_kind.TypeKind.TheVariants as kinds
 use Rattle.apollo_component.specs.declared.extension.ComponentOrigin.TheVariants as origins
 use Rattle.apollo_types.specs.TypeWriteOut.{type_description, type_name, type_location}
 
 -- more extensions have the next numbers
 pub numbered-more : (done : List Sourced) (start : ℕ) (ps qs : List TypePart)
-    → done ++ map extension_part (numbered start (ps ++ qs)) ≡ (done ++ map extension_part (numbered start ps)) ++ map extension_part (numbered (start + length ps) qs)
-numbered-more done start ps qs =
-    rw (enumerate_from-append start ps qs, map-append) (sym (append_assoc done (map extension_part (numbered start ps)) (map extension_part (numbered (start + length ps) qs))))
+    → done ++ map extension_part (numbered start (ps ++ qs))
+    ≡ (done ++ map extension_part (numbered start ps)) ++ map extension_part (numbered (start + length ps) qs)
+numbered-more done start ps qs = rw (enumerate_from-append start ps qs, map-append, append_assoc)
 
-pub extended_parts-append : (xs ys : List Definition) → extended_parts (xs ++ ys) ≡ extended_parts xs ++ extended_parts ys
-extended_parts-append xs ys = ap (filter_map extended_part) (map-append item_of xs ys) ∙ filter_map-append extended_part (items_of xs) (items_of ys)
+pub extended_parts-append : (xs ys : List Definition)
+    → extended_parts (xs ++ ys) ≡ extended_parts xs ++ extended_parts ys
+extended_parts-append xs ys = rw (map-append, filter_map-append)
 
 -- one more definition of a list
-pub extended_parts-turn : (xs : List Definition) (i : ℕ) (x : Definition) → i < length xs → x ≡ get_or xs i x → extended_parts (take (i + 1) xs) ≡ extended_parts (take i xs) ++ extended_parts (x ∷ [])
-extended_parts-turn xs i x lt is = ap extended_parts (take_more xs i x lt ∙ ap (λ y. take i xs ++ y ∷ []) (sym is)) ∙ extended_parts-append (take i xs) (x ∷ [])
+pub extended_parts-turn : (xs : List Definition) (i : ℕ) (x : Definition) → i < length xs → x ≡ get_or xs i x
+    → extended_parts (take (i + 1) xs) ≡ extended_parts (take i xs) ++ extended_parts (x ∷ [])
+extended_parts-turn xs i x lt is =
+    ap extended_parts (take_more xs i x lt ∙ ap (λ y. take i xs ++ y ∷ []) (sym is))
+    ∙ extended_parts-append (take i xs) (x ∷ [])
 
 -- the extensions of a kind among one more definition
-module _ (k : TypeKind) (xs : List Definition) (i : ℕ) (x : Definition) (lt : i < length xs) (is : x ≡ get_or xs i x) where
-  pub of_kind-turn : of_kind k (extended_parts (take (i + 1) xs)) ≡ of_kind k (extended_parts (take i xs)) ++ of_kind k (extended_parts (x ∷ []))
-  of_kind-turn =
-      ap (of_kind k) (extended_parts-turn xs i x lt is) ∙ filter-append (λ p. same_kind k (kind_of p)) (extended_parts (take i xs)) (extended_parts (x ∷ []))
+module _ (k : TypeKind) (xs : List Definition) (i : ℕ) (x : Definition) (lt : i < length xs)
+    (is : x ≡ get_or xs i x) where
+  abbrev of_this : List Definition → List TypePart
+  of_this ds = of_kind k (extended_parts ds)
+
+  pub of_kind-turn : of_kind k (extended_parts (take (i + 1) xs))
+      ≡ of_kind k (extended_parts (take i xs)) ++ of_kind k (extended_parts (x ∷ []))
+  of_kind-turn = rw (extended_parts-turn xs i x lt is, filter-append)
 
   -- those so far and this one are no more than all
-  pub of_kind-past : length (of_kind k (extended_parts (take i xs))) + length (of_kind k (extended_parts (x ∷ []))) ≤ length (of_kind k (extended_parts xs))
+  pub of_kind-past :
+      length (of_kind k (extended_parts (take i xs))) + length (of_kind k (extended_parts (x ∷ [])))
+      ≤ length (of_kind k (extended_parts xs))
   of_kind-past =
-      let whole : of_kind k (extended_parts (take (i + 1) xs)) ++ of_kind k (extended_parts (drop (i + 1) xs)) ≡ of_kind k (extended_parts xs) =
-      sym (filter-append (λ p. same_kind k (kind_of p)) (extended_parts (take (i + 1) xs)) (extended_parts (drop (i + 1) xs)))
-      ∙ ap (of_kind k) (sym (extended_parts-append (take (i + 1) xs) (drop (i + 1) xs)) ∙ ap extended_parts (take-append-drop (i + 1) xs)) in
-      omega (
+      let whole : of_this xs ≡ of_this (take (i + 1) xs) ++ of_this (drop (i + 1) xs) =
+      ap of_this (sym (take-append-drop (i + 1) xs)) ∙ rw (extended_parts-append, filter-append) in omega (
         arith,
         ap length of_kind-turn,
-        length-append (of_kind k (extended_parts (take i xs))) (of_kind k (extended_parts (x ∷ []))),
+        length-append (of_this (take i xs)) (of_this (x ∷ [])),
         ap length whole,
-        length-append (of_kind k (extended_parts (take (i + 1) xs))) (of_kind k (extended_parts (drop (i + 1) xs))),
+        length-append (of_this (take (i + 1) xs)) (of_this (drop (i + 1) xs)),
       )
 
 pub same_kind-refl : (k : TypeKind) → same_kind k k ≡ true
 same_kind-refl k = grind arith
 
--- the type of parts has the kind of the head
-pub type_kind-from : (head : TypePart) (done : List Sourced) → type_kind (type_from head done) ≡ kind_of head
-type_kind-from head done = by head.kind
-  where
-    by : (k : TypeKind) → type_kind (type_of_kind k head done) ≡ k
-    by k = grind arith
+-- what the type of parts has of the head
+module _ (head : TypePart) (done : List Sourced) where
+  of_head : (k : TypeKind) → (type_kind (type_of_kind k head done) ≡ k)
+      × (type_description (type_of_kind k head done) ≡ head.description)
+      × (type_name (type_of_kind k head done) ≡ head.name)
+      × (type_location (type_of_kind k head done) ≡ head.location)
+  of_head kinds.Scalar = (refl, refl, refl, refl)
+  of_head _ = (refl, refl, refl, refl)
 
--- and its description
-pub type_description-from : (head : TypePart) (done : List Sourced) → type_description (type_from head done) ≡ head.description
-type_description-from head done = by head.kind
-  where
-    by : (k : TypeKind) → type_description (type_of_kind k head done) ≡ head.description
-    by k = grind arith
+  pub type_kind-from : type_kind (type_from head done) ≡ kind_of head
+  type_kind-from = (of_head head.kind).0
 
--- and its name
-pub type_name-from : (head : TypePart) (done : List Sourced) → type_name (type_from head done) ≡ head.name
-type_name-from head done = by head.kind
-  where
-    by : (k : TypeKind) → type_name (type_of_kind k head done) ≡ head.name
-    by k = grind arith
+  pub type_description-from : type_description (type_from head done) ≡ head.description
+  type_description-from = (of_head head.kind).1
 
--- and its location
-pub type_location-from : (head : TypePart) (done : List Sourced) → type_location (type_from head done) ≡ head.location
-type_location-from head done = by head.kind
-  where
-    by : (k : TypeKind) → type_location (type_of_kind k head done) ≡ head.location
-    by k = grind arith
+  pub type_name-from : type_name (type_from head done) ≡ head.name
+  type_name-from = (of_head head.kind).2
+
+  pub type_location-from : type_location (type_from head done) ≡ head.location
+  type_location-from = (of_head head.kind).3
 
 -- whether a definition is ignorable changes no type
 pub type_from-ignorable : (p : TypePart) (b : Bool) (es : List Sourced)
-    → type_from (record p { ignorable = b }) ((origins.Definition, record p { ignorable = b }) ∷ es) ≡ type_from p ((origins.Definition, p) ∷ es)
+    → type_from (record p { ignorable = b }) ((origins.Definition, record p { ignorable = b }) ∷ es)
+    ≡ type_from p ((origins.Definition, p) ∷ es)
 type_from-ignorable p b es = by p.kind
   where
     q : TypePart
     q = record p { ignorable = b }
 
-    by : (k : TypeKind) → type_of_kind k q ((origins.Definition, q) ∷ es) ≡ type_of_kind k p ((origins.Definition, p) ∷ es)
+    by : (k : TypeKind)
+        → type_of_kind k q ((origins.Definition, q) ∷ es) ≡ type_of_kind k p ((origins.Definition, p) ∷ es)
     by k = grind arith

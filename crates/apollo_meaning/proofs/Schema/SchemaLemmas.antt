@@ -1,107 +1,109 @@
 -- The schema definition of a list with one more item.
-use Rattle.apollo_meaning.proofs.Prelude.{◌≡◌, ℕ, ◌+◌, List, [], ◌∷◌, ◌++◌, length, map, Option, Some, None, refl, sym, ap, ◌∙◌, option_map, option_map_or, option_or, append-nil, map-append, filter_map-append, enumerate_from-append, snoc_ind, TypePart, SchemaPart, ListItem, Defined, Extended, SchemaDefined, SchemaExtended, Other, Folding, OfType, OfSchema, extended_schema, first_schema, schema_extensions, SourcedSchema, schema_from, schema_of, schema_numbered, types_folded_at, schemas_folded_at, folded}
+use Rattle.apollo_meaning.proofs.Prelude.{◌≡◌, ℕ, ◌+◌, List, [], ◌∷◌, ◌++◌, length, map, Option, Some, None, refl, ap, ◌∙◌, arith, filter_map, option_map, option_map_or, option_or, append-nil, map-append, filter_map-append, enumerate_from-append, snoc_ind, TypePart, SchemaPart, ListItem, SchemaDefined, SchemaExtended, Folding, OfType, OfSchema, first_schema, schema_extensions, SourcedSchema, schema_from, schema_of, schema_numbered, types_folded_at, schemas_folded_at, folded_at, folded, filter_map-made, filter_map-unmade, schema_extension_source, schema_sourced, schema_parts}
 use Rattle.apollo_component.specs.declared.extension.ComponentOrigin.TheVariants as origins
-use Rattle.apollo_meaning.specs.Schema.Definition.{schema_extension_source, schema_sourced, schema_parts}
+use Rattle.apollo_meaning.proofs.Lists.{map-empty}
 use Rattle.apollo_meaning.proofs.Items.ItemLemmas.{first_schema-push_definition, first_schema-push_undefined, schema_extensions-push_extension, schema_extensions-push_unextended, folded-push}
 
-schema_sourced-append : (start : ℕ) (fs gs : List Folding) → schema_sourced start (fs ++ gs) ≡ schema_sourced start fs ++ schema_sourced (start + length fs) gs
+schema_sourced-append : (start : ℕ) (fs gs : List Folding)
+    → schema_sourced start (fs ++ gs) ≡ schema_sourced start fs ++ schema_sourced (start + length fs) gs
 schema_sourced-append start fs gs = rw (enumerate_from-append start fs gs, filter_map-append, map-append)
 
-of-types : (start : ℕ) (ps : List TypePart) → schema_sourced start (map OfType ps) ≡ []
-of-types start [] = refl
-of-types start (p ∷ ps) = of-types (start + 1) ps
+of-schemas : (n : ℕ) (ss : List SchemaPart) → schema_sourced n (map OfSchema ss) ≡ schema_numbered n ss
+of-schemas n [] = refl
+of-schemas n (s ∷ ss) = ap (λ l. schema_extension_source (n, s) ∷ l) (of-schemas (n + 1) ss)
 
-of-schemas : (start : ℕ) (ss : List SchemaPart) → schema_sourced start (map OfSchema ss) ≡ schema_numbered start ss
-of-schemas start [] = refl
-of-schemas start (s ∷ ss) = ap (λ l. schema_extension_source (start, s) ∷ l) (of-schemas (start + 1) ss)
+-- what an item folds into the schema, numbered after the types that it folds
+sourced-at : (start : ℕ) (ps : List TypePart) (ss : List SchemaPart)
+    → schema_sourced start (map OfType ps ++ map OfSchema ss) ≡ schema_numbered (start + length ps) ss
+sourced-at start [] ss = let same : start + 0 ≡ start = omega arith in rw same (of-schemas start ss)
+sourced-at start (p ∷ ps) ss =
+    sourced-at (start + 1) ps ss ∙ ap (λ (n : ℕ). schema_numbered n ss) (omega arith)
 
 module _ (start : ℕ) (xs : List ListItem) (x : ListItem) where
-  -- an item that folds nothing into the schema
-  sourced-none : schemas_folded_at xs x ≡ [] → schema_sourced start (folded (xs ++ x ∷ [])) ≡ schema_sourced start (folded xs)
-  sourced-none none =
-      ap (schema_sourced start) (folded-push xs x ∙ ap (λ l. folded xs ++ (map OfType (types_folded_at xs x) ++ map OfSchema l)) none)
-      ∙ schema_sourced-append start (folded xs) (map OfType (types_folded_at xs x) ++ [])
-      ∙ ap (λ l. schema_sourced start (folded xs) ++ schema_sourced (start + length (folded xs)) l) (append-nil (map OfType (types_folded_at xs x)))
-      ∙ ap (λ l. schema_sourced start (folded xs) ++ l) (of-types (start + length (folded xs)) (types_folded_at xs x))
-      ∙ append-nil (schema_sourced start (folded xs))
+  sourced-push : schema_sourced start (folded (xs ++ x ∷ [])) ≡ schema_sourced start (folded xs)
+      ++ schema_numbered ((start + length (folded xs)) + length (types_folded_at xs x))
+      (schemas_folded_at xs x)
+  sourced-push = rw (folded-push xs x) (schema_sourced-append start (folded xs) (folded_at xs x)
+      ∙ ap (λ l. schema_sourced start (folded xs) ++ l)
+      (sourced-at (start + length (folded xs)) (types_folded_at xs x) (schemas_folded_at xs x)))
 
-  -- and one that folds no type
-  sourced-more : types_folded_at xs x ≡ [] → schema_sourced start (folded (xs ++ x ∷ [])) ≡ schema_sourced start (folded xs) ++ schema_numbered (start + length (folded xs)) (schemas_folded_at xs x)
-  sourced-more none =
-      ap (schema_sourced start) (folded-push xs x ∙ ap (λ l. folded xs ++ (map OfType l ++ map OfSchema (schemas_folded_at xs x))) none)
-      ∙ schema_sourced-append start (folded xs) (map OfSchema (schemas_folded_at xs x))
-      ∙ ap (λ l. schema_sourced start (folded xs) ++ l) (of-schemas (start + length (folded xs)) (schemas_folded_at xs x))
-
-  pub schema_of-same : first_schema (xs ++ x ∷ []) ≡ first_schema xs → schemas_folded_at xs x ≡ [] → schema_of start (folded (xs ++ x ∷ [])) (xs ++ x ∷ []) ≡ schema_of start (folded xs) xs
+  pub schema_of-same : first_schema (xs ++ x ∷ []) ≡ first_schema xs → schemas_folded_at xs x ≡ []
+      → schema_of start (folded (xs ++ x ∷ [])) (xs ++ x ∷ []) ≡ schema_of start (folded xs) xs
   schema_of-same one none =
-      ap (λ (l : List SourcedSchema). option_map (λ s. schema_from s ((origins.Definition, s) ∷ l)) (first_schema (xs ++ x ∷ []))) (sourced-none none)
-      ∙ ap (option_map (λ s. schema_from s (schema_parts start (folded xs) s))) one
+      rw (one, sourced-push) (λ i. option_map (λ s. schema_from s ((origins.Definition, s)
+      ∷ (ap (λ ss. schema_sourced start (folded xs) ++ schema_numbered last ss) none
+      ∙ append-nil _) i)) (first_schema xs))
+    where
+      last : ℕ
+      last = (start + length (folded xs)) + length (types_folded_at xs x)
 
   pub schema_of-more : (s : SchemaPart) → first_schema (xs ++ x ∷ []) ≡ Some s → types_folded_at xs x ≡ []
-      → schema_of start (folded (xs ++ x ∷ [])) (xs ++ x ∷ []) ≡ Some (schema_from s (schema_parts start (folded xs) s ++ schema_numbered (start + length (folded xs)) (schemas_folded_at xs x)))
+      → schema_of start (folded (xs ++ x ∷ [])) (xs ++ x ∷ [])
+      ≡ Some (schema_from s (schema_parts start (folded xs) s
+      ++ schema_numbered (start + length (folded xs)) (schemas_folded_at xs x)))
   schema_of-more s one none =
-      ap (option_map (λ s. schema_from s (schema_parts start (folded (xs ++ x ∷ [])) s))) one
-      ∙ ap (λ (l : List SourcedSchema). Some (schema_from s ((origins.Definition, s) ∷ l))) (sourced-more none)
+      let next : (start + length (folded xs)) + 0 ≡ start + length (folded xs) = omega arith in
+      rw (one, sourced-push, none, next)
 
--- before the first definition of the schema none of its extensions is folded
-abbrev Unfolded : List ListItem → Type 0
-Unfolded xs = (start : ℕ) → first_schema xs ≡ None → schema_sourced start (folded xs) ≡ []
+-- the extensions of the schema among those that are folded
+abbrev schema_folding : Folding → Option SchemaPart
+schema_folding (OfType p) = None
+schema_folding (OfSchema s) = Some s
 
-or-some : {X : Type 0} (o : Option X) (x : X) → option_or o (Some x) ≡ None → ⊥
-or-some None x h = cc
-or-some (Some y) x h = cc
+abbrev schema_foldings : List Folding → List SchemaPart
+schema_foldings fs = filter_map schema_folding fs
 
-pub schema-unfolded : (xs : List ListItem) → Unfolded xs
-schema-unfolded = snoc_ind Unfolded (λ start none. refl) step
+schema_foldings-push : (xs : List ListItem) (x : ListItem)
+    → schema_foldings (folded (xs ++ x ∷ [])) ≡ schema_foldings (folded xs) ++ schemas_folded_at xs x
+schema_foldings-push xs x = rw (folded-push xs x, filter_map-append, filter_map-append)
+    (λ i. schema_foldings (folded xs)
+    ++ (filter_map-unmade schema_folding OfType (λ p. refl) (types_folded_at xs x) i
+    ++ filter_map-made schema_folding OfSchema (λ s. refl) (schemas_folded_at xs x) i))
+
+-- they are all extensions of the schema once it has a definition, and none before that
+foldings-of_schema : (xs : List ListItem)
+    → schema_foldings (folded xs) ≡ option_map_or (λ _. schema_extensions xs) (first_schema xs) []
+foldings-of_schema = snoc_ind (λ xs. schema_foldings (folded xs)
+    ≡ option_map_or (λ _. schema_extensions xs) (first_schema xs) []) refl
+    (λ xs x before. rw (schema_foldings-push xs x, before) (step xs x))
   where
-    plain : (xs : List ListItem) (x : ListItem) → first_schema (xs ++ x ∷ []) ≡ first_schema xs → (first_schema xs ≡ None → schemas_folded_at xs x ≡ []) → Unfolded xs → Unfolded (xs ++ x ∷ [])
-    plain xs x one none before = λ start h. let was : first_schema xs ≡ None = sym one ∙ h in sourced-none start xs x (none was) ∙ before start was
+    at-definition : (s : SchemaPart) (es : List SchemaPart) (o : Option SchemaPart)
+        → option_map_or (λ _. es) o [] ++ option_map_or (λ _. []) o es
+        ≡ option_map_or (λ _. es) (option_or o (Some s)) []
+    at-definition s es None = refl
+    at-definition s es (Some t) = append-nil es
 
-    step : (xs : List ListItem) (x : ListItem) → Unfolded xs → Unfolded (xs ++ x ∷ [])
-    step xs (SchemaDefined s) before = λ start h. absurd (or-some (first_schema xs) s (sym (first_schema-push_definition xs s) ∙ h))
-    step xs (SchemaExtended s) before = plain xs (SchemaExtended s) (first_schema-push_undefined xs (SchemaExtended s) refl) (λ was. ap (λ o. option_map_or (λ _. s ∷ []) o []) was) before
-    step xs (Defined p) before = plain xs (Defined p) (first_schema-push_undefined xs (Defined p) refl) (λ was. refl) before
-    step xs (Extended p) before = plain xs (Extended p) (first_schema-push_undefined xs (Extended p) refl) (λ was. refl) before
-    step xs (Other d) before = plain xs (Other d) (first_schema-push_undefined xs (Other d) refl) (λ was. refl) before
+    at-extension : (s : SchemaPart) (es : List SchemaPart) (o : Option SchemaPart)
+        → option_map_or (λ _. es) o [] ++ option_map_or (λ _. s ∷ []) o []
+        ≡ option_map_or (λ _. es ++ s ∷ []) o []
+    at-extension s es None = refl
+    at-extension s es (Some t) = refl
 
--- the folded extensions of the schema, their origins forgotten, are all its extensions once it has a
--- definition
-abbrev Forgets : List ListItem → Type 0
-Forgets xs = (start : ℕ) (s : SchemaPart) → first_schema xs ≡ Some s → map (λ (e : SourcedSchema). e.1) (schema_sourced start (folded xs)) ≡ schema_extensions xs
+    step : (xs : List ListItem) (x : ListItem)
+        → option_map_or (λ _. schema_extensions xs) (first_schema xs) [] ++ schemas_folded_at xs x
+        ≡ option_map_or (λ _. schema_extensions (xs ++ x ∷ [])) (first_schema (xs ++ x ∷ [])) []
+    step xs (SchemaDefined s) =
+        rw (first_schema-push_definition xs s, schema_extensions-push_unextended xs (SchemaDefined s) refl)
+        (at-definition s (schema_extensions xs) (first_schema xs))
+    step xs (SchemaExtended s) =
+        rw (first_schema-push_undefined xs (SchemaExtended s) refl, schema_extensions-push_extension xs s)
+        (at-extension s (schema_extensions xs) (first_schema xs))
+    step xs x =
+        rw (append-nil, first_schema-push_undefined xs x refl, schema_extensions-push_unextended xs x refl)
 
-numbered-parts : (start : ℕ) (ss : List SchemaPart) → map (λ (e : SourcedSchema). e.1) (schema_numbered start ss) ≡ ss
-numbered-parts start [] = refl
-numbered-parts start (s ∷ ss) = ap (λ l. s ∷ l) (numbered-parts (start + 1) ss)
+-- with their origins forgotten
+schema_sourced-forget : (start : ℕ) (fs : List Folding)
+    → map (λ (e : SourcedSchema). e.1) (schema_sourced start fs) ≡ schema_foldings fs
+schema_sourced-forget start [] = refl
+schema_sourced-forget start (OfType p ∷ fs) = schema_sourced-forget (start + 1) fs
+schema_sourced-forget start (OfSchema s ∷ fs) = ap (λ l. s ∷ l) (schema_sourced-forget (start + 1) fs)
 
-pub schema_sourced-parts : (start : ℕ) (xs : List ListItem) (s : SchemaPart) → first_schema xs ≡ Some s → map (λ (e : SourcedSchema). e.1) (schema_sourced start (folded xs)) ≡ schema_extensions xs
-schema_sourced-parts start xs s some = snoc_ind Forgets (λ start s h. absurd (let g : None ≡ Some s = h in cc)) step xs start s some
-  where
-    plain : (xs : List ListItem) (x : ListItem) → first_schema (xs ++ x ∷ []) ≡ first_schema xs → extended_schema x ≡ None → schemas_folded_at xs x ≡ [] → Forgets xs → Forgets (xs ++ x ∷ [])
-    plain xs x one unextended none before = λ start s h.
-        ap (map (λ (e : SourcedSchema). e.1)) (sourced-none start xs x none) ∙ before start s (sym one ∙ h) ∙ sym (schema_extensions-push_unextended xs x unextended)
+pub schema-unfolded : (xs : List ListItem) (start : ℕ) → first_schema xs ≡ None
+    → schema_sourced start (folded xs) ≡ []
+schema-unfolded xs start none = map-empty (λ (e : SourcedSchema). e.1) (schema_sourced start (folded xs))
+    (schema_sourced-forget start (folded xs) ∙ rw none at (foldings-of_schema xs))
 
-    more : (xs : List ListItem) (x : ListItem) (start : ℕ) → types_folded_at xs x ≡ []
-        → map (λ (e : SourcedSchema). e.1) (schema_sourced start (folded (xs ++ x ∷ []))) ≡ map (λ (e : SourcedSchema). e.1) (schema_sourced start (folded xs)) ++ schemas_folded_at xs x
-    more xs x start none =
-        ap (map (λ (e : SourcedSchema). e.1)) (sourced-more start xs x none)
-        ∙ map-append (λ (e : SourcedSchema). e.1) (schema_sourced start (folded xs)) (schema_numbered (start + length (folded xs)) (schemas_folded_at xs x))
-        ∙ ap (λ l. map (λ (e : SourcedSchema). e.1) (schema_sourced start (folded xs)) ++ l) (numbered-parts (start + length (folded xs)) (schemas_folded_at xs x))
-
-    step : (xs : List ListItem) (x : ListItem) → Forgets xs → Forgets (xs ++ x ∷ [])
-    step xs (Defined p) before = plain xs (Defined p) (first_schema-push_undefined xs (Defined p) refl) refl refl before
-    step xs (Extended p) before = plain xs (Extended p) (first_schema-push_undefined xs (Extended p) refl) refl refl before
-    step xs (Other d) before = plain xs (Other d) (first_schema-push_undefined xs (Other d) refl) refl refl before
-    step xs (SchemaDefined t) before = λ start s h. more xs (SchemaDefined t) start refl ∙ by start (first_schema xs) refl ∙ sym (schema_extensions-push_unextended xs (SchemaDefined t) refl)
-      where
-        by : (start : ℕ) (o : Option SchemaPart) → first_schema xs ≡ o
-            → map (λ (e : SourcedSchema). e.1) (schema_sourced start (folded xs)) ++ schemas_folded_at xs (SchemaDefined t) ≡ schema_extensions xs
-        by start None e =
-            (λ i. map (λ (e : SourcedSchema). e.1) (schema-unfolded xs start e i) ++ option_map_or (λ _. []) (e i) (schema_extensions xs))
-        by start (Some s) e =
-            ap (λ o. map (λ (e : SourcedSchema). e.1) (schema_sourced start (folded xs)) ++ option_map_or (λ _. []) o (schema_extensions xs)) e
-            ∙ append-nil (map (λ (e : SourcedSchema). e.1) (schema_sourced start (folded xs))) ∙ before start s e
-    step xs (SchemaExtended t) before = λ start s h.
-        let was : first_schema xs ≡ Some s = sym (first_schema-push_undefined xs (SchemaExtended t) refl) ∙ h in
-        more xs (SchemaExtended t) start refl
-        ∙ (λ i. before start s was i ++ option_map_or (λ _. t ∷ []) (was i) [])
-        ∙ sym (schema_extensions-push_extension xs t)
+pub schema_sourced-parts : (start : ℕ) (xs : List ListItem) (s : SchemaPart) → first_schema xs ≡ Some s
+    → map (λ (e : SourcedSchema). e.1) (schema_sourced start (folded xs)) ≡ schema_extensions xs
+schema_sourced-parts start xs s some =
+    schema_sourced-forget start (folded xs) ∙ rw some at (foldings-of_schema xs)

@@ -1,11 +1,11 @@
--- The type of a name with one more item.
-use Rattle.apollo_meaning.proofs.Prelude.{◌≡◌, ℕ, ◌+◌, Bool, true, false, List, [], ◌∷◌, ◌++◌, length, map, Option, Some, None, filter, refl, sym, ap, subst, ◌∙◌, append_assoc, filter_map, option_map, option_or, append-nil, filter_map-append, TypeKind, each_after, TypePart, SchemaPart, kind_of, key_of, same_kind, ListItem, Defined, Extended, SchemaDefined, SchemaExtended, Other, Folding, OfType, OfSchema, extended_part, same, first, extensions_of, of_kind, types_folded_at, schemas_folded_at, folded_at, folded, Sourced, type_from, extension_part, numbered, extensions_with_origin, parts, same-true, same-is, AllByRecursion, each-filter, each-weaken}
+-- The type of a name with one more item, and the extensions that are folded into it.
+use Rattle.apollo_meaning.proofs.Prelude.{arith, ◌≡◌, ℕ, ◌+◌, Bool, true, false, cond, List, [], ◌∷◌, ◌++◌, length, map, Option, Some, None, filter, refl, sym, ap, subst, ◌∙◌, filter_map, option_map_or, option_or, append-nil, filter-append, filter_map-append, or-none, snoc_ind, TypeKind, TypePart, kind_of, key_of, same_kind, ListItem, Defined, Extended, Folding, OfType, OfSchema, extended_part, same, first, extensions_of, of_kind, types_folded_at, schemas_folded_at, folded_at, folded, Sourced, type_from, extension_part, numbered, extensions_with_origin, parts, same-true, AllByRecursion, each-filter, each-weaken, filter-all, filter_map-made, filter_map-unmade}
 use Rattle.std.proofs.lemmas.List.Elements.{filter_passes, recursion_from_All}
 use Rattle.apollo_component.specs.declared.extension.ComponentOrigin.TheVariants as origins
-use Rattle.apollo_component.proofs.Lists.Each.{each-append}
-use Rattle.apollo_component.proofs.Lists.Ends.{filter_map-made, filter_map-unmade}
+use Rattle.apollo_component.proofs.Lists.Each.{filter-fails}
+use Rattle.apollo_meaning.proofs.Lists.{map-empty}
 use Rattle.apollo_meaning.specs.Types.Meaning.{type_of}
-use Rattle.apollo_meaning.proofs.Items.ItemLemmas.{first-push_definition, folded-push, extensions_with_origin-append, first-append}
+use Rattle.apollo_meaning.proofs.Items.ItemLemmas.{first-push_definition, first-push_undefined, folded-push, extensions_with_origin-append, extensions_of-push_extension, extensions_of-push_unextended}
 
 -- each part has the name
 abbrev pub Own : List ℕ → List TypePart → Type 0
@@ -15,6 +15,23 @@ Own n = AllByRecursion (λ p. same n (key_of p) ≡ true)
 abbrev pub Apart : List ℕ → List TypePart → Type 0
 Apart n = AllByRecursion (λ p. same n (key_of p) ≡ false)
 
+-- the parts that have the name
+abbrev with_name : List ℕ → List TypePart → List TypePart
+with_name n = filter (λ p. same n (key_of p))
+
+pub Own-named : (n : List ℕ) (ps : List TypePart) → Own n (filter (λ p. same n (key_of p)) ps)
+Own-named n ps = recursion_from_All (λ p. same n (key_of p) ≡ true) (with_name n ps)
+    (filter_passes (λ p. same n (key_of p)) ps)
+
+pub Own-of_kind : (n : List ℕ) (k : TypeKind) (ps : List TypePart) → Own n ps → Own n (of_kind k ps)
+Own-of_kind n k ps own = each-weaken (λ p. (same n (key_of p) ≡ true) × (same_kind k (kind_of p) ≡ true))
+    (λ p. same n (key_of p) ≡ true) (λ p both. both.0) (of_kind k ps)
+    (each-filter (λ p. same n (key_of p) ≡ true) (λ p. same_kind k (kind_of p)) ps own)
+
+pub Apart-own : (n m : List ℕ) (ps : List TypePart) → same n m ≡ false → Own m ps → Apart n ps
+Apart-own n m ps apart = each-weaken (λ p. same m (key_of p) ≡ true) (λ p. same n (key_of p) ≡ false)
+    (λ p e. subst (λ (q : List ℕ). same n q ≡ false) (same-true m (key_of p) e) apart) ps
+
 -- the extensions of types among those that are folded
 abbrev pub type_folding : Folding → Option TypePart
 type_folding (OfType p) = Some p
@@ -23,135 +40,175 @@ type_folding (OfSchema s) = None
 abbrev pub type_foldings : List Folding → List TypePart
 type_foldings fs = filter_map type_folding fs
 
-type_foldings-types : (ps : List TypePart) → type_foldings (map OfType ps) ≡ ps
-type_foldings-types = filter_map-made type_folding OfType (λ p. refl)
-
-type_foldings-schemas : (ss : List SchemaPart) → type_foldings (map OfSchema ss) ≡ []
-type_foldings-schemas = filter_map-unmade type_folding OfSchema (λ s. refl)
-
 type_foldings-at : (xs : List ListItem) (x : ListItem) → type_foldings (folded_at xs x) ≡ types_folded_at xs x
 type_foldings-at xs x =
     filter_map-append type_folding (map OfType (types_folded_at xs x)) (map OfSchema (schemas_folded_at xs x))
-    ∙ (λ i. type_foldings-types (types_folded_at xs x) i ++ type_foldings-schemas (schemas_folded_at xs x) i)
-    ∙ append-nil (types_folded_at xs x)
+    ∙ (λ i. filter_map-made type_folding OfType (λ p. refl) (types_folded_at xs x) i
+    ++ filter_map-unmade type_folding OfSchema (λ s. refl) (schemas_folded_at xs x) i) ∙ append-nil _
 
-pub type_foldings-push : (xs : List ListItem) (x : ListItem) → type_foldings (folded (xs ++ x ∷ [])) ≡ type_foldings (folded xs) ++ types_folded_at xs x
-type_foldings-push xs x =
-    ap type_foldings (folded-push xs x) ∙ filter_map-append type_folding (folded xs) (folded_at xs x) ∙ ap (λ l. type_foldings (folded xs) ++ l) (type_foldings-at xs x)
-
-extensions_with_origin-own : (n : List ℕ) (start : ℕ) (ps : List TypePart) → Own n ps → extensions_with_origin n start (map OfType ps) ≡ map extension_part (numbered start ps)
-extensions_with_origin-own n start [] own = refl
-extensions_with_origin-own n start (p ∷ ps) own = rw own.0 (ap (λ l. extension_part (start, p) ∷ l) (extensions_with_origin-own n (start + 1) ps own.1))
-
-extensions_with_origin-apart : (n : List ℕ) (start : ℕ) (fs : List Folding) → Apart n (type_foldings fs) → extensions_with_origin n start fs ≡ []
-extensions_with_origin-apart n start [] apart = refl
-extensions_with_origin-apart n start (OfType p ∷ fs) apart = rw apart.0 (extensions_with_origin-apart n (start + 1) fs apart.1)
-extensions_with_origin-apart n start (OfSchema s ∷ fs) apart = extensions_with_origin-apart n (start + 1) fs apart
-
--- what is folded at an item that concerns the name
-extensions_with_origin-at : (n : List ℕ) (start : ℕ) (xs : List ListItem) (x : ListItem) → Own n (types_folded_at xs x) → extensions_with_origin n start (folded_at xs x) ≡ map extension_part (numbered start (types_folded_at xs x))
-extensions_with_origin-at n start xs x own =
-    let schemas = map OfSchema (schemas_folded_at xs x) in
-    let next = start + length (map OfType (types_folded_at xs x)) in
-    extensions_with_origin-append n start (map OfType (types_folded_at xs x)) schemas
-    ∙ (λ i. extensions_with_origin-own n start (types_folded_at xs x) own i ++ extensions_with_origin-apart n next schemas (subst (Apart n) (sym (type_foldings-schemas (schemas_folded_at xs x))) tt) i)
-    ∙ append-nil (map extension_part (numbered start (types_folded_at xs x)))
-
-pub Own-named : (n : List ℕ) (ps : List TypePart) → Own n (filter (λ p. same n (key_of p)) ps)
-Own-named n ps = recursion_from_All (λ p. same n (key_of p) ≡ true) (filter (λ p. same n (key_of p)) ps) (filter_passes (λ p. same n (key_of p)) ps)
-
-pub Own-of_kind : (n : List ℕ) (k : TypeKind) (ps : List TypePart) → Own n ps → Own n (of_kind k ps)
-Own-of_kind n k ps own =
-    each-weaken (λ p. (same n (key_of p) ≡ true) × (same_kind k (kind_of p) ≡ true)) (λ p. same n (key_of p) ≡ true) (λ p both. both.0) (of_kind k ps)
-    (each-filter (λ p. same n (key_of p) ≡ true) (λ p. same_kind k (kind_of p)) ps own)
-
-pub Apart-own : (n m : List ℕ) (ps : List TypePart) → same n m ≡ false → Own m ps → Apart n ps
-Apart-own n m ps apart = each-weaken (λ p. same m (key_of p) ≡ true) (λ p. same n (key_of p) ≡ false) (λ p e. subst (λ (q : List ℕ). same n q ≡ false) (same-true m (key_of p) e) apart) ps
-
--- a name that a list doesn't define is not defined in a front of it
-pub first-front : (n : List ℕ) (xs ys : List ListItem) → first (xs ++ ys) n ≡ None → first xs n ≡ None
-first-front n xs ys none = by (first xs n) (sym (first-append xs ys n) ∙ none)
-  where
-    by : (o : Option TypePart) → option_or o (first ys n) ≡ None → o ≡ None
-    by None h = refl
-    by (Some p) h = h
+type_foldings-push : (xs : List ListItem) (x : ListItem)
+    → type_foldings (folded (xs ++ x ∷ [])) ≡ type_foldings (folded xs) ++ types_folded_at xs x
+type_foldings-push xs x = rw (folded-push xs x, filter_map-append, type_foldings-at xs x)
 
 -- what is folded at the first definition of a name, and at a later one; at an extension without definition,
 -- and at one with
 module _ (xs : List ListItem) (p : TypePart) where
-  pub types_folded_at-new : first xs (key_of p) ≡ None → types_folded_at xs (Defined p) ≡ of_kind (kind_of p) (extensions_of xs (key_of p))
+  pub types_folded_at-new : first xs (key_of p) ≡ None
+      → types_folded_at xs (Defined p) ≡ of_kind (kind_of p) (extensions_of xs (key_of p))
   types_folded_at-new none = rw none
 
-  pub types_folded_at-again : (d : TypePart) → first xs (key_of p) ≡ Some d → types_folded_at xs (Defined p) ≡ []
+  pub types_folded_at-again : (d : TypePart) → first xs (key_of p) ≡ Some d
+      → types_folded_at xs (Defined p) ≡ []
   types_folded_at-again d some = rw some
 
   pub types_folded_at-early : first xs (key_of p) ≡ None → types_folded_at xs (Extended p) ≡ []
   types_folded_at-early none = rw none
 
-  pub types_folded_at-late : (d : TypePart) → first xs (key_of p) ≡ Some d → types_folded_at xs (Extended p) ≡ of_kind (kind_of d) (p ∷ [])
+  pub types_folded_at-late : (d : TypePart) → first xs (key_of p) ≡ Some d
+      → types_folded_at xs (Extended p) ≡ of_kind (kind_of d) (p ∷ [])
   types_folded_at-late d some = rw some
 
--- before the first definition of a name no extension of it is folded
-Apart-types : (n : List ℕ) (xs : List ListItem) (x : ListItem) → first (xs ++ x ∷ []) n ≡ None → Apart n (types_folded_at xs x)
-Apart-types n xs (Defined d) none = by (same n (key_of d)) refl (first xs (key_of d)) refl
-  where
-    by : (b : Bool) → same n (key_of d) ≡ b → (o : Option TypePart) → first xs (key_of d) ≡ o → Apart n (types_folded_at xs (Defined d))
-    by true e o f = let h = sym (first-push_definition xs d n) ∙ none in let g : option_or (first xs n) (Some d) ≡ None = rw e at h in absurd (no (first xs n) g)
-      where
-        no : (o : Option TypePart) → option_or o (Some d) ≡ None → ⊥
-        no None h = cc
-        no (Some y) h = cc
-    by false e None f = subst (Apart n) (sym (types_folded_at-new xs d f)) (Apart-own n (key_of d) (of_kind (kind_of d) (extensions_of xs (key_of d))) e (Own-of_kind (key_of d) (kind_of d) (extensions_of xs (key_of d)) (Own-named (key_of d) (filter_map extended_part xs))))
-    by false e (Some y) f = subst (Apart n) (sym (types_folded_at-again xs d y f)) tt
-Apart-types n xs (Extended p) none = by (same n (key_of p)) refl (first xs (key_of p)) refl
-  where
-    by : (b : Bool) → same n (key_of p) ≡ b → (o : Option TypePart) → first xs (key_of p) ≡ o → Apart n (types_folded_at xs (Extended p))
-    by b e None f = subst (Apart n) (sym (types_folded_at-early xs p f)) tt
-    by true e (Some y) f = absurd (let h : first xs (key_of p) ≡ None = subst (λ (q : List ℕ). first xs q ≡ None) (same-true n (key_of p) e) (first-front n xs (Extended p ∷ []) none) in let g = sym f ∙ h in cc)
-    by false e (Some y) f = subst (Apart n) (sym (types_folded_at-late xs p y f)) (Apart-own n (key_of p) (of_kind (kind_of y) (p ∷ [])) e (Own-of_kind (key_of p) (kind_of y) (p ∷ []) (same-is (key_of p) (key_of p) refl, tt)))
-Apart-types n xs (SchemaDefined s) none = tt
-Apart-types n xs (SchemaExtended s) none = tt
-Apart-types n xs (Other d) none = tt
+-- of a name those are folded that have the kind of its first definition, and none before that
+module _ (n : List ℕ) where
+  abbrev joined : List TypePart → Option TypePart → List TypePart
+  joined es o = option_map_or (λ d. of_kind (kind_of d) es) o []
 
-Apart-folded_after : (n : List ℕ) (before xs : List ListItem) → first (before ++ xs) n ≡ None → Apart n (type_foldings (each_after folded_at before xs))
-Apart-folded_after n before [] none = tt
-Apart-folded_after n before (x ∷ xs) none =
-    let all : first ((before ++ x ∷ []) ++ xs) n ≡ None = ap (λ l. first l n) (append_assoc before (x ∷ []) xs) ∙ none in
-    let rest = each_after folded_at (before ++ x ∷ []) xs in
-    let split : type_foldings (folded_at before x ++ rest) ≡ types_folded_at before x ++ type_foldings rest =
-    filter_map-append type_folding (folded_at before x) rest ∙ ap (λ l. l ++ type_foldings rest) (type_foldings-at before x) in
-    subst (Apart n) (sym split)
-    (each-append (λ p. same n (key_of p) ≡ false) (types_folded_at before x) (type_foldings rest) (Apart-types n before x (first-front n (before ++ x ∷ []) xs all)) (Apart-folded_after n (before ++ x ∷ []) xs all))
+  -- a part of the name, and one of another
+  with_name-one : (p : TypePart) (b k : Bool) → same n (key_of p) ≡ b
+      → with_name n (cond k (p ∷ []) []) ≡ cond b (cond k (p ∷ []) []) []
+  with_name-one p b k e = grind arith
 
-pub Apart-folded : (n : List ℕ) (xs : List ListItem) → first xs n ≡ None → Apart n (type_foldings (folded xs))
-Apart-folded n xs none = Apart-folded_after n [] xs none
+  at-extension : (xs : List ListItem) (p : TypePart) (b : Bool) → same n (key_of p) ≡ b
+      → joined (extensions_of xs n) (first xs n) ++ with_name n (types_folded_at xs (Extended p))
+      ≡ joined (extensions_of xs n ++ cond b (p ∷ []) []) (first xs n)
+  at-extension xs p true e = ap (λ m. joined (extensions_of xs n) (first xs n)
+      ++ with_name n (option_map_or (λ d. of_kind (kind_of d) (p ∷ [])) (first xs m) []))
+      (sym (same-true n (key_of p) e)) ∙ by (first xs n)
+    where
+      by : (o : Option TypePart) → joined (extensions_of xs n) o
+          ++ with_name n (option_map_or (λ d. of_kind (kind_of d) (p ∷ [])) o [])
+          ≡ joined (extensions_of xs n ++ p ∷ []) o
+      by None = refl
+      by (Some d) = ap (λ l. of_kind (kind_of d) (extensions_of xs n) ++ l)
+          (with_name-one p true (same_kind (kind_of d) (kind_of p)) e)
+          ∙ sym (filter-append (λ q. same_kind (kind_of d) (kind_of q)) (extensions_of xs n) (p ∷ []))
+  at-extension xs p false e =
+      ap (λ l. joined (extensions_of xs n) (first xs n) ++ l) (by (first xs (key_of p))) ∙ append-nil _
+      ∙ ap (λ l. joined l (first xs n)) (sym (append-nil _))
+    where
+      by : (o : Option TypePart) → with_name n (option_map_or (λ d. of_kind (kind_of d) (p ∷ [])) o []) ≡ []
+      by None = refl
+      by (Some d) = with_name-one p false (same_kind (kind_of d) (kind_of p)) e
+
+  at-definition : (xs : List ListItem) (p : TypePart) (b : Bool) → same n (key_of p) ≡ b
+      → joined (extensions_of xs n) (first xs n) ++ with_name n (types_folded_at xs (Defined p))
+      ≡ joined (extensions_of xs n) (option_or (first xs n) (cond b (Some p) None))
+  at-definition xs p true e = ap (λ m. joined (extensions_of xs n) (first xs n)
+      ++ with_name n (option_map_or (λ _. []) (first xs m) (of_kind (kind_of p) (extensions_of xs m))))
+      (sym (same-true n (key_of p) e)) ∙ by (first xs n)
+    where
+      by : (o : Option TypePart) → joined (extensions_of xs n) o
+          ++ with_name n (option_map_or (λ _. []) o (of_kind (kind_of p) (extensions_of xs n)))
+          ≡ joined (extensions_of xs n) (option_or o (Some p))
+      by None = filter-all (λ q. same n (key_of q)) (of_kind (kind_of p) (extensions_of xs n))
+          (Own-of_kind n (kind_of p) (extensions_of xs n) (Own-named n (filter_map extended_part xs)))
+      by (Some d) = append-nil _
+  at-definition xs p false e =
+      ap (λ l. joined (extensions_of xs n) (first xs n) ++ l) (by (first xs (key_of p))) ∙ append-nil _
+      ∙ ap (joined (extensions_of xs n)) (sym (or-none _))
+    where
+      es : List TypePart
+      es = of_kind (kind_of p) (extensions_of xs (key_of p))
+
+      by : (o : Option TypePart) → with_name n (option_map_or (λ _. []) o es) ≡ []
+      by None = filter-fails (λ q. same n (key_of q) ≡ false) (λ q. same n (key_of q)) (λ q g. g) es
+          (Apart-own n (key_of p) es e (Own-of_kind (key_of p) (kind_of p) (extensions_of xs (key_of p))
+          (Own-named (key_of p) (filter_map extended_part xs))))
+      by (Some d) = refl
+
+  pub foldings-of_name : (xs : List ListItem)
+      → with_name n (type_foldings (folded xs)) ≡ joined (extensions_of xs n) (first xs n)
+  foldings-of_name =
+      snoc_ind (λ xs. with_name n (type_foldings (folded xs)) ≡ joined (extensions_of xs n) (first xs n)) refl
+      (λ xs x before. rw (type_foldings-push xs x, filter-append, before) (step xs x))
+    where
+      step : (xs : List ListItem) (x : ListItem)
+          → joined (extensions_of xs n) (first xs n) ++ with_name n (types_folded_at xs x)
+          ≡ joined (extensions_of (xs ++ x ∷ []) n) (first (xs ++ x ∷ []) n)
+      step xs (Defined p) =
+          rw (first-push_definition xs p n, extensions_of-push_unextended xs (Defined p) refl n)
+          (at-definition xs p (same n (key_of p)) refl)
+      step xs (Extended p) =
+          rw (first-push_undefined xs (Extended p) refl n, extensions_of-push_extension xs p n)
+          (at-extension xs p (same n (key_of p)) refl)
+      step xs x = rw (append-nil, first-push_undefined xs x refl n, extensions_of-push_unextended xs x refl n)
+
+-- the folded extensions of a name, with their origins forgotten
+pub extensions_with_origin-forget : (n : List ℕ) (start : ℕ) (fs : List Folding)
+    → map (λ s. s.1) (extensions_with_origin n start fs) ≡ with_name n (type_foldings fs)
+extensions_with_origin-forget n start [] = refl
+extensions_with_origin-forget n start (OfSchema s ∷ fs) = extensions_with_origin-forget n (start + 1) fs
+extensions_with_origin-forget n start (OfType p ∷ fs) =
+    grind (arith, extensions_with_origin-forget n (start + 1) fs)
+
+-- where no part has the name, none is folded
+extensions_with_origin-none : (n : List ℕ) (start : ℕ) (fs : List Folding)
+    → with_name n (type_foldings fs) ≡ [] → extensions_with_origin n start fs ≡ []
+extensions_with_origin-none n start fs none = map-empty (λ (s : Sourced). s.1)
+    (extensions_with_origin n start fs) (extensions_with_origin-forget n start fs ∙ none)
+
+extensions_with_origin-own : (n : List ℕ) (start : ℕ) (ps : List TypePart) → Own n ps
+    → extensions_with_origin n start (map OfType ps) ≡ map extension_part (numbered start ps)
+extensions_with_origin-own n start [] own = refl
+extensions_with_origin-own n start (p ∷ ps) own =
+    rw own.0 (ap (λ l. extension_part (start, p) ∷ l) (extensions_with_origin-own n (start + 1) ps own.1))
+
+-- what is folded at an item that concerns the name
+extensions_with_origin-at : (n : List ℕ) (start : ℕ) (xs : List ListItem) (x : ListItem)
+    → Own n (types_folded_at xs x) → extensions_with_origin n start (folded_at xs x)
+    ≡ map extension_part (numbered start (types_folded_at xs x))
+extensions_with_origin-at n start xs x own =
+    let next = start + length (map OfType (types_folded_at xs x)) in
+    let unmade = filter_map-unmade type_folding OfSchema (λ s. refl) (schemas_folded_at xs x) in
+    extensions_with_origin-append n start (map OfType (types_folded_at xs x))
+    (map OfSchema (schemas_folded_at xs x))
+    ∙ (λ i. extensions_with_origin-own n start (types_folded_at xs x) own i
+    ++ extensions_with_origin-none n next (map OfSchema (schemas_folded_at xs x)) (ap (with_name n) unmade) i)
+    ∙ append-nil _
 
 module _ (start : ℕ) (xs : List ListItem) (x : ListItem) (n : List ℕ) where
-  extensions_with_origin-push : extensions_with_origin n start (folded (xs ++ x ∷ [])) ≡ extensions_with_origin n start (folded xs) ++ extensions_with_origin n (start + length (folded xs)) (folded_at xs x)
-  extensions_with_origin-push = ap (extensions_with_origin n start) (folded-push xs x) ∙ extensions_with_origin-append n start (folded xs) (folded_at xs x)
+  abbrev next : ℕ
+  next = start + length (folded xs)
+
+  extensions_with_origin-push : extensions_with_origin n start (folded (xs ++ x ∷ []))
+      ≡ extensions_with_origin n start (folded xs) ++ extensions_with_origin n next (folded_at xs x)
+  extensions_with_origin-push =
+      rw (folded-push xs x) (extensions_with_origin-append n start (folded xs) (folded_at xs x))
 
   -- an item that does not concern the name leaves its type
-  pub type_of-same : first (xs ++ x ∷ []) n ≡ first xs n → Apart n (types_folded_at xs x) → type_of start (folded (xs ++ x ∷ [])) (xs ++ x ∷ []) n ≡ type_of start (folded xs) xs n
+  pub type_of-same : first (xs ++ x ∷ []) n ≡ first xs n → Apart n (types_folded_at xs x)
+      → type_of start (folded (xs ++ x ∷ [])) (xs ++ x ∷ []) n ≡ type_of start (folded xs) xs n
   type_of-same one apart =
-      let same : extensions_with_origin n start (folded (xs ++ x ∷ [])) ≡ extensions_with_origin n start (folded xs) =
-      extensions_with_origin-push
-      ∙ ap (λ l. extensions_with_origin n start (folded xs) ++ l) (extensions_with_origin-apart n (start + length (folded xs)) (folded_at xs x) (subst (Apart n) (sym (type_foldings-at xs x)) apart))
-      ∙ append-nil (extensions_with_origin n start (folded xs)) in
-      ap (λ (l : List Sourced). option_map (λ d. type_from d ((origins.Definition, d) ∷ l)) (first (xs ++ x ∷ []) n)) same
-      ∙ ap (option_map (λ d. type_from d (parts start (folded xs) n d))) one
+      let none : with_name n (type_foldings (folded_at xs x)) ≡ [] = ap (with_name n) (type_foldings-at xs x)
+      ∙ filter-fails (λ p. same n (key_of p) ≡ false) (λ p. same n (key_of p)) (λ p e. e)
+      (types_folded_at xs x) apart in
+      let same_ones : extensions_with_origin n start (folded (xs ++ x ∷ []))
+      ≡ extensions_with_origin n start (folded xs) = extensions_with_origin-push
+      ∙ rw (extensions_with_origin-none n next (folded_at xs x) none, append-nil) in
+      rw (one, same_ones)
 
   -- and one that does adds what is folded there
   pub type_of-more : (d : TypePart) → first (xs ++ x ∷ []) n ≡ Some d → Own n (types_folded_at xs x)
-      → type_of start (folded (xs ++ x ∷ [])) (xs ++ x ∷ []) n ≡ Some (type_from d (parts start (folded xs) n d ++ map extension_part (numbered (start + length (folded xs)) (types_folded_at xs x))))
-  type_of-more d one own =
-      let more : extensions_with_origin n start (folded (xs ++ x ∷ [])) ≡ extensions_with_origin n start (folded xs) ++ map extension_part (numbered (start + length (folded xs)) (types_folded_at xs x)) =
-      extensions_with_origin-push ∙ ap (λ l. extensions_with_origin n start (folded xs) ++ l) (extensions_with_origin-at n (start + length (folded xs)) xs x own) in
-      ap (option_map (λ d. type_from d ((origins.Definition, d) ∷ extensions_with_origin n start (folded (xs ++ x ∷ []))))) one
-      ∙ ap (λ (l : List Sourced). Some (type_from d ((origins.Definition, d) ∷ l))) more
+      → type_of start (folded (xs ++ x ∷ [])) (xs ++ x ∷ []) n ≡ Some (type_from d
+      (parts start (folded xs) n d ++ map extension_part (numbered next (types_folded_at xs x))))
+  type_of-more d one own = rw (one, extensions_with_origin-push, extensions_with_origin-at n next xs x own)
 
   -- at the first definition there is nothing before it
-  pub type_of-new : (d : TypePart) → first xs n ≡ None → first (xs ++ x ∷ []) n ≡ Some d → Own n (types_folded_at xs x)
-      → type_of start (folded (xs ++ x ∷ [])) (xs ++ x ∷ []) n ≡ Some (type_from d ((origins.Definition, d) ∷ map extension_part (numbered (start + length (folded xs)) (types_folded_at xs x))))
+  pub type_of-new : (d : TypePart) → first xs n ≡ None → first (xs ++ x ∷ []) n ≡ Some d
+      → Own n (types_folded_at xs x) → type_of start (folded (xs ++ x ∷ [])) (xs ++ x ∷ []) n
+      ≡ Some (type_from d ((origins.Definition, d)
+      ∷ map extension_part (numbered next (types_folded_at xs x))))
   type_of-new d none one own =
-      type_of-more d one own
-      ∙ ap (λ (l : List Sourced). Some (type_from d ((origins.Definition, d) ∷ (l ++ map extension_part (numbered (start + length (folded xs)) (types_folded_at xs x)))))) (extensions_with_origin-apart n start (folded xs) (Apart-folded n xs none))
+      let before = extensions_with_origin-none n start (folded xs) (foldings-of_name n xs
+      ∙ ap (joined n (extensions_of xs n)) none) in
+      type_of-more d one own ∙ rw before

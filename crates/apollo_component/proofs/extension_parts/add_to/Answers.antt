@@ -1,4 +1,4 @@
-use Rattle.std.proofs.Common.{◌≡◌, Some, None, sym, ap, ◌∙◌, unwrap_or}
+use Rattle.std.proofs.Common.{◌≡◌, Some, sym, ap, ◌∙◌, unwrap_or}
 use Rattle.std.specs.Map.{lookup, set_value}
 use Rattle.std.specs.Option.{option_copied_mut}
 use Rattle.indexmap.specs.IndexMap.{insert_entry}
@@ -13,18 +13,9 @@ returns-in-Some c =
     let p = c.args.part in
     let es = c.args.extensions.now in
     let parts = c.in-Some.parts.now in
-    let there : lookup (same_id id) es ≡ Some parts = sym c.get_mut.ensures.value ∙ ap option_copied_mut c.in-Some.is in
+    let there : lookup (same_id id) es ≡ Some parts =
+    sym c.get_mut.ensures.value ∙ ap option_copied_mut c.in-Some.is in
     c.get_mut.follows.holds c.push.new.self
     ∙ ap (set_value (same_id id) es) c.in_ok-push.ensures.added
     ∙ insert_entry-found same_id es id parts (with_part p parts) there
     ∙ ap (λ o. insert_entry same_id es id (with_part p (unwrap_or o no_parts))) (sym there)
-
-pub returns : goal.returns
-returns c =
-    let id = c.args.id in
-    let p = c.args.part in
-    let es = c.args.extensions.now in
-    let none : lookup (same_id id) es ≡ None = sym c.get_mut.ensures.value ∙ ap option_copied_mut c.in_default.is in
-    c.in_ok-insert.ensures.entries
-    ∙ (λ i. insert_entry same_id (c.get_mut.follows.holds-at-none i) id (c.in_ok-one_part.ensures i))
-    ∙ ap (λ o. insert_entry same_id es id (with_part p (unwrap_or o no_parts))) (sym none)

@@ -5,4 +5,8 @@ use Rattle.apollo_component.specs.Extensions.{extension_location}
 use Rattle.apollo_component.proofs.extension_parts.write_types_of.Given as goal
 
 abbrev pub invariant-loop-id : goal.invariant-loop-id
-invariant-loop-id l = (l.written.items ++ map (λ e. type_extension l.kind l.name e.1 (extension_location e.0)) l.id-iterator ≡ l.fn.written.items ++ map (λ e. type_extension l.kind l.name e.1 (extension_location e.0)) l.fn.extensions) × Begins l.fn.written.items l.written.items
+invariant-loop-id l =
+    (l.written.items ++ map (λ e. type_extension l.kind l.name e.1 (extension_location e.0)) l.id-iterator
+    ≡ l.fn.written.items ++ map
+    (λ e. type_extension l.kind l.name e.1 (extension_location e.0)) l.fn.extensions)
+    × Begins l.fn.written.items l.written.items

@@ -1,5 +1,6 @@
 -- The parts stand round the first mark.
-use Rattle.std.proofs.Common.{◌≡◌, ◌<◌, ℕ, List, Option, None, Some, Bor, MatchOption, length, nat_eq, subst, sym}
+use Rattle.std.proofs.Common.{◌≡◌, ◌<◌, ℕ, List, Option, None, Some, Bor, MatchOption, length, nat_eq, subst}
+use Rattle.std.proofs.Common.{sym}
 use Rattle.std.specs.List.{position_or_len, before_first, after_first}
 use Rattle.apollo_coordinate.specs.Refusals.{Lacks, IsCut}
 use Rattle.apollo_coordinate.proofs.MarkLemmas.{lacks_all, first_cut}

@@ -1,11 +1,8 @@
-use Rattle.apollo_meaning.proofs.Order.FoldingLemmas.{same_kind-refl, type_description-from, type_from-ignorable, type_kind-from, type_location-from, type_name-from}
+use Rattle.apollo_meaning.proofs.Order.FoldingLemmas.{type_description-from, type_from-ignorable, type_kind-from, type_location-from, type_name-from}
 use Rattle.apollo_meaning.proofs.laws.types_are_headed_by_their_definitions.Goals as goal
 
 pub returns-clause-kind : goal.returns-clause-kind
 returns-clause-kind c = type_kind-from
-
-pub returns-clause-own : goal.returns-clause-own
-returns-clause-own c = same_kind-refl
 
 pub returns-clause-description : goal.returns-clause-description
 returns-clause-description c = type_description-from

@@ -19,6 +19,7 @@ pub returns-in_ok-into_coordinate-in-Ok-clause-format : goal.returns-in_ok-into_
 returns-in_ok-into_coordinate-in-Ok-clause-format c =
     λ none. absurd (field_argument_said c.args.text.now _ _ c.in-Ok.ensures.says none)
 
-pub returns-in_err-into_coordinate-in-Ok-clause-format : goal.returns-in_err-into_coordinate-in-Ok-clause-format
+pub returns-in_err-into_coordinate-in-Ok-clause-format :
+    goal.returns-in_err-into_coordinate-in-Ok-clause-format
 returns-in_err-into_coordinate-in-Ok-clause-format c =
     λ none. absurd (field_argument_said c.args.text.now _ _ c.in-Ok.ensures.says none)

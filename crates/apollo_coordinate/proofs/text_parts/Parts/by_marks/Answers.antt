@@ -1,6 +1,9 @@
 -- A text that the form of its marks refuses is outside the grammar.
 use Rattle.std.proofs.Common.{inr}
-use Rattle.apollo_coordinate.proofs.GrammarLemmas.{cut_lacks, no_attribute, no_directive, no_directive_argument, no_field_argument, only_attribute, only_directive, only_directive_argument, only_field_argument, only_type}
+use Rattle.apollo_coordinate.proofs.GrammarLemmas.{cut_lacks, no_attribute, no_directive}
+use Rattle.apollo_coordinate.proofs.GrammarLemmas.{no_directive_argument, no_field_argument, only_attribute}
+use Rattle.apollo_coordinate.proofs.GrammarLemmas.{only_directive, only_directive_argument}
+use Rattle.apollo_coordinate.proofs.GrammarLemmas.{only_field_argument, only_type}
 use Rattle.apollo_coordinate.proofs.text_parts.Parts.by_marks.Goals as goal
 
 pub returns-in_err-new-in-Some-Some-clause-complete : goal.returns-in_err-new-in-Some-Some-clause-complete
@@ -12,7 +15,8 @@ returns-in_err-new-in-Some-Some-clause-complete c text =
     absurd (no_directive_argument _ _
     (inr (marks.directive.now, marks.argument.now, marks.ensures', none)) form)
 
-pub returns-in_err-name_part-in-Some-None-clause-complete : goal.returns-in_err-name_part-in-Some-None-clause-complete
+pub returns-in_err-name_part-in-Some-None-clause-complete :
+    goal.returns-in_err-name_part-in-Some-None-clause-complete
 returns-in_err-name_part-in-Some-None-clause-complete c text =
     let marks = c.in-Some-None in
     let none = c.in_err-name_part-in-Some-None.ensures.refused in
