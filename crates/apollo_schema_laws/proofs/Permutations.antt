@@ -1,43 +1,57 @@
 -- Lists with the same elements in another order: parts that change places, and what is made of each element.
-use Rattle.apollo_meaning.proofs.Prelude.{◌++◌, ◌<◌, ◌∷◌, ◌≡◌, Bool, List, None, Option, Some, [], ap, append_assoc, arith, cond, filter, filter_map, flat_map, get_or, length, option_map_or, refl, subst, suc, zero, ℕ, map, map-append, ◌∙◌}
-use Rattle.apollo_schema_laws.proofs.Rearranged.Words.{IsPermutation, IsPermutation-append_comm, IsPermutation-append_left, IsPermutation-append_right, IsPermutation-keeps, IsPermutation-refl, IsPermutation-trans, cons_option, set, swap}
+use Rattle.apollo_meaning.proofs.Prelude.{◌++◌, ◌<◌, ◌∷◌, ◌≡◌, Bool, List, None, Option, Some, [], ap}
+use Rattle.apollo_meaning.proofs.Prelude.{append_assoc, arith, cond, filter, filter_map, flat_map, get_or}
+use Rattle.apollo_meaning.proofs.Prelude.{length, option_map_or, refl, subst, suc, zero, ℕ, map, map-append}
+use Rattle.apollo_schema_laws.proofs.Rearranged.Words.{IsPermutation, IsPermutation-append_comm}
+use Rattle.apollo_schema_laws.proofs.Rearranged.Words.{IsPermutation-append_left, IsPermutation-append_right}
+use Rattle.apollo_schema_laws.proofs.Rearranged.Words.{IsPermutation-keeps, IsPermutation-refl}
+use Rattle.apollo_schema_laws.proofs.Rearranged.Words.{IsPermutation-trans, cons_option, set, swap}
 use Rattle.std.proofs.lemmas.List.Edits.{swap_is}
 
 -- the first two of three parts in each other's place
 pub exchange : {X : Type 0} (p q r : List X) → IsPermutation (p ++ (q ++ r)) (q ++ (p ++ r))
-exchange p q r = rw (append_assoc p q r, append_assoc q p r) at (IsPermutation-append_left r (p ++ q) (q ++ p) (IsPermutation-append_comm p q))
+exchange p q r = rw (append_assoc, append_assoc) at (IsPermutation-append_left r (p ++ q) (q
+    ++ p) (IsPermutation-append_comm p q))
 
 module _ {X Y : Type 0} (f : X → List Y) where
   -- an element in another's place
-  flat_map-set : (l : List X) (j : ℕ) (x d : X) → j < length l → IsPermutation (f x ++ flat_map f l) (f (get_or l j d) ++ flat_map f (set l j x))
+  flat_map-set : (l : List X) (j : ℕ) (x d : X) → j < length l
+      → IsPermutation (f x ++ flat_map f l) (f (get_or l j d) ++ flat_map f (set l j x))
   flat_map-set [] j x d lt = absurd (omega (arith, lt))
-  flat_map-set (y ∷ l) zero x d lt = exchange (f x) (f y) (flat_map f l)
+  flat_map-set (y ∷ l) zero x d lt = exchange (f x) (f y) _
   flat_map-set (y ∷ l) (suc j) x d lt =
       let z = f (get_or l j d) in
       let rest = flat_map f (set l j x) in
-      IsPermutation-trans _ _ _ (exchange (f x) (f y) (flat_map f l))
-      (IsPermutation-trans _ _ _ (IsPermutation-append_right (f y) (f x ++ flat_map f l) (z ++ rest) (flat_map-set l j x d (omega (arith, lt)))) (exchange (f y) z rest))
+      IsPermutation-trans _ _ _ (exchange (f x) (f y) _)
+      (IsPermutation-trans _ _ _ (IsPermutation-append_right (f y) _ _
+      (flat_map-set l j x d (omega (arith, lt)))) (exchange (f y) z rest))
 
   -- two elements in each other's place
-  flat_map-swap : (l : List X) (i j : ℕ) (d : X) → i < length l → j < length l → IsPermutation (flat_map f l) (flat_map f (set (set l i (get_or l j d)) j (get_or l i d)))
+  flat_map-swap : (l : List X) (i j : ℕ) (d : X) → i < length l → j < length l
+      → IsPermutation (flat_map f l) (flat_map f (set (set l i (get_or l j d)) j (get_or l i d)))
   flat_map-swap [] i j d a b = absurd (omega (arith, a))
-  flat_map-swap (y ∷ l) zero zero d a b = IsPermutation-refl (flat_map f (y ∷ l))
+  flat_map-swap (y ∷ l) zero zero d a b = IsPermutation-refl _
   flat_map-swap (y ∷ l) zero (suc j) d a b = flat_map-set l j y d (omega (arith, b))
   flat_map-swap (y ∷ l) (suc i) zero d a b = flat_map-set l i y d (omega (arith, a))
-  flat_map-swap (y ∷ l) (suc i) (suc j) d a b = IsPermutation-append_right (f y) _ _ (flat_map-swap l i j d (omega (arith, a)) (omega (arith, b)))
+  flat_map-swap (y ∷ l) (suc i) (suc j) d a b =
+      IsPermutation-append_right (f y) _ _ (flat_map-swap l i j d (omega (arith, a)) (omega (arith, b)))
 
-  pub flat_map-permutation : (xs ys : List X) → IsPermutation xs ys → IsPermutation (flat_map f xs) (flat_map f ys)
-  flat_map-permutation xs ys =
-      IsPermutation-keeps xs (λ l. IsPermutation (flat_map f xs) (flat_map f l)) (IsPermutation-refl (flat_map f xs)) (λ l i j a b so_far. IsPermutation-trans _ _ _ so_far (step l i j a b)) ys
+  pub flat_map-permutation : (xs ys : List X) → IsPermutation xs ys
+      → IsPermutation (flat_map f xs) (flat_map f ys)
+  flat_map-permutation xs ys = IsPermutation-keeps xs (λ l. IsPermutation (flat_map f xs) (flat_map f l))
+      (IsPermutation-refl _) (λ l i j a b so_far. IsPermutation-trans _ _ _ so_far (step l i j a b)) ys
     where
-      step : (l : List X) (i j : ℕ) → i < length l → j < length l → IsPermutation (flat_map f l) (flat_map f (swap l i j))
+      step : (l : List X) (i j : ℕ) → i < length l → j < length l
+          → IsPermutation (flat_map f l) (flat_map f (swap l i j))
       step [] i j a b = absurd (omega (arith, a))
-      step (d ∷ l) i j a b = subst (λ m. IsPermutation (flat_map f (d ∷ l)) (flat_map f m)) (swap_is (d ∷ l) i j d a b) (flat_map-swap (d ∷ l) i j d a b)
+      step (d ∷ l) i j a b = subst (λ m. IsPermutation (flat_map f (d ∷ l)) (flat_map f m))
+          (swap_is (d ∷ l) i j d a b) (flat_map-swap (d ∷ l) i j d a b)
 
 -- what is made of each element of joined lists
-pub map-flat_map : {X Y Z : Type 0} (f : Y → Z) (g : X → List Y) (xs : List X) → map f (flat_map g xs) ≡ flat_map (λ x. map f (g x)) xs
+pub map-flat_map : {X Y Z : Type 0} (f : Y → Z) (g : X → List Y) (xs : List X)
+    → map f (flat_map g xs) ≡ flat_map (λ x. map f (g x)) xs
 map-flat_map f g [] = refl
-map-flat_map f g (x ∷ xs) = map-append f (g x) (flat_map g xs) ∙ ap (λ l. map f (g x) ++ l) (map-flat_map f g xs)
+map-flat_map f g (x ∷ xs) = simp (map-append, map-flat_map f g xs)
 
 -- those that pass a test, and what a choice makes of those that it takes
 module _ {X : Type 0} (p : X → Bool) where
@@ -46,12 +60,18 @@ module _ {X : Type 0} (p : X → Bool) where
   filter-flat (x ∷ xs) = grind (arith, filter-flat xs)
 
   pub filter-permutation : (xs ys : List X) → IsPermutation xs ys → IsPermutation (filter p xs) (filter p ys)
-  filter-permutation xs ys s = rw (filter-flat xs, filter-flat ys) at (flat_map-permutation (λ x. cond (p x) (x ∷ []) []) xs ys s)
+  filter-permutation xs ys s =
+      rw (filter-flat xs, filter-flat ys) at (flat_map-permutation (λ x. cond (p x) (x ∷ []) []) xs ys s)
 
 module _ {X Y : Type 0} (which : X → Option Y) where
-  filter_map-flat : (xs : List X) → flat_map (λ x. option_map_or (λ y. y ∷ []) (which x) []) xs ≡ filter_map which xs
+  filter_map-flat : (xs : List X)
+      → flat_map (λ x. option_map_or (λ y. y ∷ []) (which x) []) xs ≡ filter_map which xs
   filter_map-flat [] = refl
-  filter_map-flat (x ∷ xs) = elim (which x) as (λ o. option_map_or (λ y. y ∷ []) o [] ++ flat_map (λ x. option_map_or (λ y. y ∷ []) (which x) []) xs ≡ cons_option o (filter_map which xs)) [ None ↦ filter_map-flat xs | Some y ↦ ap (λ l. y ∷ l) (filter_map-flat xs) ]
+  filter_map-flat (x ∷ xs) = elim (which x) as (λ o. option_map_or (λ y. y ∷ []) o []
+      ++ flat_map (λ x. option_map_or (λ y. y ∷ []) (which x) []) xs ≡ cons_option o (filter_map which xs))
+      [ None ↦ filter_map-flat xs | Some y ↦ ap (λ l. y ∷ l) (filter_map-flat xs) ]
 
-  pub filter_map-permutation : (xs ys : List X) → IsPermutation xs ys → IsPermutation (filter_map which xs) (filter_map which ys)
-  filter_map-permutation xs ys s = rw (filter_map-flat xs, filter_map-flat ys) at (flat_map-permutation (λ x. option_map_or (λ y. y ∷ []) (which x) []) xs ys s)
+  pub filter_map-permutation : (xs ys : List X) → IsPermutation xs ys
+      → IsPermutation (filter_map which xs) (filter_map which ys)
+  filter_map-permutation xs ys s = rw (filter_map-flat xs, filter_map-flat ys) at (flat_map-permutation
+      (λ x. option_map_or (λ y. y ∷ []) (which x) []) xs ys s)

@@ -1,11 +1,7 @@
-pub mod AfterFirst
 pub mod Bare
 pub mod BareCompletion
-pub mod Completed
 pub mod Dropped
 pub mod Found
-pub mod FoundSorts
-pub mod Grouped
 pub mod Orphans
 pub mod Rearranging
 pub mod Regrouped

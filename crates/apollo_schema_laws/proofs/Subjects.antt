@@ -1,7 +1,19 @@
 -- What a definition is about, and what lists say of a subject, where those of its groups stand in both in the
 -- same order.
-use Rattle.apollo_meaning.proofs.Prelude.{◌&&◌, ◌∙◌, ◌∷◌, ◌≡◌, Bool, Defined, DirectiveDefinition, Extended, List, ListItem, NodeView, None, Option, Other, SchemaDefined, SchemaExtended, TypePart, [], ap, arith, defined_part, defined_schema, directive_definitions, extended_part, extended_schema, extension_faults, extensions_of, false, filter, filter_map, find, first, first_schema, found_at, further_definition, further_schema, is_some, key_of, option_map_or, option_or, refl, same, same-true, schema_begun_faults, schema_extensions, schema_faults, slice_get, sym, true, ℕ}
-use Rattle.apollo_schema_laws.proofs.Rearranged.Words.{DefinitionsOf, DirectiveDefinitionsOf, ExtensionsOf, Group, IsOwn, IsTest, SchemaDefinitions, SchemaExtensions, chosen-wider, directive_of, directive_part, filter-wider, filter_map-wider, find-first, has_text, is_handed_in, is_in, last_or, lookup-keyed, type_begun_faults}
+use Rattle.apollo_meaning.proofs.Prelude.{◌&&◌, ◌∙◌, ◌∷◌, ◌≡◌, Bool, Defined, DirectiveDefinition, Extended}
+use Rattle.apollo_meaning.proofs.Prelude.{List, ListItem, NodeView, Option, Other, SchemaDefined}
+use Rattle.apollo_meaning.proofs.Prelude.{SchemaExtended, TypePart, [], ap, arith, defined_part}
+use Rattle.apollo_meaning.proofs.Prelude.{defined_schema, directive_definitions, extended_part}
+use Rattle.apollo_meaning.proofs.Prelude.{extended_schema, extensions_of, false, filter, filter_map, find}
+use Rattle.apollo_meaning.proofs.Prelude.{first, first_schema, found_at, is_some, key_of, option_map_or, refl}
+use Rattle.apollo_meaning.proofs.Prelude.{same, same-true, schema_extensions, schema_faults, slice_get, sym}
+use Rattle.apollo_meaning.proofs.Prelude.{true, ℕ}
+use Rattle.apollo_schema_laws.proofs.Rearranged.Words.{DefinitionsOf, DirectiveDefinitionsOf, ExtensionsOf}
+use Rattle.apollo_schema_laws.proofs.Rearranged.Words.{Group, IsOwn, IsTest, SchemaDefinitions}
+use Rattle.apollo_schema_laws.proofs.Rearranged.Words.{SchemaExtensions, chosen-wider, directive_of}
+use Rattle.apollo_schema_laws.proofs.Rearranged.Words.{directive_part, filter-wider, filter_map-wider}
+use Rattle.apollo_schema_laws.proofs.Rearranged.Words.{find-first, has_text, is_handed_in, is_in}
+use Rattle.apollo_schema_laws.proofs.Rearranged.Words.{lookup-keyed}
 use Rattle.graphql_nodes.proofs.Texts.{same-refl}
 use Rattle.graphql_ast.specs.declared.definition.Definition.TheVariants as ast
 use Rattle.apollo_meaning.specs.declared.build_error.BuildError.TheVariants as errors
@@ -37,21 +49,19 @@ same_subject NoSubject NoSubject = true
 same_subject _ _ = false
 
 pub subject_laws : IsTest same_subject
-subject_laws = record { is = is; itself = itself }
+subject_laws = record { is = is; itself = λ a. grind (arith, same-refl) }
   where
     is : (a b : Subject) → same_subject a b ≡ true → a ≡ b
     is (TypeNamed n) (TypeNamed m) e = ap TypeNamed (same-true n m e)
     is (DirectiveNamed n) (DirectiveNamed m) e = ap DirectiveNamed (same-true n m e)
     is a b e = grind (arith, e)
 
-    itself : (a : Subject) → same_subject a a ≡ true
-    itself a = grind (arith, same-refl)
-
 -- those of a group have its subject
 pub in-subject : (g : Group) (x : ListItem) → is_in g x ≡ true → subject_of_group g ≡ subject x
-in-subject (DefinitionsOf n) (Defined p) e = ap TypeNamed (same-true n (key_of p) e)
-in-subject (ExtensionsOf n) (Extended p) e = ap TypeNamed (same-true n (key_of p) e)
-in-subject (DirectiveDefinitionsOf n) (Other (ast.DirectiveDefinition m)) e = ap DirectiveNamed (same-true n m.value.name.text e)
+in-subject (DefinitionsOf n) (Defined p) e = ap TypeNamed (same-true n _ e)
+in-subject (ExtensionsOf n) (Extended p) e = ap TypeNamed (same-true n _ e)
+in-subject (DirectiveDefinitionsOf n) (Other (ast.DirectiveDefinition m)) e =
+    ap DirectiveNamed (same-true n m.value.name.text e)
 in-subject g x e = grind (arith, e)
 
 -- the definitions of a name, in order
@@ -59,7 +69,7 @@ abbrev pub definitions_of : List ListItem → List ℕ → List TypePart
 definitions_of xs n = filter (λ p. same n (key_of p)) (filter_map defined_part xs)
 
 pub first-is : (xs : List ListItem) (n : List ℕ) → first xs n ≡ slice_get (definitions_of xs n) 0
-first-is xs n = lookup-keyed (same n) key_of (filter_map defined_part xs) ∙ find-first (λ p. same n (key_of p)) (filter_map defined_part xs)
+first-is xs n = simp (lookup-keyed, find-first)
 
 -- the first that passes two tests is, of those that pass one, the first that passes the other
 find-filter : {X : Type 0} (p q : X → Bool) (xs : List X) → find (λ x. p x && q x) xs ≡ find q (filter p xs)
@@ -71,25 +81,31 @@ module _ (xs ys : List ListItem) where
   abbrev pub Agree : Group → Type 0
   Agree g = filter (is_in g) xs ≡ filter (is_in g) ys
 
-  chosen-agree : {P : Type 0} (which : ListItem → Option P) (q : P → Bool) → filter (λ x. option_map_or q (which x) false) xs ≡ filter (λ x. option_map_or q (which x) false) ys → filter q (filter_map which xs) ≡ filter q (filter_map which ys)
-  chosen-agree which q a = sym (chosen-wider which _ q (λ x e. e) xs) ∙ ap (λ l. filter q (filter_map which l)) a ∙ chosen-wider which _ q (λ x e. e) ys
+  chosen-agree : {P : Type 0} (which : ListItem → Option P) (q : P → Bool)
+      → filter (λ x. option_map_or q (which x) false) xs ≡ filter (λ x. option_map_or q (which x) false) ys
+      → filter q (filter_map which xs) ≡ filter q (filter_map which ys)
+  chosen-agree which q a = grind (arith, chosen-wider, a, chosen-wider which _ q (λ x e. e) ys)
 
-  all-agree : {P : Type 0} (which : ListItem → Option P) → filter (λ x. is_some (which x)) xs ≡ filter (λ x. is_some (which x)) ys → filter_map which xs ≡ filter_map which ys
-  all-agree which a = sym (filter_map-wider which _ (λ x e. e) xs) ∙ ap (filter_map which) a ∙ filter_map-wider which _ (λ x e. e) ys
+  all-agree : {P : Type 0} (which : ListItem → Option P)
+      → filter (λ x. is_some (which x)) xs ≡ filter (λ x. is_some (which x)) ys
+      → filter_map which xs ≡ filter_map which ys
+  all-agree which a = grind (arith, filter_map-wider, a)
 
   pub definitions-agree : (n : List ℕ) → Agree (DefinitionsOf n) → definitions_of xs n ≡ definitions_of ys n
-  definitions-agree n = chosen-agree defined_part (λ p. same n (key_of p))
+  definitions-agree n = chosen-agree defined_part _
 
   pub first-agree : (n : List ℕ) → Agree (DefinitionsOf n) → first xs n ≡ first ys n
-  first-agree n a = first-is xs n ∙ ap (λ l. slice_get l 0) (definitions-agree n a) ∙ sym (first-is ys n)
+  first-agree n a = simp (first-is, definitions-agree)
 
   pub extensions-agree : (n : List ℕ) → Agree (ExtensionsOf n) → extensions_of xs n ≡ extensions_of ys n
-  extensions-agree n = chosen-agree extended_part (λ p. same n (key_of p))
+  extensions-agree n = chosen-agree extended_part _
 
-  directives-agree : (n : List ℕ) → Agree (DirectiveDefinitionsOf n) → filter (has_text n) (directive_definitions xs) ≡ filter (has_text n) (directive_definitions ys)
-  directives-agree n = chosen-agree directive_part (has_text n)
+  directives-agree : (n : List ℕ) → Agree (DirectiveDefinitionsOf n)
+      → filter (has_text n) (directive_definitions xs) ≡ filter (has_text n) (directive_definitions ys)
+  directives-agree n = chosen-agree directive_part _
 
-  pub schema_definitions-agree : Agree SchemaDefinitions → filter_map defined_schema xs ≡ filter_map defined_schema ys
+  pub schema_definitions-agree : Agree SchemaDefinitions
+      → filter_map defined_schema xs ≡ filter_map defined_schema ys
   schema_definitions-agree = all-agree defined_schema
 
   pub first_schema-agree : Agree SchemaDefinitions → first_schema xs ≡ first_schema ys
@@ -100,32 +116,35 @@ module _ (xs ys : List ListItem) where
 
   -- the first directive definition of a name that is handed in
   handed_in-agree : (n : List ℕ) → Agree (DirectiveDefinitionsOf n)
-      → find (λ d. has_text n d && is_handed_in d) (directive_definitions xs) ≡ find (λ d. has_text n d && is_handed_in d) (directive_definitions ys)
-  handed_in-agree n a =
-      find-filter (has_text n) is_handed_in (directive_definitions xs) ∙ ap (find is_handed_in) (directives-agree n a) ∙ sym (find-filter (has_text n) is_handed_in (directive_definitions ys))
+      → find (λ d. has_text n d && is_handed_in d) (directive_definitions xs)
+      ≡ find (λ d. has_text n d && is_handed_in d) (directive_definitions ys)
+  handed_in-agree n a = simp (find-filter, directives-agree)
 
-  pub directive_of-agree : (n : List ℕ) → Agree (DirectiveDefinitionsOf n) → directive_of (directive_definitions xs) n ≡ directive_of (directive_definitions ys) n
-  directive_of-agree n a = λ i. option_or (handed_in-agree n a i) (last_or None (directives-agree n a i))
+  pub directive_of-agree : (n : List ℕ) → Agree (DirectiveDefinitionsOf n)
+      → directive_of (directive_definitions xs) n ≡ directive_of (directive_definitions ys) n
+  directive_of-agree n a = simp (handed_in-agree, directives-agree)
 
   -- what is found at an item after either list
-  pub found_at-agree : (x : ListItem) → ((g : Group) → subject_of_group g ≡ subject x → Agree g) → found_at xs x ≡ found_at ys x
-  found_at-agree (Defined d) a = λ i.
-      option_map_or (λ f. further_definition f d) (first-agree (key_of d) (a (DefinitionsOf (key_of d)) refl) i) (type_begun_faults d (extensions-agree (key_of d) (a (ExtensionsOf (key_of d)) refl) i))
-  found_at-agree (Extended e) a = λ i.
-      option_map_or (λ d. extension_faults d (extensions-agree (key_of e) (a (ExtensionsOf (key_of e)) refl) i) e) (first-agree (key_of e) (a (DefinitionsOf (key_of e)) refl) i) []
-  found_at-agree (SchemaDefined s) a = λ i.
-      option_map_or (λ f. further_schema f s ∷ []) (first_schema-agree (a SchemaDefinitions refl) i) (schema_begun_faults s (schema_extensions-agree (a SchemaExtensions refl) i))
-  found_at-agree (SchemaExtended e) a = λ i.
-      option_map_or (λ s. schema_faults (s ∷ schema_extensions-agree (a SchemaExtensions refl) i) e) (first_schema-agree (a SchemaDefinitions refl) i) []
-  found_at-agree (Other (ast.DirectiveDefinition n)) a =
-      ap (λ o. option_map_or (λ kept. (n.value.name.location, errors.DirectiveDefinitionCollision kept.value.name.location n.value.name) ∷ []) o [])
-      (handed_in-agree n.value.name.text (a (DirectiveDefinitionsOf n.value.name.text) refl))
+  pub found_at-agree : (x : ListItem) → ((g : Group) → subject_of_group g ≡ subject x → Agree g)
+      → found_at xs x ≡ found_at ys x
+  found_at-agree (Defined d) a = simp (first-agree, extensions-agree)
+  found_at-agree (Extended e) a = simp (extensions-agree, first-agree)
+  found_at-agree (SchemaDefined s) a = simp (first_schema-agree, schema_extensions-agree)
+  found_at-agree (SchemaExtended e) a =
+      λ i. option_map_or (λ s. schema_faults (s ∷ schema_extensions-agree (a SchemaExtensions refl) i) e)
+      (first_schema-agree (a SchemaDefinitions refl) i) []
+  found_at-agree (Other (ast.DirectiveDefinition n)) a = ap (λ o. option_map_or (λ kept. (
+    n.value.name.location,
+    errors.DirectiveDefinitionCollision kept.value.name.location n.value.name,
+  ) ∷ []) o []) (handed_in-agree n.value.name.text (a (DirectiveDefinitionsOf n.value.name.text) refl))
   found_at-agree (Other d) a = refl
 
 -- what is found at an item is decided by those of its subject before it
 pub found_at-own : IsOwn same_subject subject_laws subject found_at
 found_at-own before x =
-    found_at-agree before (filter own before) x (λ g is. sym (filter-wider own (is_in g) (λ y h. ap (same_subject (subject x)) (sym (in-subject g y h) ∙ is) ∙ subject_laws.itself (subject x)) before))
+    found_at-agree before _ x
+    (λ g is. sym (filter-wider own _ (λ y h. ap (same_subject _) (sym (in-subject g y h) ∙ is)
+    ∙ subject_laws.itself (subject x)) before))
   where
     own : ListItem → Bool
     own y = same_subject (subject x) (subject y)

@@ -1,9 +1,23 @@
 -- What is written of a schema definition: of two that say the same, of one of roots alone, and of one that is
 -- left out.
-use Rattle.apollo_schema_laws.proofs.Words.Lists.{◌≡◌, ℕ, Bool, true, false, cond, not, ◌||◌, ◌&&◌, List, [], ◌∷◌, ◌++◌, None, Option, Some, is_none, map, find, flat_map, length, option_map, refl, sym, ap, ◌∙◌, ◌==◌, length-map, map-map, cons_option, list_any, option_eq, nat_eq, true≢false, arith, and_parts, nat_tests, list_all, flat_map-map, IsDistinct, map-flat_map, nil_from_length}
-use Rattle.apollo_schema_laws.proofs.Words.Syntax.{NameView, OperationType, Query, Mutation, Subscription, SourceSpan, schema_definition, schema_extension, Parts, Directive, bare_name, default_type_text, same-true, bare_directive, same-refl}
-use Rattle.apollo_schema_laws.proofs.Words.Types.{extension_location, same_origin, identities, origins_in, Component, ComponentName, PartsByOrigin, ExtensionId, has_implied_root, has_own_root, implied_name, is_written, schema_components, write_schema_definition, root_of, ExtendedType, SchemaDefinition, bare_component, bare_component_name, bare_schema_definition, is_implied, operation_types}
-use Rattle.apollo_schema_laws.proofs.Words.Meaning.{Root, SchemaPart, roots_of, same_operation, schema_extension_source, component_name, default_root, schema_of_roots, roots_in}
+use Rattle.apollo_schema_laws.proofs.Words.Lists.{◌≡◌, ℕ, Bool, true, false, cond, not, ◌||◌, ◌&&◌, List, []}
+use Rattle.apollo_schema_laws.proofs.Words.Lists.{◌∷◌, ◌++◌, None, Option, Some, is_none, map, find, flat_map}
+use Rattle.apollo_schema_laws.proofs.Words.Lists.{length, option_map, refl, sym, ap, ◌∙◌, ◌==◌, length-map}
+use Rattle.apollo_schema_laws.proofs.Words.Lists.{map-map, cons_option, list_any, option_eq, nat_eq}
+use Rattle.apollo_schema_laws.proofs.Words.Lists.{true≢false, arith, and_parts, nat_tests, list_all}
+use Rattle.apollo_schema_laws.proofs.Words.Lists.{flat_map-map, IsDistinct, map-flat_map, nil_from_length}
+use Rattle.apollo_schema_laws.proofs.Words.Syntax.{NameView, OperationType, Query, Mutation, Subscription}
+use Rattle.apollo_schema_laws.proofs.Words.Syntax.{SourceSpan, schema_definition, schema_extension, bare_name}
+use Rattle.apollo_schema_laws.proofs.Words.Syntax.{default_type_text, same-true, bare_directive, same-refl}
+use Rattle.apollo_schema_laws.proofs.Words.Types.{same_origin, identities, origins_in, ComponentName}
+use Rattle.apollo_schema_laws.proofs.Words.Types.{has_implied_root, has_own_root, implied_name, is_written}
+use Rattle.apollo_schema_laws.proofs.Words.Types.{schema_components, write_schema_definition, root_of}
+use Rattle.apollo_schema_laws.proofs.Words.Types.{ExtendedType, SchemaDefinition, bare_component}
+use Rattle.apollo_schema_laws.proofs.Words.Types.{bare_component_name, bare_schema_definition, is_implied}
+use Rattle.apollo_schema_laws.proofs.Words.Types.{operation_types}
+use Rattle.apollo_schema_laws.proofs.Words.Meaning.{Root, SchemaPart, roots_of, same_operation}
+use Rattle.apollo_schema_laws.proofs.Words.Meaning.{schema_extension_source, default_root, schema_of_roots}
+use Rattle.apollo_schema_laws.proofs.Words.Meaning.{roots_in}
 use Rattle.apollo_schema_laws.proofs.Words.Faults.{same_root}
 use Rattle.apollo_schema_laws.proofs.Words.Written.{with_origins, placed}
 use Rattle.std.specs.Cmp.Lexicographic.{pointwise}
@@ -12,7 +26,8 @@ use Rattle.apollo_schema_laws.proofs.Sections.{has_none, definition-alone, has_s
 use Rattle.apollo_schema_laws.proofs.Lists.{distinct-from_first, option_map-twice}
 use Rattle.apollo_schema_laws.proofs.Types.{parts_from, same-located}
 use Rattle.apollo_schema_laws.proofs.Definitions.SchemaSections.{entries, of_schema-origin, picked-roots}
-use Rattle.apollo_schema_laws.proofs.Definitions.OneSchema.{IsSchemaAgain, directives-in_parts, extension_written, made_schema, root_under, schema_held, written_parts_of}
+use Rattle.apollo_schema_laws.proofs.Definitions.OneSchema.{IsSchemaAgain, directives-in_parts, made_schema}
+use Rattle.apollo_schema_laws.proofs.Definitions.OneSchema.{root_under, schema_held, written_parts_of}
 
 -- whether a root is of the definition
 abbrev is_own : Option ComponentName → Bool
@@ -20,135 +35,129 @@ is_own None = false
 is_own (Some n) = same_origin origins.Definition n.origin
 
 any-one : (op : OperationType) (o : Option ComponentName) (rest : List (OperationType × ComponentName))
-    → list_any (λ r. same_origin origins.Definition r.1.origin) (cons_option (option_map (λ n. (op, n)) o) rest) ≡ (is_own o || list_any (λ r. same_origin origins.Definition r.1.origin) rest)
+    → list_any (λ r. same_origin origins.Definition r.1.origin) (cons_option (option_map (λ n. (op, n)) o)
+    rest) ≡ (is_own o || list_any (λ r. same_origin origins.Definition r.1.origin) rest)
 any-one op o rest = grind arith
 
-has_own-three : (d : SchemaDefinition) → has_own_root d ≡ (is_own d.query || (is_own d.mutation || (is_own d.subscription || false)))
+has_own-three : (d : SchemaDefinition)
+    → has_own_root d ≡ (is_own d.query || (is_own d.mutation || (is_own d.subscription || false)))
 has_own-three d = simp any-one
 
 -- a definition that names a root has a root of its own
-pub own-root : (head : SchemaPart) (r : Root) (rs : List Root) (es : List (ℕ × SchemaPart)) → head.roots ≡ r ∷ rs → has_own_root (made_schema head es) ≡ true
-own-root head r rs es e = has_own-three (made_schema head es) ∙ grind (arith, own Query, own Mutation, own Subscription)
+pub own-root : (head : SchemaPart) (r : Root) (rs : List Root) (es : List (ℕ × SchemaPart))
+    → head.roots ≡ r ∷ rs → has_own_root (made_schema head es) ≡ true
+own-root head r rs es e = has_own-three (made_schema head es) ∙ grind (arith, own)
   where
-    first : OperationType × ComponentName
-    first = (r.value.0, component_name origins.Definition r.value.1)
-
-    rest : List (OperationType × ComponentName)
-    rest = map (root_under origins.Definition) rs ++ flat_map roots_of (map schema_extension_source es)
-
-    listed : flat_map roots_of ((origins.Definition, head) ∷ map schema_extension_source es) ≡ first ∷ rest
-    listed = ap (λ l. map (root_under origins.Definition) l ++ flat_map roots_of (map schema_extension_source es)) e
-
-    own : (op : OperationType) → same_operation op r.value.0 ≡ true → is_own (option_map (λ r. r.1) (find (λ r. same_operation op r.0) (flat_map roots_of ((origins.Definition, head) ∷ map schema_extension_source es)))) ≡ true
-    own op same =
-        ap (λ l. is_own (option_map (λ r. r.1) (find (λ r. same_operation op r.0) l))) listed
-        ∙ ap (λ b. is_own (option_map (λ r. r.1) (cond b (Some first) (find (λ r. same_operation op r.0) rest)))) same
-
-    d : SchemaDefinition
-    d = made_schema head es
+    own : (op : OperationType) → same_operation op r.value.0 ≡ true
+        → is_own (option_map (λ r. r.1) (find (λ r. same_operation op r.0)
+        (flat_map roots_of ((origins.Definition, head) ∷ map schema_extension_source es)))) ≡ true
+    own op same = simp (
+      (ap (λ l. map (root_under origins.Definition) l ++ flat_map roots_of
+          (map schema_extension_source es)) e),
+      same,
+    )
 
 has_some-append : {A : Type 0} (xs ys : List A) → has_some (xs ++ ys) ≡ (has_some xs || has_some ys)
 has_some-append [] ys = refl
 has_some-append (x ∷ xs) ys = refl
 
-own-entry : (op : OperationType) (o : Option ComponentName) → is_own o ≡ has_some (picked origins.Definition (entries op o))
+own-entry : (op : OperationType) (o : Option ComponentName)
+    → is_own o ≡ has_some (picked origins.Definition (entries op o))
 own-entry op o = grind arith
 
 -- it has one where roots are written of the definition
 pub own-said : (d : SchemaDefinition) → has_own_root d ≡ has_some (written_parts_of d).definition.roots
-own-said d =
-    has_own-three d
-    ∙ (λ i. own-entry Query d.query i || (own-entry Mutation d.mutation i || (own-entry Subscription d.subscription i || false)))
-    ∙ sym (ap has_some (ap (λ q. q.roots) (of_schema-origin d origins.Definition) ∙ picked-roots origins.Definition d) ∙ simp has_some-append)
+own-said d = has_own-three d ∙ (λ i. own-entry Query d.query i || (own-entry Mutation d.mutation i
+    || (own-entry Subscription d.subscription i || false)))
+    ∙ sym (ap has_some (ap (λ q. q.roots) (of_schema-origin d origins.Definition)
+    ∙ picked-roots origins.Definition d) ∙ simp has_some-append)
 
 pub no-own : (d : SchemaDefinition) → has_own_root d ≡ false → (written_parts_of d).definition.roots ≡ []
 no-own d h = has_none (written_parts_of d).definition.roots (sym (own-said d) ∙ h)
 
 -- where a definition has no directive of its own, none is written of it
-pub no-directives : (head : SchemaPart) (es : List (ℕ × SchemaPart)) → head.directives ≡ [] → (written_parts_of (made_schema head es)).definition.directives ≡ []
+pub no-directives : (head : SchemaPart) (es : List (ℕ × SchemaPart)) → head.directives ≡ []
+    → (written_parts_of (made_schema head es)).definition.directives ≡ []
 no-directives head es e =
-    let p : PartsByOrigin = parts_from (λ s. s.location) schema_held head es in
+    let p = parts_from (λ s. s.location) schema_held head es in
     ap (λ q. q.directives) (of_schema-origin (made_schema head es) origins.Definition)
-    ∙ ap (picked origins.Definition) (directives-in_parts head es)
-    ∙ of-alone origins.Definition (λ q. q.directives) (with_origins p) (origins.Definition, p.definition) (definition-alone p) ∙ e
+    ∙ ap (picked origins.Definition) (directives-in_parts head es) ∙ of-alone origins.Definition
+    (λ q. q.directives) (with_origins p) (origins.Definition, p.definition) (definition-alone p) ∙ e
 
 -- where there is no root of any operation type, no part names one
-pub all-none : (l : List (OperationType × ComponentName)) → ((op : OperationType) → option_map (λ r. r.1) (find (λ r. same_operation op r.0) l) ≡ None) → l ≡ []
+pub all-none : (l : List (OperationType × ComponentName))
+    → ((op : OperationType) → option_map (λ r. r.1) (find (λ r. same_operation op r.0) l) ≡ None) → l ≡ []
 all-none [] h = refl
 all-none (x ∷ l) h = absurd (grind (arith, h x.0))
 
 -- extensions name roots of the operation types of their parts' roots
-pub operations-named : (es : List (ℕ × SchemaPart)) → map (λ r. r.0) (flat_map roots_of (map schema_extension_source es)) ≡ map (λ r. r.value.0) (roots_in (map (λ e. e.1) es))
+pub operations-named : (es : List (ℕ × SchemaPart))
+    → map (λ r. r.0) (flat_map roots_of (map schema_extension_source es))
+    ≡ map (λ r. r.value.0) (roots_in (map (λ e. e.1) es))
 operations-named es = simp (map-flat_map, flat_map-map, map-map)
 
 -- the names that roots have where none is named, in two tables of types
 abbrev pub SameImplied : List (NameView × ExtendedType) → List (NameView × ExtendedType) → Type 0
 SameImplied types others = (op : OperationType) → implied_name others op ≡ implied_name types op
 
-text-of : (d u : SchemaDefinition) → IsSchemaAgain d u → (op : OperationType) → option_map (λ n. n.name.text) (root_of u op) ≡ option_map (λ n. n.name.text) (root_of d op)
-text-of d u a op = twice (root_of u op) ∙ ap (option_map (λ (n : NameView). n.text)) (a.roots op) ∙ sym (twice (root_of d op))
+text-of : (d u : SchemaDefinition) → IsSchemaAgain d u → (op : OperationType)
+    → option_map (λ n. n.name.text) (root_of u op) ≡ option_map (λ n. n.name.text) (root_of d op)
+text-of d u a op = simp (twice, a.roots)
   where
-    twice : (o : Option ComponentName) → option_map (λ n. n.name.text) o ≡ option_map (λ n. n.text) (option_map (λ c. c.name) o)
-    twice o = sym (option_map-twice (λ (n : NameView). n.text) (λ (c : ComponentName). c.name) o)
+    twice : (o : Option ComponentName)
+        → option_map (λ n. n.name.text) o ≡ option_map (λ n. n.text) (option_map (λ c. c.name) o)
+    twice o = sym (option_map-twice _ _ o)
 
-module _ (d u : SchemaDefinition) (a : IsSchemaAgain d u) (types others : List (NameView × ExtendedType)) (same : SameImplied types others) where
+module _ (d u : SchemaDefinition) (a : IsSchemaAgain d u) (types others : List (NameView × ExtendedType))
+    (same : SameImplied types others) where
   implied-root : (op : OperationType) → has_implied_root others u op ≡ has_implied_root types d op
-  implied-root op = (λ i. option_eq (pointwise nat_eq) (text-of d u a op i) (same op i))
+  implied-root op = simp (text-of d u a op, same op)
 
-  abbrev location_part : ExtensionId × Parts → Option SourceSpan × Parts
-  location_part e = (extension_location e.0, e.1)
-
-  counted : (c : SchemaDefinition) → length (identities (origins_in (schema_components c))) ≡ length (placed (written_parts_of c).extensions)
-  counted c =
-      sym (length-map (written_parts_of c).extensions location_part ∙ length-map (identities (origins_in (schema_components c))) (extension_written c))
-
-  directive_count : length u.directives.0 ≡ length d.directives.0
-  directive_count = sym (length-map u.directives.0 (λ (c : Component Directive). c.node)) ∙ ap length a.directives ∙ length-map d.directives.0 (λ (c : Component Directive). c.node)
+  counted : (c : SchemaDefinition)
+      → length (identities (origins_in (schema_components c)))
+      ≡ length (placed (written_parts_of c).extensions)
+  counted c = simp length-map
 
   same-written : is_written others u ≡ is_written types d
-  same-written = (λ i. own i && not (is_none (a.description i) && (directive_count i == 0) && ((counted u ∙ ap length a.extensions ∙ sym (counted d)) i == 0)
-      && (implied-root Query i && (implied-root Mutation i && (implied-root Subscription i && true)))))
-    where
-      own : has_own_root u ≡ has_own_root d
-      own = own-said u ∙ ap (λ q. has_some q.roots) a.definition ∙ sym (own-said d)
+  same-written = λ i. (own-said u ∙ ap (λ q. has_some q.roots) a.definition ∙ sym (own-said d)) i
+      && not (is_none (a.description i) && ((sym (length-map u.directives.0 _) ∙ ap length a.directives
+      ∙ length-map d.directives.0 _) i == 0) && ((counted u ∙ ap length a.extensions ∙ sym (counted d)) i ==
+      0) && (implied-root Query i && (implied-root Mutation i && (implied-root Subscription i && true))))
 
   -- schema definitions that say the same are written out alike
-  pub written-alike : (location other : Option SourceSpan) → (is_written types d ≡ true → other ≡ location) → write_schema_definition u other others ≡ write_schema_definition d location types
-  written-alike location other at = (λ i. whole i ++ same-located (λ w. schema_extension w.1 w.0) (written_parts_of u).extensions (written_parts_of d).extensions a.extensions i)
-    where
-      by : (b : Bool) → is_written types d ≡ b → (cond b (schema_definition u.description (written_parts_of u).definition other ∷ []) []) ≡ (cond b (schema_definition d.description (written_parts_of d).definition location ∷ []) [])
-      by true e = (λ i. schema_definition (a.description i) (a.definition i) (at e i) ∷ [])
-      by false e = refl
-
-      whole : (cond (is_written others u) (schema_definition u.description (written_parts_of u).definition other ∷ []) []) ≡ (cond (is_written types d) (schema_definition d.description (written_parts_of d).definition location ∷ []) [])
-      whole = ap (λ b. cond b (schema_definition u.description (written_parts_of u).definition other ∷ []) []) same-written ∙ by (is_written types d) refl
+  pub written-alike : (location other : Option SourceSpan) → (is_written types d ≡ true → other ≡ location)
+      → write_schema_definition u other others ≡ write_schema_definition d location types
+  written-alike location other at =
+      λ i. (ap (λ b. cond b (schema_definition u.description (written_parts_of u).definition other ∷ []) [])
+      same-written ∙ (elim (is_written types d) as (λ b. is_written types d ≡ b
+      → (cond b (schema_definition u.description (written_parts_of u).definition other ∷ []) [])
+      ≡ (cond b (schema_definition d.description (written_parts_of d).definition location ∷ []) [])) [
+        | true ↦ λ e. (λ i. schema_definition (a.description i) (a.definition i) (at e i) ∷ [])
+        | false ↦ λ e. refl
+      ]) refl) i ++ same-located (λ w. schema_extension w.1 w.0) (written_parts_of u).extensions
+      (written_parts_of d).extensions a.extensions i
 
 -- A schema definition that is left out: its roots are those that no schema definition would have to name.
 
 -- the roots that are implied where these operation types have an object type of the default name
-abbrev pub root_where : Bool → OperationType → List Root
-root_where b op = cond b (default_root op ∷ []) []
+abbrev pub roots_where : (OperationType → Bool) → List Root
+roots_where has = flat_map (λ op. cond (has op) (default_root op ∷ []) []) operation_types
 
-abbrev pub roots_where : Bool → Bool → Bool → List Root
-roots_where q m s = root_where q Query ++ (root_where m Mutation ++ (root_where s Subscription ++ []))
-
-abbrev pub implied_schema_of : Bool → Bool → Bool → SchemaDefinition
-implied_schema_of q m s = made_schema (schema_of_roots (roots_where q m s)) []
-
-abbrev pub has_one : Bool → Bool → Bool → OperationType → Bool
-has_one q m s Query = q
-has_one q m s Mutation = m
-has_one q m s Subscription = s
+abbrev pub implied_schema_of : (OperationType → Bool) → SchemaDefinition
+implied_schema_of has = made_schema (schema_of_roots (roots_where has)) []
 
 -- its roots, that it has no extension, and that the roots differ
-root-three : (q m s : Bool) (op : OperationType) → option_map (λ n. n.name.text) (root_of (implied_schema_of q m s) op) ≡ cond (has_one q m s op) (Some (default_type_text op)) None
-root-three q m s op = grind arith
+root-three : (has : OperationType → Bool) (op : OperationType)
+    → option_map (λ n. n.name.text) (root_of (implied_schema_of has) op)
+    ≡ cond (has op) (Some (default_type_text op)) None
+root-three has op = grind arith
 
-unextended : (q m s : Bool) → identities (origins_in (schema_components (implied_schema_of q m s))) ≡ []
-unextended q m s = grind arith
+unextended : (has : OperationType → Bool)
+    → identities (origins_in (schema_components (implied_schema_of has))) ≡ []
+unextended has = grind arith
 
-pub implied-distinct : (q m s : Bool) → IsDistinct same_root (roots_where q m s)
-implied-distinct q m s = distinct-from_first same_root (roots_where q m s) (grind arith)
+pub implied-distinct : (has : OperationType → Bool) → IsDistinct same_root (roots_where has)
+implied-distinct has = distinct-from_first same_root _ (grind arith)
 
 -- the text of a root that equals an implied one
 implied-text : (a b : Option (List ℕ)) → option_eq (pointwise nat_eq) a b ≡ true → a ≡ b
@@ -156,9 +165,6 @@ implied-text None None h = refl
 implied-text None (Some y) h = absurd (true≢false (sym h))
 implied-text (Some x) None h = absurd (true≢false (sym h))
 implied-text (Some x) (Some y) h = ap Some (same-true x y h)
-
-text-implied : (a : Option (List ℕ)) → option_eq (pointwise nat_eq) a a ≡ true
-text-implied a = grind (arith, same-refl)
 
 is-none : {X : Type 0} (o : Option X) → is_none o ≡ true → o ≡ None
 is-none o h = grind (arith, h)
@@ -171,7 +177,8 @@ abbrev bare_text : List ℕ → NameView
 bare_text t = record { text = t; location = None }
 
 -- a test that all operation types pass
-each-operation : (test : OperationType → Bool) (op : OperationType) → list_all test operation_types ≡ true → test op ≡ true
+each-operation : (test : OperationType → Bool) (op : OperationType) → list_all test operation_types ≡ true
+    → test op ≡ true
 each-operation test op h = grind (arith, h)
 
 -- nothing is said by it but implied roots
@@ -181,50 +188,51 @@ pub record IsLeftOut (d : SchemaDefinition) (types : List (NameView × ExtendedT
   pub extensions : identities (origins_in (schema_components d)) ≡ []
   pub roots : (op : OperationType) → option_map (λ n. n.name.text) (root_of d op) ≡ implied_name types op
 
-pub left-out : (d : SchemaDefinition) (types : List (NameView × ExtendedType)) → is_implied types d ≡ true → IsLeftOut d types
-left-out d types h =
-    let rooted = (and_parts ((is_none d.description && (length d.directives.0 == 0)) && (length (identities (origins_in (schema_components d))) == 0)) (list_all (has_implied_root types d) operation_types) h).1 in
-    record {
-      description = is-none d.description (grind (arith, h));
-      directives = is-empty d.directives.0 (grind (arith, h));
-      extensions = is-empty (identities (origins_in (schema_components d))) (grind (arith, h));
-      roots = λ op. implied-text (option_map (λ n. n.name.text) (root_of d op)) (implied_name types op) (each-operation (has_implied_root types d) op rooted);
-    }
+pub left-out : (d : SchemaDefinition) (types : List (NameView × ExtendedType)) → is_implied types d ≡ true
+    → IsLeftOut d types
+left-out d types h = record {
+  description = is-none d.description (grind (arith, h));
+  directives = is-empty d.directives.0 (grind (arith, h));
+  extensions = is-empty _ (grind (arith, h));
+  roots = λ op. implied-text _ _ (each-operation (has_implied_root types d) op (and_parts _ _ h).1);
+}
 
-module _ (types : List (NameView × ExtendedType)) (q m s : Bool) (are : (op : OperationType) → implied_name types op ≡ cond (has_one q m s op) (Some (default_type_text op)) None) where
+module _ (types : List (NameView × ExtendedType)) (has : OperationType → Bool) (are : (op : OperationType)
+    → implied_name types op ≡ cond (has op) (Some (default_type_text op)) None) where
   -- the implied definition says what one that is left out says
-  pub left-out-equal : (d : SchemaDefinition) → IsLeftOut d types → bare_schema_definition (implied_schema_of q m s) ≡ bare_schema_definition d
-  left-out-equal d l = (λ i. record {
+  pub left-out-equal : (d : SchemaDefinition) → IsLeftOut d types
+      → bare_schema_definition (implied_schema_of has) ≡ bare_schema_definition d
+  left-out-equal d l = λ i. record {
     description = option_map bare_name (sym l.description i);
     directives = map (bare_component bare_directive) (sym l.directives i);
     query = root Query i;
     mutation = root Mutation i;
     subscription = root Subscription i;
-  })
+  }
     where
-      by_text : (o : Option ComponentName) → option_map bare_component_name o ≡ option_map bare_text (option_map (λ n. n.name.text) o)
-      by_text o = sym (option_map-twice bare_text (λ (n : ComponentName). n.name.text) o)
+      by_text : (o : Option ComponentName)
+          → option_map bare_component_name o ≡ option_map bare_text (option_map (λ n. n.name.text) o)
+      by_text o = sym (option_map-twice bare_text _ o)
 
-      root : (op : OperationType) → option_map bare_component_name (root_of (implied_schema_of q m s) op) ≡ option_map bare_component_name (root_of d op)
-      root op =
-          by_text (root_of (implied_schema_of q m s) op)
-          ∙ ap (option_map bare_text) (root-three q m s op ∙ sym (are op) ∙ sym (l.roots op))
-          ∙ sym (by_text (root_of d op))
+      root : (op : OperationType)
+          → option_map bare_component_name (root_of (implied_schema_of has) op)
+          ≡ option_map bare_component_name (root_of d op)
+      root op = simp (by_text, root-three, are, l.roots)
 
-  root-implied : (op : OperationType) → has_implied_root types (implied_schema_of q m s) op ≡ true
-  root-implied op = (λ i. option_eq (pointwise nat_eq) (root-three q m s op i) (are op i)) ∙ text-implied (cond (has_one q m s op) (Some (default_type_text op)) None)
-
-  implied-again : is_implied types (implied_schema_of q m s) ≡ true
-  implied-again = (λ i. is_none (implied_schema_of q m s).description && (length (implied_schema_of q m s).directives.0 == 0) && (length (unextended q m s i) == 0) && (root-implied Query i && (root-implied Mutation i && (root-implied Subscription i && true))))
+  implied-again : is_implied types (implied_schema_of has) ≡ true
+  implied-again = grind (arith, unextended, root-three, are, same-refl)
 
 -- nothing is written of it
-pub left-out-written : (d : SchemaDefinition) (location : Option SourceSpan) (types : List (NameView × ExtendedType)) → is_implied types d ≡ true → identities (origins_in (schema_components d)) ≡ [] → write_schema_definition d location types ≡ []
-left-out-written d location types implied none =
-    (λ i. (cond (unwritten i) (schema_definition d.description (written_parts_of d).definition location ∷ []) []) ++ map (λ e. schema_extension e.1 (extension_location e.0)) (map (extension_written d) (none i)))
+pub left-out-written : (d : SchemaDefinition) (location : Option SourceSpan)
+    (types : List (NameView × ExtendedType)) → is_implied types d ≡ true
+    → identities (origins_in (schema_components d)) ≡ [] → write_schema_definition d location types ≡ []
+left-out-written d location types implied none = rw (unwritten, none)
   where
     unwritten : is_written types d ≡ false
-    unwritten = ap (λ b. has_own_root d && not b) implied ∙ grind arith
+    unwritten = grind (arith, implied)
 
-pub implied-unwritten : (types : List (NameView × ExtendedType)) (q m s : Bool) → ((op : OperationType) → implied_name types op ≡ cond (has_one q m s op) (Some (default_type_text op)) None) → (location : Option SourceSpan)
-    → write_schema_definition (implied_schema_of q m s) location types ≡ []
-implied-unwritten types q m s are location = left-out-written (implied_schema_of q m s) location types (implied-again types q m s are) (unextended q m s)
+pub implied-unwritten : (types : List (NameView × ExtendedType)) (has : OperationType → Bool)
+    → ((op : OperationType) → implied_name types op ≡ cond (has op) (Some (default_type_text op)) None)
+    → (location : Option SourceSpan) → write_schema_definition (implied_schema_of has) location types ≡ []
+implied-unwritten types has are location = left-out-written (implied_schema_of has) location types
+    (implied-again types has are) (unextended has)

@@ -1,74 +1,97 @@
 -- Lists: what tests keep, what is found, and groups of elements by keys that differ.
-use Rattle.apollo_schema_laws.proofs.Words.Lists.{◌≡◌, Bool, true, false, cond, ◌&&◌, List, [], ◌∷◌, ◌++◌, None, Option, Some, map, option_map, filter, find, refl, sym, ap, ◌∙◌, arith, not, subst, true≢false, ◌+◌, ◌≤◌, length, flat_map, length-append, filter-append, filter_passes, recursion_from_All, filter_agree, filter-all, find-first, slice_get, one-element-permutation, map-id, each-append, filter-permutation}
-use Rattle.apollo_schema_laws.proofs.Words.Lists.{AllByRecursion, filter_map, list_any, IsDistinct, IfSome, filter-fails, each-weaken, each-filter, flat_map-each, IsPermutation-refl, IsPermutation-trans, IsPermutation-append_right, IsPermutation-filter_both, IsEquivalence, IsPermutation}
+use Rattle.apollo_schema_laws.proofs.Words.Lists.{◌≡◌, Bool, true, false, cond, ◌&&◌, List, [], ◌∷◌, ◌++◌}
+use Rattle.apollo_schema_laws.proofs.Words.Lists.{None, Option, Some, map, option_map, filter, find, refl}
+use Rattle.apollo_schema_laws.proofs.Words.Lists.{sym, ap, ◌∙◌, arith, not, subst, true≢false, ◌+◌, ◌≤◌}
+use Rattle.apollo_schema_laws.proofs.Words.Lists.{length, flat_map, length-append, filter-append}
+use Rattle.apollo_schema_laws.proofs.Words.Lists.{filter_passes, recursion_from_All, filter-all, find-first}
+use Rattle.apollo_schema_laws.proofs.Words.Lists.{one-element-permutation, map-id, each-append}
+use Rattle.apollo_schema_laws.proofs.Words.Lists.{filter-permutation, AllByRecursion, filter_map, list_any}
+use Rattle.apollo_schema_laws.proofs.Words.Lists.{IsDistinct, IfSome, filter-fails, each-weaken, each-filter}
+use Rattle.apollo_schema_laws.proofs.Words.Lists.{flat_map-each, IsPermutation-refl, IsPermutation-trans}
+use Rattle.apollo_schema_laws.proofs.Words.Lists.{IsPermutation-append_right, IsPermutation-filter_both}
+use Rattle.apollo_schema_laws.proofs.Words.Lists.{IsEquivalence, IsPermutation}
+use Rattle.apollo_component.proofs.Lists.BySubject.{filter-wider}
 use Rattle.apollo_schema_laws.proofs.Words.Types.{first_of_each, first_of_each-distinct, first_of_each-map}
 
-pub filter-filter : {X : Type 0} (p q : X → Bool) (xs : List X) → filter p (filter q xs) ≡ filter (λ x. q x && p x) xs
+pub filter-filter : {X : Type 0} (p q : X → Bool) (xs : List X)
+    → filter p (filter q xs) ≡ filter (λ x. q x && p x) xs
 filter-filter p q [] = refl
 filter-filter p q (x ∷ xs) = grind (arith, filter-filter p q xs)
 
 -- a test that answers the same at all keeps all or none
-pub filter-alike : {X : Type 0} (p : X → Bool) (b : Bool) (xs : List X) → AllByRecursion (λ x. p x ≡ b) xs → filter p xs ≡ cond b xs []
+pub filter-alike : {X : Type 0} (p : X → Bool) (b : Bool) (xs : List X) → AllByRecursion (λ x. p x ≡ b) xs
+    → filter p xs ≡ cond b xs []
 filter-alike p true xs a = filter-all p xs a
-filter-alike p false xs a = filter-fails (λ x. p x ≡ false) p (λ x e. e) xs a
+filter-alike p false xs a = filter-fails _ p (λ x e. e) xs a
 
 pub each-of : {X : Type 0} (P : X → Type 0) → ((x : X) → P x) → (xs : List X) → AllByRecursion P xs
 each-of P all [] = tt
 each-of P all (x ∷ xs) = (all x, each-of P all xs)
 
 -- two facts at each element
-pub each-both : {X : Type 0} (P Q R : X → Type 0) → ((x : X) → P x → Q x → R x) → (xs : List X) → AllByRecursion P xs → AllByRecursion Q xs → AllByRecursion R xs
+pub each-both : {X : Type 0} (P Q R : X → Type 0) → ((x : X) → P x → Q x → R x) → (xs : List X)
+    → AllByRecursion P xs → AllByRecursion Q xs → AllByRecursion R xs
 each-both P Q R both [] p q = tt
 each-both P Q R both (x ∷ xs) p q = (both x p.0 q.0, each-both P Q R both xs p.1 q.1)
 
-pub each-split : {X : Type 0} (P : X → Type 0) (xs ys : List X) → AllByRecursion P (xs ++ ys) → AllByRecursion P xs × AllByRecursion P ys
+pub each-split : {X : Type 0} (P : X → Type 0) (xs ys : List X) → AllByRecursion P (xs ++ ys)
+    → AllByRecursion P xs × AllByRecursion P ys
 each-split P [] ys a = (tt, a)
-each-split P (x ∷ xs) ys a = let rest : AllByRecursion P xs × AllByRecursion P ys = each-split P xs ys a.1 in ((a.0, rest.0), rest.1)
+each-split P (x ∷ xs) ys a = let rest = each-split P xs ys a.1 in ((a.0, rest.0), rest.1)
 
-pub each-map : {X Y : Type 0} (P : Y → Type 0) (f : X → Y) (xs : List X) → AllByRecursion (λ x. P (f x)) xs → AllByRecursion P (map f xs)
+pub each-map : {X Y : Type 0} (P : Y → Type 0) (f : X → Y) (xs : List X) → AllByRecursion (λ x. P (f x)) xs
+    → AllByRecursion P (map f xs)
 each-map P f [] a = tt
 each-map P f (x ∷ xs) a = (a.0, each-map P f xs a.1)
 
-pub each-from_map : {X Y : Type 0} (P : Y → Type 0) (f : X → Y) (xs : List X) → AllByRecursion P (map f xs) → AllByRecursion (λ x. P (f x)) xs
+pub each-from_map : {X Y : Type 0} (P : Y → Type 0) (f : X → Y) (xs : List X) → AllByRecursion P (map f xs)
+    → AllByRecursion (λ x. P (f x)) xs
 each-from_map P f [] a = tt
 each-from_map P f (x ∷ xs) a = (a.0, each-from_map P f xs a.1)
 
 -- what holds of all that is made of each
-pub each-made : {X Y : Type 0} (P : Y → Type 0) (make : X → Y) → ((x : X) → P (make x)) → (xs : List X) → AllByRecursion P (map make xs)
-each-made P make each xs = each-map P make xs (each-of (λ x. P (make x)) each xs)
+pub each-made : {X Y : Type 0} (P : Y → Type 0) (make : X → Y) → ((x : X) → P (make x)) → (xs : List X)
+    → AllByRecursion P (map make xs)
+each-made P make each xs = each-map P make xs (each-of _ each xs)
 
-pub each-flat_map : {X Y : Type 0} (P : Y → Type 0) (f : X → List Y) (xs : List X) → AllByRecursion (λ x. AllByRecursion P (f x)) xs → AllByRecursion P (flat_map f xs)
+pub each-flat_map : {X Y : Type 0} (P : Y → Type 0) (f : X → List Y) (xs : List X)
+    → AllByRecursion (λ x. AllByRecursion P (f x)) xs → AllByRecursion P (flat_map f xs)
 each-flat_map P f [] a = tt
-each-flat_map P f (x ∷ xs) a = each-append P (f x) (flat_map f xs) a.0 (each-flat_map P f xs a.1)
+each-flat_map P f (x ∷ xs) a = each-append P (f x) _ a.0 (each-flat_map P f xs a.1)
 
 pub each-flat_map_back : {X Y : Type 0} (P : Y → Type 0) (f : X → List Y) (xs : List X)
     → AllByRecursion P (flat_map f xs) → AllByRecursion (λ x. AllByRecursion P (f x)) xs
 each-flat_map_back P f [] a = tt
 each-flat_map_back P f (x ∷ xs) a =
-    let both : AllByRecursion P (f x) × AllByRecursion P (flat_map f xs) = each-split P (f x) (flat_map f xs) a in
+    let both = each-split P (f x) _ a in
     (both.0, each-flat_map_back P f xs both.1)
 
-pub map-each : {X Y : Type 0} (f g : X → Y) (xs : List X) → AllByRecursion (λ x. f x ≡ g x) xs → map f xs ≡ map g xs
+pub map-each : {X Y : Type 0} (f g : X → Y) (xs : List X) → AllByRecursion (λ x. f x ≡ g x) xs
+    → map f xs ≡ map g xs
 map-each f g [] a = refl
-map-each f g (x ∷ xs) a = (λ i. a.0 i ∷ map-each f g xs a.1 i)
+map-each f g (x ∷ xs) a = λ i. a.0 i ∷ map-each f g xs a.1 i
 
 -- what is made alike of all is made alike of each
-pub map-same : {X Y : Type 0} (f g : X → Y) (xs : List X) → map f xs ≡ map g xs → AllByRecursion (λ x. f x ≡ g x) xs
+pub map-same : {X Y : Type 0} (f g : X → Y) (xs : List X) → map f xs ≡ map g xs
+    → AllByRecursion (λ x. f x ≡ g x) xs
 map-same f g [] h = tt
 map-same f g (x ∷ xs) h =
-    let both : f x ∷ map f xs ≡ g x ∷ map g xs = h in (cc, map-same f g xs (cc))
+    let both = h in (cc, map-same f g xs (cc))
 
-pub filter-flat_map : {X Y : Type 0} (p : Y → Bool) (f : X → List Y) (xs : List X) → filter p (flat_map f xs) ≡ flat_map (λ x. filter p (f x)) xs
+pub filter-flat_map : {X Y : Type 0} (p : Y → Bool) (f : X → List Y) (xs : List X)
+    → filter p (flat_map f xs) ≡ flat_map (λ x. filter p (f x)) xs
 filter-flat_map p f [] = refl
-filter-flat_map p f (x ∷ xs) = filter-append p (f x) (flat_map f xs) ∙ ap (λ l. filter p (f x) ++ l) (filter-flat_map p f xs)
+filter-flat_map p f (x ∷ xs) = rw (filter-append, filter-flat_map p f xs)
 
 -- what makes nothing of each makes nothing of all
-pub flat_map-nothing : {X Y : Type 0} (f : X → List Y) (xs : List X) → AllByRecursion (λ x. f x ≡ []) xs → flat_map f xs ≡ []
+pub flat_map-nothing : {X Y : Type 0} (f : X → List Y) (xs : List X) → AllByRecursion (λ x. f x ≡ []) xs
+    → flat_map f xs ≡ []
 flat_map-nothing f [] a = refl
-flat_map-nothing f (x ∷ xs) a = rw (a.0) (flat_map-nothing f xs a.1)
+flat_map-nothing f (x ∷ xs) a = rw a.0 (flat_map-nothing f xs a.1)
 
-pub flat_map-none : {X Y : Type 0} (f : X → List Y) → ((x : X) → f x ≡ []) → (xs : List X) → flat_map f xs ≡ []
-flat_map-none f none xs = flat_map-nothing f xs (each-of (λ x. f x ≡ []) none xs)
+pub flat_map-none : {X Y : Type 0} (f : X → List Y) → ((x : X) → f x ≡ []) → (xs : List X)
+    → flat_map f xs ≡ []
+flat_map-none f none xs = flat_map-nothing f xs (each-of _ none xs)
 
 -- a choice that takes all, and one that takes nothing
 pub filter_map-some : {X : Type 0} (xs : List X) → filter_map (λ x. Some x) xs ≡ xs
@@ -81,17 +104,21 @@ filter_map-none {X} {Y} (x ∷ xs) = filter_map-none {Y = Y} xs
 
 -- what a test keeps passes it
 pub passes : {X : Type 0} (p : X → Bool) (xs : List X) → AllByRecursion (λ x. p x ≡ true) (filter p xs)
-passes p xs = recursion_from_All (λ x. p x ≡ true) (filter p xs) (filter_passes p xs)
+passes p xs = recursion_from_All _ _ (filter_passes p xs)
 
 -- what holds of all holds of what is found
-pub if-found : {X : Type 0} (P : X → Type 0) (p : X → Bool) (xs : List X) → AllByRecursion P xs → IfSome (find p xs) P
+pub if-found : {X : Type 0} (P : X → Type 0) (p : X → Bool) (xs : List X) → AllByRecursion P xs
+    → IfSome (find p xs) P
 if-found P p [] a = tt
-if-found P p (x ∷ xs) a = elim (p x) as (λ b. IfSome (cond b (Some x) (find p xs)) P) [ true ↦ a.0 | false ↦ if-found P p xs a.1 ]
+if-found P p (x ∷ xs) a = elim (p x) as (λ b. IfSome (cond b (Some x) (find p xs)) P)
+    [ true ↦ a.0 | false ↦ if-found P p xs a.1 ]
 
-pub found-holds : {X : Type 0} (P : X → Type 0) (p : X → Bool) (xs : List X) (y : X) → AllByRecursion P xs → find p xs ≡ Some y → P y
+pub found-holds : {X : Type 0} (P : X → Type 0) (p : X → Bool) (xs : List X) (y : X) → AllByRecursion P xs
+    → find p xs ≡ Some y → P y
 found-holds P p xs y a e = rw e at (if-found P p xs a)
 
-pub option_map-twice : {X Y Z : Type 0} (g : Y → Z) (f : X → Y) (o : Option X) → option_map g (option_map f o) ≡ option_map (λ x. g (f x)) o
+pub option_map-twice : {X Y Z : Type 0} (g : Y → Z) (f : X → Y) (o : Option X)
+    → option_map g (option_map f o) ≡ option_map (λ x. g (f x)) o
 option_map-twice g f None = refl
 option_map-twice g f (Some x) = refl
 
@@ -105,78 +132,80 @@ both-empty [] ys h = (refl, h)
 both-empty (x ∷ xs) ys h = absurd (grind (arith, h))
 
 -- where all keys differ the first of each are all
-pub all-first : {K X : Type 0} (same : K → K → Bool) (key : X → K) (xs : List X) → IsDistinct same (map key xs) → first_of_each (λ a b. same (key a) (key b)) xs ≡ xs
+pub all-first : {K X : Type 0} (same : K → K → Bool) (key : X → K) (xs : List X)
+    → IsDistinct same (map key xs) → first_of_each (λ a b. same (key a) (key b)) xs ≡ xs
 unfolding IsDistinct
 all-first same key [] d = refl
-all-first same key (x ∷ xs) d =
-    ap (λ l. x ∷ filter (λ y. not (same (key x) (key y))) l) (all-first same key xs d.1)
-    ∙ ap (λ l. x ∷ l) (filter-all (λ y. not (same (key x) (key y))) xs (each-weaken (λ y. same (key x) (key y) ≡ false) (λ y. not (same (key x) (key y)) ≡ true) (λ y e. ap not e) xs (each-from_map (λ k. same (key x) k ≡ false) key xs d.0)))
+all-first same key (x ∷ xs) d = simp (
+  all-first same key xs d.1,
+  filter-all _ xs (each-weaken _ _ (λ y e. ap not e) xs (each-from_map _ key xs d.0)),
+)
 
 -- things differ where they are the first of each
-pub distinct-from_first : {K : Type 0} (same : K → K → Bool) (ks : List K) → first_of_each same ks ≡ ks → IsDistinct same ks
+pub distinct-from_first : {K : Type 0} (same : K → K → Bool) (ks : List K) → first_of_each same ks ≡ ks
+    → IsDistinct same ks
 distinct-from_first same ks e = subst (IsDistinct same) e (first_of_each-distinct same ks)
 
 -- where their keys differ they differ by these, and the other way round
-pub distinct-by_keys : {K X : Type 0} (same : K → K → Bool) (key : X → K) (xs : List X) → IsDistinct same (map key xs) → IsDistinct (λ a b. same (key a) (key b)) xs
-distinct-by_keys same key xs d = distinct-from_first (λ a b. same (key a) (key b)) xs (all-first same key xs d)
+pub distinct-by_keys : {K X : Type 0} (same : K → K → Bool) (key : X → K) (xs : List X)
+    → IsDistinct same (map key xs) → IsDistinct (λ a b. same (key a) (key b)) xs
+distinct-by_keys same key xs d = distinct-from_first _ xs (all-first same key xs d)
 
-pub keys-distinct : {K X : Type 0} (same : K → K → Bool) (key : X → K) (xs : List X) → IsDistinct (λ a b. same (key a) (key b)) xs → IsDistinct same (map key xs)
-keys-distinct same key xs d =
-    distinct-from_first same (map key xs) (sym (first_of_each-map same key xs) ∙ ap (map key) (all-first (λ a b. same (key a) (key b)) (λ x. x) xs (subst (IsDistinct (λ a b. same (key a) (key b))) (sym (map-id xs)) d)))
+pub keys-distinct : {K X : Type 0} (same : K → K → Bool) (key : X → K) (xs : List X)
+    → IsDistinct (λ a b. same (key a) (key b)) xs → IsDistinct same (map key xs)
+keys-distinct same key xs d = distinct-from_first same _ (sym (first_of_each-map same key xs) ∙ ap (map key)
+    (all-first _ (λ x. x) xs (subst (IsDistinct (λ a b. same (key a) (key b))) (sym (map-id xs)) d)))
 
 module _ {K X : Type 0} (same : K → K → Bool) (laws : IsEquivalence same) (key : X → K) where
   -- where all keys differ each element is alone of its key
-  pub own-group : (xs : List X) → IsDistinct same (map key xs) → AllByRecursion (λ x. filter (λ y. same (key x) (key y)) xs ≡ x ∷ []) xs
+  pub own-group : (xs : List X) → IsDistinct same (map key xs)
+      → AllByRecursion (λ x. filter (λ y. same (key x) (key y)) xs ≡ x ∷ []) xs
   unfolding IsDistinct
   own-group [] d = tt
   own-group (x ∷ xs) d =
-      let apart : AllByRecursion (λ y. same (key x) (key y) ≡ false) xs = each-from_map (λ k. same (key x) k ≡ false) key xs d.0 in (
-        rw (laws.refl (key x)) (ap (λ l. x ∷ l) (filter-fails (λ y. same (key x) (key y) ≡ false) (λ y. same (key x) (key y)) (λ y e. e) xs apart)),
-        each-both (λ y. same (key x) (key y) ≡ false) (λ y. filter (λ z. same (key y) (key z)) xs ≡ y ∷ []) (λ y. filter (λ z. same (key y) (key z)) (x ∷ xs) ≡ y ∷ []) (λ y e own. rw (laws.symm (key y) (key x), e) own) xs apart (own-group xs d.1),
+      let apart = each-from_map _ key xs d.0 in (
+        rw laws.refl (ap (λ l. x ∷ l) (filter-fails _ _ (λ y e. e) xs apart)),
+        each-both _ _ _ (λ y e own. rw (laws.symm, e) own) xs apart (own-group xs d.1),
       )
 
   module _ (k : K) where
     abbrev has : X → Bool
     has x = same k (key x)
 
-    -- so is what has a key
-    alone : (xs : List X) → IsDistinct same (map key xs) → AllByRecursion (λ x. filter has xs ≡ x ∷ []) (filter has xs)
-    alone xs d =
-        each-weaken (λ x. (filter (λ y. same (key x) (key y)) xs ≡ x ∷ []) × (has x ≡ true)) (λ x. filter has xs ≡ x ∷ []) (λ x h. (λ i. filter (λ y. laws.congr k (key x) (key y) h.1 i) xs) ∙ h.0) (filter has xs)
-        (each-filter (λ x. filter (λ y. same (key x) (key y)) xs ≡ x ∷ []) has xs (own-group xs d))
+    pub found-permuted : (xs ys : List X) → IsPermutation xs ys → IsDistinct same (map key xs)
+        → find has ys ≡ find has xs
+    found-permuted xs ys p d = simp (
+      find-first,
+      one-element-permutation _ _ _ (filter-permutation has xs ys p)
+          (each-weaken _ _ (λ x h. (λ i. filter (λ y. laws.congr k (key x) (key y) h.1 i) xs)
+          ∙ h.0) _ (each-filter _ has xs (own-group xs d))),
+    )
 
-    pub found-permuted : (xs ys : List X) → IsPermutation xs ys → IsDistinct same (map key xs) → find has ys ≡ find has xs
-    found-permuted xs ys p d =
-        find-first has ys
-        ∙ ap (λ l. slice_get l 0) (sym (one-element-permutation (filter has xs) (filter has xs) (filter has ys) (filter-permutation has xs ys p) (alone xs d)))
-        ∙ sym (find-first has xs)
+module _ {K X : Type 0} (same : K → K → Bool) (laws : IsEquivalence same) (key : X → K) where
+  -- those of a key
+  abbrev of_key : K → List X → List X
+  of_key k = filter (λ x. same k (key x))
 
-module _ {K : Type 0} (same : K → K → Bool) (laws : IsEquivalence same) where
-  apart-keys : (j k l : K) → same j k ≡ false → (not (same j l) && same k l) ≡ same k l
-  apart-keys j k l apart = grind (arith, laws.symm j l, laws.congr k l j, laws.symm k j)
+  -- groups by distinct keys that leave out nothing have the elements of the list
+  pub groups : (ks : List K) (xs : List X) → IsDistinct same ks
+      → AllByRecursion (λ x. list_any (λ k. same k (key x)) ks ≡ true) xs
+      → IsPermutation xs (flat_map (λ k. of_key k xs) ks)
+  unfolding IsDistinct
+  groups [] [] d there = IsPermutation-refl []
+  groups [] (x ∷ xs) d there = absurd (true≢false (sym there.0))
+  groups (k ∷ ks) xs d there = IsPermutation-trans xs _ _ (IsPermutation-filter_both _ other (λ x. refl) xs)
+      (IsPermutation-append_right _ others _ (subst (IsPermutation others) (flat_map-each _ _ _ stay ks d.0)
+      (groups ks others d.1 (each-weaken _ _ (λ x h. grind (arith, h.0, h.1)) others
+      (each-filter _ other xs there)))))
+    where
+      other : X → Bool
+      other x = not (same k (key x))
 
-  module _ {A : Type 0} where
-    -- those of a key
-    abbrev of_key : K → List (K × A) → List (K × A)
-    of_key k = filter (λ x. same k x.0)
+      others : List X
+      others = filter other xs
 
-    -- those of other keys
-    abbrev of_others : K → List (K × A) → List (K × A)
-    of_others k = filter (λ x. not (same k x.0))
-
-    of_key-others : (xs : List (K × A)) (j k : K) → same j k ≡ false → of_key k (of_others j xs) ≡ of_key k xs
-    of_key-others xs j k apart = filter-filter (λ x. same k x.0) (λ x. not (same j x.0)) xs ∙ filter_agree (λ x. not (same j x.0) && same k x.0) (λ x. same k x.0) (λ x. apart-keys j k x.0 apart) xs
-
-    -- groups by distinct keys that leave out nothing have the elements of the list
-    pub groups : (ks : List K) (xs : List (K × A)) → IsDistinct same ks → AllByRecursion (λ x. list_any (λ k. same k x.0) ks ≡ true) xs → IsPermutation xs (flat_map (λ k. of_key k xs) ks)
-    unfolding IsDistinct
-    groups [] [] d there = IsPermutation-refl []
-    groups [] (x ∷ xs) d there = absurd (true≢false (sym there.0))
-    groups (k ∷ ks) xs d there =
-        let others : List (K × A) = of_others k xs in
-        let rest : IsPermutation others (flat_map (λ j. of_key j xs) ks) =
-        subst (λ l. IsPermutation others l) (flat_map-each (λ j. same k j ≡ false) (λ j. of_key j others) (λ j. of_key j xs) (of_key-others xs k) ks d.0) (groups ks others d.1 (each-weaken _ _ (λ x h. grind (arith, h.0, h.1)) others (each-filter (λ x. list_any (λ j. same j x.0) (k ∷ ks) ≡ true) (λ x. not (same k x.0)) xs there))) in
-        IsPermutation-trans xs (of_key k xs ++ others) (flat_map (λ j. of_key j xs) (k ∷ ks)) (IsPermutation-filter_both (λ x. same k x.0) (λ x. not (same k x.0)) (λ x. refl) xs) (IsPermutation-append_right (of_key k xs) others (flat_map (λ j. of_key j xs) ks) rest)
+      stay : (j : K) → same k j ≡ false → of_key j others ≡ of_key j xs
+      stay j apart = filter-wider other _ (λ x h. grind (arith, apart, laws.symm, laws.congr)) xs
 
 module _ {I X : Type 0} (test : I → X → Bool) where
   -- what passes each of these tests, one test after another
@@ -192,19 +221,27 @@ module _ {I X : Type 0} (test : I → X → Bool) where
   grouped-nil (i ∷ is) = grouped-nil is
 
   -- an element stands in as many groups as it passes tests
-  grouped-cons : (x : X) (xs : List X) (is : List I) → length (grouped is (x ∷ xs)) ≡ length (passed is x) + length (grouped is xs)
+  grouped-cons : (x : X) (xs : List X) (is : List I)
+      → length (grouped is (x ∷ xs)) ≡ length (passed is x) + length (grouped is xs)
   grouped-cons x xs [] = omega arith
-  grouped-cons x xs (i ∷ is) = grind (arith, grouped-cons x xs is, length-append (filter (test i) (x ∷ xs)) (grouped is (x ∷ xs)), length-append (filter (test i) xs) (grouped is xs))
+  grouped-cons x xs (i ∷ is) = grind (arith, grouped-cons x xs is, length-append)
 
-  pub grouped-few : (is : List I) (xs : List X) → AllByRecursion (λ x. length (passed is x) ≤ 1) xs → length (grouped is xs) ≤ length xs
+  pub grouped-few : (is : List I) (xs : List X) → AllByRecursion (λ x. length (passed is x) ≤ 1) xs
+      → length (grouped is xs) ≤ length xs
   grouped-few is [] a = omega (arith, grouped-nil is)
   grouped-few is (x ∷ xs) a = omega (arith, grouped-cons x xs is, grouped-few is xs a.1, a.0)
 
 -- of things that differ at most one is the same as another thing
-pub same-once : {K : Type 0} (same : K → K → Bool) → IsEquivalence same → (ks : List K) → IsDistinct same ks → (k : K) → length (filter (λ j. same j k) ks) ≤ 1
+pub same-once : {K : Type 0} (same : K → K → Bool) → IsEquivalence same → (ks : List K) → IsDistinct same ks
+    → (k : K) → length (filter (λ j. same j k) ks) ≤ 1
 unfolding IsDistinct
 same-once same laws [] d k = omega arith
-same-once same laws (j ∷ ks) d k = elim (same j k) as (λ b. same j k ≡ b → length (cond b (j ∷ filter (λ i. same i k) ks) (filter (λ i. same i k) ks)) ≤ 1) [
-  | true ↦ λ e. omega (arith, ap length (filter-fails (λ i. same j i ≡ false) (λ i. same i k) (λ i apart. laws.symm i k ∙ sym (laws.congr j k i e) ∙ apart) ks d.0))
-  | false ↦ λ e. same-once same laws ks d.1 k
-] refl
+same-once same laws (j ∷ ks) d k = elim (same j k) as (λ b. same j k ≡ b
+    → length (cond b (j ∷ filter (λ i. same i k) ks) (filter (λ i. same i k) ks)) ≤ 1) [
+      | true ↦ λ e. omega (
+        arith,
+        ap length (filter-fails (λ i. same j i ≡ false) (λ i. same i k)
+            (λ i apart. laws.symm i k ∙ sym (laws.congr j k i e) ∙ apart) ks d.0),
+      )
+      | false ↦ λ e. same-once same laws ks d.1 k
+    ] refl

@@ -1,8 +1,17 @@
 -- What definitions say without their locations, with or without the mark of what is built-in, and what is
 -- found in a list of them.
-use Rattle.apollo_meaning.proofs.Prelude.{Added, Bool, Defined, Definition, DirectiveDefinition, Directives, Extended, List, ListItem, NodeView, None, Option, Other, SchemaDefined, SchemaExtended, SchemaPart, Some, TypeKind, TypePart, [], added_item, added_items, ap, arith, cond, defined_part, defined_schema, directive_definitions, extended_part, extended_schema, extensions_of, false, filter, filter_map, find, first, first_schema, is_built_in, item_of, key_of, kind_of, map, map-map, not, of_kind, option_map, option_map_or, refl, same, same_kind, schema_extensions, slice_get, sym, true, ℕ, ◌&&◌, ◌∙◌, ◌∷◌, ◌≡◌}
-use Rattle.apollo_schema_laws.proofs.Rearranged.Words.{directive_meant, directive_of, directive_part, find-made, has_text, is_handed_in, last_or, lookup-keyed}
-use Rattle.std.specs.Option.{option_or}
+use Rattle.apollo_meaning.proofs.Prelude.{Added, Bool, Defined, Definition, DirectiveDefinition, Directives}
+use Rattle.apollo_meaning.proofs.Prelude.{Extended, List, ListItem, NodeView, None, Option, Other}
+use Rattle.apollo_meaning.proofs.Prelude.{SchemaDefined, SchemaExtended, SchemaPart, Some, TypeKind, TypePart}
+use Rattle.apollo_meaning.proofs.Prelude.{[], added_item, added_items, arith, cond, defined_part}
+use Rattle.apollo_meaning.proofs.Prelude.{defined_schema, directive_definitions, extended_part}
+use Rattle.apollo_meaning.proofs.Prelude.{extended_schema, extensions_of, false, filter_map, find, first}
+use Rattle.apollo_meaning.proofs.Prelude.{first_schema, is_built_in, item_of, kind_of, map, map-map, of_kind}
+use Rattle.apollo_meaning.proofs.Prelude.{option_map, option_map_or, refl, schema_extensions, true, ℕ, ◌&&◌}
+use Rattle.apollo_meaning.proofs.Prelude.{◌∷◌, ◌≡◌}
+use Rattle.apollo_schema_laws.proofs.Rearranged.Words.{directive_meant, directive_of, directive_part}
+use Rattle.apollo_schema_laws.proofs.Rearranged.Words.{find-made, has_text, is_handed_in, last_or}
+use Rattle.apollo_schema_laws.proofs.Rearranged.Words.{lookup-keyed}
 use Rattle.std.proofs.lemmas.Option.{slice_get-map}
 use Rattle.graphql_nodes.specs.Comparing.{bare_name, bare_node}
 use Rattle.graphql_nodes.specs.declared.source.SourceSpan.{SourceSpan}
@@ -37,8 +46,8 @@ bare_other (ast.DirectiveDefinition n) = ast.DirectiveDefinition (bare_directive
 bare_other d = bare_definition d
 
 -- what a kind has of parts
-pub of_type-bare : (kind : TypeKind) (ps : Parts) → of_type kind (bare_parts ps)
-    ≡ bare_parts (of_type kind ps)
+pub of_type-bare : (kind : TypeKind) (ps : Parts)
+    → of_type kind (bare_parts ps) ≡ bare_parts (of_type kind ps)
 of_type-bare kinds.Scalar ps = refl
 of_type-bare kind ps = refl
 
@@ -74,47 +83,40 @@ module _ (marks : Bool) where
   unplaced_list = map unplaced_item
 
   -- what is chosen of bare items is what is chosen of the items, bare
-  module _ {P : Type 0} (which : ListItem → Option P) (bare : P → P)
-      (agree : (x : ListItem) → which (unplaced_item x) ≡ option_map bare (which x)) where
-    chosen-unplaced : (xs : List ListItem) → filter_map which (unplaced_list xs)
-        ≡ map bare (filter_map which xs)
+  module _ {P : Type 0} (which : ListItem → Option P) (bare : P → P) (agree : (x : ListItem)
+      → which (unplaced_item x) ≡ option_map bare (which x)) where
+    chosen-unplaced : (xs : List ListItem)
+        → filter_map which (unplaced_list xs) ≡ map bare (filter_map which xs)
     chosen-unplaced [] = refl
     chosen-unplaced (x ∷ xs) = grind (arith, agree x, chosen-unplaced xs)
 
   -- so with the definitions of types, their extensions, and the directive definitions
-  pub defined-unplaced : (xs : List ListItem) → filter_map defined_part (unplaced_list xs)
-      ≡ map unplaced_part (filter_map defined_part xs)
+  pub defined-unplaced : (xs : List ListItem)
+      → filter_map defined_part (unplaced_list xs) ≡ map unplaced_part (filter_map defined_part xs)
   defined-unplaced = chosen-unplaced defined_part unplaced_part (λ x. grind arith)
 
-  pub extended-unplaced : (xs : List ListItem) → filter_map extended_part (unplaced_list xs)
-      ≡ map unplaced_part (filter_map extended_part xs)
+  pub extended-unplaced : (xs : List ListItem)
+      → filter_map extended_part (unplaced_list xs) ≡ map unplaced_part (filter_map extended_part xs)
   extended-unplaced = chosen-unplaced extended_part unplaced_part (λ x. grind arith)
 
-  pub directives-unplaced : (xs : List ListItem) → directive_definitions (unplaced_list xs)
-      ≡ map bare_directive_node (directive_definitions xs)
+  pub directives-unplaced : (xs : List ListItem)
+      → directive_definitions (unplaced_list xs) ≡ map bare_directive_node (directive_definitions xs)
   directives-unplaced = chosen-unplaced directive_part bare_directive_node (λ x. grind arith)
 
   module _ (xs : List ListItem) where
     -- the first definition and the extensions of a name
     pub first-unplaced : (n : List ℕ) → first (unplaced_list xs) n ≡ option_map unplaced_part (first xs n)
-    first-unplaced n =
-        lookup-keyed (same n) key_of (filter_map defined_part (unplaced_list xs))
-        ∙ ap (find (λ p. same n (key_of p))) (defined-unplaced xs)
-        ∙ find-made (λ p. same n (key_of p)) unplaced_part (filter_map defined_part xs)
-        ∙ ap (option_map unplaced_part) (sym (lookup-keyed (same n) key_of (filter_map defined_part xs)))
+    first-unplaced n = simp (lookup-keyed, defined-unplaced, find-made)
 
-    pub extensions-unplaced : (n : List ℕ) → extensions_of (unplaced_list xs) n
-        ≡ map unplaced_part (extensions_of xs n)
-    extensions-unplaced n =
-        ap (filter (λ p. same n (key_of p))) (extended-unplaced xs)
-        ∙ filter-map (λ p. same n (key_of p)) unplaced_part (filter_map extended_part xs)
+    pub extensions-unplaced : (n : List ℕ)
+        → extensions_of (unplaced_list xs) n ≡ map unplaced_part (extensions_of xs n)
+    extensions-unplaced n = simp (extended-unplaced, filter-map)
 
     -- those of the schema
-    pub first_schema-unplaced : first_schema (unplaced_list xs)
-        ≡ option_map unplaced_schema_part (first_schema xs)
+    pub first_schema-unplaced : first_schema (unplaced_list xs) ≡ option_map unplaced_schema_part
+        (first_schema xs)
     first_schema-unplaced =
-        ap (λ l. slice_get l 0) (chosen-unplaced defined_schema unplaced_schema_part (λ x. grind arith) xs)
-        ∙ slice_get-map unplaced_schema_part (filter_map defined_schema xs) 0
+        simp (chosen-unplaced defined_schema unplaced_schema_part (λ x. grind arith) xs, slice_get-map)
 
     pub schema_extensions-unplaced : schema_extensions (unplaced_list xs)
         ≡ map unplaced_schema_part (schema_extensions xs)
@@ -124,7 +126,7 @@ module _ (marks : Bool) where
   pub of_kind-unplaced : (d : TypePart) (es : List TypePart)
       → of_kind (kind_of (unplaced_part d)) (map unplaced_part es)
       ≡ map unplaced_part (of_kind (kind_of d) es)
-  of_kind-unplaced d = filter-map (λ p. same_kind (kind_of d) (kind_of p)) unplaced_part
+  of_kind-unplaced d = filter-map _ unplaced_part
 
 -- what is there unless something is found
 pub unless-unplaced : {P R : Type 0} (bare : P → P) (other : R → R) (o : Option R) (ps : List P)
@@ -156,18 +158,18 @@ all-said : (xs : List Added) → bare_list (added_items xs) ≡ map said (map co
 all-said xs = simp map-map (λ i. map (λ a. added-said a i) xs)
 
 -- so equal lists say the same without locations
-pub equal-said : (xs ys : List Added) → AreEqualLists xs ys → bare_list (added_items xs) ≡ bare_list (added_items ys)
-equal-said xs ys alike = all-said xs ∙ ap (map said) alike ∙ sym (all-said ys)
+pub equal-said : (xs ys : List Added) → AreEqualLists xs ys
+    → bare_list (added_items xs) ≡ bare_list (added_items ys)
+equal-said xs ys alike = simp (all-said, alike)
 
 -- The definition that a directive's name means.
 
 module _ (n : List ℕ) where
   -- the first that isn't marked, among bare ones
-  pub find-bare : (ds : Directives) → find (λ d. has_text n d && is_handed_in d) (map bare_directive_node ds)
+  pub find-bare : (ds : Directives)
+      → find (λ d. has_text n d && is_handed_in d) (map bare_directive_node ds)
       ≡ option_map bare_directive_node (find (λ d. has_text n d && is_handed_in d) ds)
-  find-bare ds =
-      find-made (λ d. has_text n d && is_handed_in d) bare_directive_node ds
-      ∙ (λ i. option_map bare_directive_node (find (λ d. has_text n d && not (mark-kept d.location i)) ds))
+  find-bare ds = simp (find-made, mark-kept)
 
   -- the last of them
   last-bare : (o : Option (NodeView DirectiveDefinition)) (ds : Directives)
@@ -177,21 +179,17 @@ module _ (n : List ℕ) where
   last-bare o (d ∷ ds) = last-bare (Some d) ds
 
   -- the one that is meant
-  pub directive_of-bare : (ds : Directives) → directive_of (map bare_directive_node ds) n
-      ≡ option_map bare_directive_node (directive_of ds n)
-  directive_of-bare ds =
-      (λ i. option_or (find-bare ds i)
-      ((ap (last_or None) (filter-map (has_text n) bare_directive_node ds)
-      ∙ last-bare None (filter (has_text n) ds)) i))
-      ∙ grind arith
+  pub directive_of-bare : (ds : Directives)
+      → directive_of (map bare_directive_node ds) n ≡ option_map bare_directive_node (directive_of ds n)
+  directive_of-bare ds = grind (arith, find-bare ds, filter-map, last-bare)
 
   -- what is compared of it is found among bare ones
-  meant-bare : (xs : List ListItem) → directive_meant xs n ≡ option_map (λ d. d.value) (directive_of (directive_definitions (bare_list xs)) n)
-  meant-bare xs =
-      sym (ap (λ ds. option_map (λ d. d.value) (directive_of ds n)) (directives-unplaced false xs)
-      ∙ ap (option_map (λ d. d.value)) (directive_of-bare (directive_definitions xs))
-      ∙ grind arith)
+  meant-bare : (xs : List ListItem)
+      → directive_meant xs n ≡ option_map (λ d. d.value) (directive_of (directive_definitions (bare_list xs))
+      n)
+  meant-bare xs = grind (arith, directives-unplaced false xs, directive_of-bare)
 
   -- so it is equal in lists that say the same without locations
-  pub directives-alike : (xs ys : List ListItem) → bare_list xs ≡ bare_list ys → directive_meant xs n ≡ directive_meant ys n
-  directives-alike xs ys alike = meant-bare xs ∙ ap (λ zs. option_map (λ d. d.value) (directive_of (directive_definitions zs) n)) alike ∙ sym (meant-bare ys)
+  pub directives-alike : (xs ys : List ListItem) → bare_list xs ≡ bare_list ys
+      → directive_meant xs n ≡ directive_meant ys n
+  directives-alike xs ys alike = simp (meant-bare, alike)

@@ -1,29 +1,41 @@
 -- The faults of a list that are of extensions without a definition, of types and of the schema.
 use Rattle.graphql_nodes.specs.NameView.{NameView}
-use Rattle.apollo_meaning.proofs.Prelude.{◌&&◌, ◌++◌, ◌∙◌, ◌∷◌, ◌≡◌, Bool, List, ListItem, None, Option, Other, Placed, SchemaDefined, SchemaPart, Some, TypePart, [], adopted, ap, append-nil, arith, completed, cond, defined_part, each_after, extended_names, extended_part, extended_schema, extension_places, extensions_of, false, filter, filter_map, first_place, first_schema, flat_map, found_at, implied_schema, key_of, map, map-map, option_map_or, option_or, orphan, orphans_of, refl, roots_in, same, same-true, schema_extensions, schema_for, schema_orphan, schema_orphans, schemas, sym, true, types, with_adopted, ℕ, Root, map-append, lookup, first_of_each}
-use Rattle.apollo_schema_laws.proofs.Rearranged.Words.{all-kept, faults_in, filter-map, implicit_roots, filter_map-numbered, filter_agree}
+use Rattle.apollo_meaning.proofs.Prelude.{◌&&◌, ◌++◌, ◌∙◌, ◌∷◌, ◌≡◌, Bool, List, ListItem, None, Option}
+use Rattle.apollo_meaning.proofs.Prelude.{Other, Placed, SchemaDefined, SchemaPart, Some, TypePart, []}
+use Rattle.apollo_meaning.proofs.Prelude.{adopted, ap, append-nil, arith, completed, cond, defined_part}
+use Rattle.apollo_meaning.proofs.Prelude.{each_after, extended_names, extended_part, extended_schema}
+use Rattle.apollo_meaning.proofs.Prelude.{extension_places, false, filter, filter_map, first_place}
+use Rattle.apollo_meaning.proofs.Prelude.{first_schema, flat_map, found_at, implied_schema, key_of, map}
+use Rattle.apollo_meaning.proofs.Prelude.{map-map, option_map_or, option_or, orphan, orphans_of, refl}
+use Rattle.apollo_meaning.proofs.Prelude.{roots_in, same, same-true, schema_extensions, schema_for}
+use Rattle.apollo_meaning.proofs.Prelude.{schema_orphan, schema_orphans, schemas, sym, true, types}
+use Rattle.apollo_meaning.proofs.Prelude.{with_adopted, ℕ, Root, lookup, first_of_each}
+use Rattle.apollo_schema_laws.proofs.Rearranged.Words.{all-kept, faults_in, filter-map, implicit_roots}
+use Rattle.apollo_schema_laws.proofs.Rearranged.Words.{filter_map-numbered, filter_agree}
 use Rattle.std.specs.Prelude.{is_none}
 use Rattle.apollo_meaning.proofs.Completion.CompletionLemmas.{orphan_names-adopted}
 use Rattle.apollo_meaning.proofs.Items.ItemLemmas.{first_schema-push_definition}
-use Rattle.apollo_meaning.proofs.Order.PlaceLemmas.{first-none, first-some, first_schema-none, first_schema-some}
+use Rattle.apollo_meaning.proofs.Order.PlaceLemmas.{first-none, first-some, first_schema-none}
+use Rattle.apollo_meaning.proofs.Order.PlaceLemmas.{first_schema-some}
 use Rattle.apollo_meaning.specs.Completion.OrphanNames.{first_name}
 use Rattle.apollo_meaning.specs.Completion.ImpliedSchema.{schema_of_roots}
 use Rattle.apollo_meaning.specs.Items.Named.{named}
 use Rattle.graphql_ast.specs.declared.definition.Definition.TheVariants as ast
 use Rattle.apollo_schema_laws.specs.Reported.{Sort, OrphanOfType, OrphanOfSchema, same_sort}
 use Rattle.apollo_schema_laws.specs.Dropped.{orphans_by_name, undefined_places}
-use Rattle.apollo_schema_laws.proofs.Rearranged.FoundSorts.{dropped_at, reported-parts, sort_at, subject_of}
+use Rattle.apollo_schema_laws.proofs.Rearranged.Sorts.{dropped_at, reported-parts, sort_at, subject_of, AllOf}
+use Rattle.apollo_schema_laws.proofs.Rearranged.Sorts.{all-stay, has_sort, made-of, none-stay}
+use Rattle.apollo_schema_laws.proofs.Lists.{filter-filter}
+use Rattle.apollo_schema_laws.proofs.Permutations.{map-flat_map}
 use Rattle.apollo_schema_laws.proofs.Subjects.{NoSubject}
-use Rattle.apollo_schema_laws.proofs.Rearranged.Sorts.{all-stay, filter-both, has_sort, made-of, none-stay}
 use Rattle.apollo_schema_laws.proofs.Rearranged.Dropped.{found-dropped}
-use Rattle.apollo_schema_laws.proofs.Rearranged.Completed.{chosen-implied}
+use Rattle.apollo_schema_laws.proofs.Items.{chosen-implied}
 
 -- where each item adds nothing, all add nothing
 nothing-after : {X Y : Type 0} (at : List X → X → List Y) → ((before : List X) (x : X) → at before x ≡ [])
     → (before xs : List X) → each_after at before xs ≡ []
 nothing-after at nothing before [] = refl
-nothing-after at nothing before (x ∷ xs) =
-    rw (nothing before x) (nothing-after at nothing (before ++ x ∷ []) xs)
+nothing-after at nothing before (x ∷ xs) = rw nothing (nothing-after at nothing _ xs)
 
 -- an orphan's sort is that of no item
 abbrev IsOfNoItem : Sort → Type 0
@@ -31,19 +43,16 @@ IsOfNoItem s = (x : ListItem) → same_sort s (sort_at x) ≡ false
 
 no-item_orphaned : IsOfNoItem OrphanOfType
 no-item_orphaned (Other (ast.DirectiveDefinition n)) = refl
-no-item_orphaned (Other d) = grind arith
 no-item_orphaned x = refl
 
 no-item_schema_orphaned : IsOfNoItem OrphanOfSchema
 no-item_schema_orphaned (Other (ast.DirectiveDefinition n)) = refl
-no-item_schema_orphaned (Other d) = grind arith
 no-item_schema_orphaned x = refl
 
 -- so nothing of it is found at an item
 nothing-found : (s : Sort) → subject_of s ≡ NoSubject → IsOfNoItem s → (before xs : List ListItem)
     → filter (has_sort s) (each_after found_at before xs) ≡ []
-nothing-found s plain apart before xs =
-    found-dropped s plain before xs
+nothing-found s plain apart before xs = found-dropped s plain before xs
     ∙ nothing-after _ (λ before x. ap (λ b. cond b (dropped_at before x) []) (apart x)) before xs
 
 none-kept : {X : Type 0} (xs : List X) → filter (λ _. false) xs ≡ []
@@ -65,48 +74,33 @@ module _ (xs : List ListItem) (n : List ℕ) where
   -- an extension of the name has no definition where the name has none
   own-undefined : (o : Option (Placed TypePart)) → first_place types xs n ≡ o → (e : Placed TypePart)
       → (undefined e && own e) ≡ cond (is_none o) (own e) false
-  own-undefined o is e = one (own e) refl
-    where
-      here : own e ≡ true → undefined e ≡ is_none o
-      here same = ap is_none (ap (first_place types xs) (sym (same-true n (key_of e.1) same)) ∙ is)
-
-      one : (b : Bool) → own e ≡ b → (undefined e && b) ≡ cond (is_none o) b false
-      one true same = grind (arith, here same)
-      one false same = grind arith
+  own-undefined o is e =
+      let here : own e ≡ true → undefined e ≡ is_none o =
+      λ same. ap is_none (ap (first_place types xs) (sym (same-true n _ same)) ∙ is) in
+      grind (arith, here)
 
   kept : (o : Option (Placed TypePart)) → first_place types xs n ≡ o
-      → filter own (undefined_places types xs)
-      ≡ filter (λ e. cond (is_none o) (own e) false) (extension_places types xs)
+      → filter own (undefined_places types xs) ≡ filter (λ e. cond (is_none o) (own e) false)
+      (extension_places types xs)
   kept o is =
       let es = extension_places types xs in
-      sym (filter-both undefined own es)
-      ∙ filter_agree (λ e. undefined e && own e) (λ e. cond (is_none o) (own e) false) (own-undefined o is) es
+      filter-filter own undefined es ∙ filter_agree _ _ (own-undefined o is) es
 
   orphans-placed : orphans_of xs n ≡ bare (filter own (undefined_places types xs))
-  orphans-placed = by (first_place types xs n) refl
-    where
-      of_first : Option TypePart → List TypePart
-      of_first o = option_map_or (λ _. []) o (extensions_of xs n)
-
-      by : (o : Option (Placed TypePart)) → first_place types xs n ≡ o
-          → orphans_of xs n ≡ bare (filter own (undefined_places types xs))
-      by None is =
-          ap of_first (first-none xs n is)
-          ∙ sym (ap bare (kept None is)
-          ∙ sym (filter-map (λ e. same n (key_of e)) (λ (e : Placed TypePart). e.1) (extension_places types xs))
-          ∙ ap (filter (λ e. same n (key_of e))) (filter_map-numbered extended_part 0 xs))
-      by (Some z) is =
-          ap of_first (first-some xs n z is)
-          ∙ sym (ap bare (kept (Some z) is ∙ none-kept (extension_places types xs)))
-
--- what is made of each of them
-made-of_each : {K X Y Z : Type 0} (f : Y → Z) (g : X → Y) (h : K → List X) (ks : List K)
-    → map f (flat_map (λ k. map g (h k)) ks) ≡ map (λ x. f (g x)) (flat_map h ks)
-made-of_each f g h [] = refl
-made-of_each f g h (k ∷ ks) =
-    map-append f (map g (h k)) (flat_map (λ k. map g (h k)) ks)
-    ∙ (λ i. map-map f g (h k) i ++ made-of_each f g h ks i)
-    ∙ sym (map-append (λ x. f (g x)) (h k) (flat_map h ks))
+  orphans-placed = grind (
+    arith,
+    (elim (first_place types xs n) as (λ o. first_place types xs n
+        ≡ o → orphans_of xs n ≡ bare (filter own (undefined_places types xs))) [
+          | None ↦ λ is. grind (
+            arith,
+            first-none,
+            kept None is,
+            filter-map,
+            filter_map-numbered extended_part 0 xs,
+          )
+          | Some z ↦ λ is. simp (first-some xs n z is, kept (Some z) is, none-kept)
+        ]) refl,
+  )
 
 -- the orphans of a list that is adopted or not, as faults, and those of the schema
 module _ (adopts : Bool) (xs : List ListItem) where
@@ -122,72 +116,79 @@ module _ (adopts : Bool) (xs : List ListItem) where
   abbrev late : List ListItem
   late = implied_schema adopts list
 
+  reported-both : (s : Sort) → subject_of s ≡ NoSubject → IsOfNoItem s
+      → filter (has_sort s) (faults_in adopts xs) ≡ filter (has_sort s) (map orphan orphans)
+      ++ filter (has_sort s) (map schema_orphan last)
+  reported-both s plain apart = reported-parts s adopts xs ∙ (λ i. nothing-found s plain apart [] list i
+      ++ (filter (has_sort s) (map orphan orphans) ++ (nothing-found s plain apart list late i
+      ++ filter (has_sort s) (map schema_orphan last))))
+
+  of_types : AllOf OrphanOfType (map orphan orphans)
+  of_types = made-of OrphanOfType orphan (λ e. refl) orphans
+
+  of_schema : AllOf OrphanOfSchema (map schema_orphan last)
+  of_schema = made-of OrphanOfSchema schema_orphan (λ e. refl) last
+
   orphans-reported : filter (has_sort OrphanOfType) (faults_in adopts xs) ≡ map orphan orphans
-  orphans-reported =
-      reported-parts OrphanOfType adopts xs
-      ∙ (λ i. nothing-found OrphanOfType refl no-item_orphaned [] list i
-      ++ (all-stay OrphanOfType (map orphan orphans) (made-of OrphanOfType orphan (λ e. refl) orphans) i
-      ++ (nothing-found OrphanOfType refl no-item_orphaned list late i
-      ++ none-stay OrphanOfType OrphanOfSchema (map schema_orphan last) refl (made-of OrphanOfSchema schema_orphan (λ e. refl) last) i)))
-      ∙ append-nil (map orphan orphans)
+  orphans-reported = reported-both OrphanOfType refl no-item_orphaned ∙ (λ i. all-stay OrphanOfType _ of_types
+      i ++ none-stay OrphanOfType OrphanOfSchema _ refl of_schema i) ∙ append-nil _
 
   schema_orphans-reported : filter (has_sort OrphanOfSchema) (faults_in adopts xs) ≡ map schema_orphan last
-  schema_orphans-reported =
-      reported-parts OrphanOfSchema adopts xs
-      ∙ (λ i. nothing-found OrphanOfSchema refl no-item_schema_orphaned [] list i
-      ++ (none-stay OrphanOfSchema OrphanOfType (map orphan orphans) refl (made-of OrphanOfType orphan (λ e. refl) orphans) i
-      ++ (nothing-found OrphanOfSchema refl no-item_schema_orphaned list late i
-      ++ all-stay OrphanOfSchema (map schema_orphan last) (made-of OrphanOfSchema schema_orphan (λ e. refl) last) i)))
+  schema_orphans-reported = reported-both OrphanOfSchema refl no-item_schema_orphaned
+      ∙ (λ i. none-stay OrphanOfSchema OrphanOfType _ refl of_types i ++ all-stay OrphanOfSchema _ of_schema
+      i)
 
 -- the extensions of types that have no definition
 pub reported-orphans : (adopts : Bool) (xs : List ListItem)
     → filter (has_sort OrphanOfType) (faults_in adopts xs)
     ≡ map (λ e. orphan e.1) (orphans_by_name (completed adopts xs))
-reported-orphans adopts xs =
-    orphans-reported adopts xs
-    ∙ (λ i. map orphan (flat_map (orphans_in (defined i) (extended i)) (first_of_each same (map key_of (extended i)))))
+reported-orphans adopts xs = orphans-reported adopts xs
+    ∙ (λ i. map orphan (flat_map
+    (orphans_in ((sym (chosen-implied defined_part (λ s. refl) adopts (with_adopted adopts xs))) i)
+    (extended i)) (first_of_each same (map key_of (extended i)))))
     ∙ (λ i. map orphan (flat_map (λ n. orphans-placed ys n i) (extended_names ys)))
-    ∙ made-of_each orphan (λ (e : Placed TypePart). e.1) (λ n. filter (own ys n) (undefined_places types ys)) (extended_names ys)
+    ∙ simp (map-flat_map, map-map)
   where
     ys : List ListItem
     ys = completed adopts xs
 
     orphans_in : List TypePart → List TypePart → List ℕ → List TypePart
-    orphans_in ds es n =
-        option_map_or (λ _. []) (lookup (same n) (named ds)) (filter (λ p. same n (key_of p)) es)
-
-    defined : filter_map defined_part (with_adopted adopts xs) ≡ filter_map defined_part ys
-    defined = sym (chosen-implied defined_part (λ s. refl) adopts (with_adopted adopts xs))
+    orphans_in ds es n = option_map_or (λ _. []) (lookup (same n) (named ds)) (filter (λ p. same n (key_of p))
+        es)
 
     extended : filter_map extended_part (with_adopted adopts xs) ≡ filter_map extended_part ys
     extended = sym (chosen-implied extended_part (λ s. refl) adopts (with_adopted adopts xs))
 
 -- where they are adopted there are none
 pub no-orphans : (xs : List ListItem) → filter (has_sort OrphanOfType) (faults_in true xs) ≡ []
-no-orphans xs =
-    orphans-reported true xs
-    ∙ ap (map orphan) (on (orphans_of (xs ++ adopted xs)) (extended_names (xs ++ adopted xs)) (orphan_names-adopted xs))
+no-orphans xs = orphans-reported true xs ∙ ap (map orphan) (on _ (extended_names (xs ++ adopted xs))
+    (orphan_names-adopted xs))
   where
     on : (of_name : List ℕ → List TypePart) (ns : List (List ℕ))
         → flat_map (λ n. first_name (of_name n)) ns ≡ [] → flat_map of_name ns ≡ []
     on of_name [] none = refl
-    on of_name (n ∷ ns) none = by (of_name n) none (on of_name ns)
+    on of_name (n ∷ ns) none =
+        (elim (of_name n) as (λ es. first_name es ++ names ≡ [] → (names ≡ [] → flat_map of_name ns ≡ [])
+        → es ++ flat_map of_name ns
+        ≡ []) [ [] ↦ λ none rest. rest none | e ∷ es ↦ λ none rest. absurd (grind (arith, none)) ]) none
+        (on of_name ns)
       where
         names : List NameView
         names = flat_map (λ n. first_name (of_name n)) ns
 
-        by : (es : List TypePart) → first_name es ++ names ≡ [] → (names ≡ [] → flat_map of_name ns ≡ [])
-            → es ++ flat_map of_name ns ≡ []
-        by [] none rest = rest none
-        by (e ∷ es) none rest = absurd (grind (arith, none))
-
 -- the extensions of the schema where it has no definition
 pub reported-schema_orphans : (adopts : Bool) (xs : List ListItem)
-    → filter (has_sort OrphanOfSchema) (faults_in adopts xs)
-    ≡ map (λ e. schema_orphan e.1) (undefined_places schemas (completed adopts xs))
-reported-schema_orphans adopts xs =
-    schema_orphans-reported adopts xs ∙ ap (map schema_orphan) (by (first_place schemas ys []) refl)
-    ∙ map-map schema_orphan (λ (e : Placed SchemaPart). e.1) (undefined_places schemas ys)
+    → filter (has_sort OrphanOfSchema) (faults_in adopts xs) ≡ map (λ e. schema_orphan e.1)
+    (undefined_places schemas (completed adopts xs))
+reported-schema_orphans adopts xs = schema_orphans-reported adopts xs
+    ∙ ap (map schema_orphan) ((elim (first_place schemas ys []) as (λ o. first_place schemas ys [] ≡ o
+    → schema_orphans ys ≡ bare (undefined_places schemas ys)) [
+      | None ↦ λ is. ap of_first (first_schema-none ys is) ∙ sym (ap undefined_if is
+          ∙ ap bare (sym (all-kept es)) ∙ filter_map-numbered extended_schema 0 ys)
+      | Some z ↦ λ is. ap of_first
+          (first_schema-some ys z is) ∙ sym (ap undefined_if is ∙ ap bare (none-kept es))
+    ]) refl)
+    ∙ map-map schema_orphan _ _
   where
     ys : List ListItem
     ys = completed adopts xs
@@ -201,19 +202,10 @@ reported-schema_orphans adopts xs =
     undefined_if : Option (Placed SchemaPart) → List SchemaPart
     undefined_if o = bare (filter (λ _. is_none o) es)
 
-    by : (o : Option (Placed SchemaPart)) → first_place schemas ys [] ≡ o
-        → schema_orphans ys ≡ bare (undefined_places schemas ys)
-    by None is =
-        ap of_first (first_schema-none ys is)
-        ∙ sym (ap undefined_if is ∙ ap bare (sym (all-kept es)) ∙ filter_map-numbered extended_schema 0 ys)
-    by (Some z) is =
-        ap of_first (first_schema-some ys z is) ∙ sym (ap undefined_if is ∙ ap bare (none-kept es))
-
 -- where they are adopted there are none
 pub no-schema_orphans : (xs : List ListItem) → filter (has_sort OrphanOfSchema) (faults_in true xs) ≡ []
-no-schema_orphans xs =
-    schema_orphans-reported true xs
-    ∙ ap (map schema_orphan) (by (first_schema ys) refl (roots_in (schema_extensions ys)) (implicit_roots ys))
+no-schema_orphans xs = schema_orphans-reported true xs ∙ ap (map schema_orphan)
+    (by (first_schema ys) refl (roots_in (schema_extensions ys)) (implicit_roots ys))
   where
     ys : List ListItem
     ys = with_adopted true xs
@@ -222,8 +214,8 @@ no-schema_orphans xs =
     settled ys s is = ap (λ o. option_map_or (λ _. []) o (schema_extensions ys)) is
 
     new : (s : SchemaPart) → first_schema ys ≡ None → schema_orphans (ys ++ SchemaDefined s ∷ []) ≡ []
-    new s is =
-        settled (ys ++ SchemaDefined s ∷ []) s (first_schema-push_definition ys s ∙ ap (λ o. option_or o (Some s)) is)
+    new s is = settled (ys ++ SchemaDefined s ∷ []) s (first_schema-push_definition ys s
+        ∙ ap (λ o. option_or o (Some s)) is)
 
     by : (o : Option SchemaPart) → first_schema ys ≡ o → (roots implicit : List Root)
         → schema_orphans (ys ++ option_map_or (λ _. []) o (schema_for true roots implicit)) ≡ []

@@ -30,36 +30,46 @@ use Rattle.apollo_schema.specs.MeantSchema.{IsPartOf, MeansSchema}
 -- what the laws say of rearranged lists: what they are completed with, their schema definitions, types,
 -- directives and faults
 abbrev pub CompletedToo : Type 0
-CompletedToo = (adopts : Bool) (xs ys : List ListItem) → AreRearranged xs ys → AreRearranged (completed adopts xs) (completed adopts ys)
+CompletedToo = (adopts : Bool) (xs ys : List ListItem) → AreRearranged xs ys
+    → AreRearranged (completed adopts xs) (completed adopts ys)
 
 abbrev pub EqualDefinitions : Type 0
-EqualDefinitions = (start other : ℕ) (xs ys : List ListItem) → AreRearranged xs ys → schema_meant start xs ≡ schema_meant other ys
+EqualDefinitions = (start other : ℕ) (xs ys : List ListItem) → AreRearranged xs ys → schema_meant start xs
+    ≡ schema_meant other ys
 
 abbrev pub EqualTypes : Type 0
-EqualTypes = (start other : ℕ) (xs ys : List ListItem) (n : List ℕ) → AreRearranged xs ys → type_meant start xs n ≡ type_meant other ys n
+EqualTypes = (start other : ℕ) (xs ys : List ListItem) (n : List ℕ) → AreRearranged xs ys
+    → type_meant start xs n ≡ type_meant other ys n
 
 abbrev pub SameDirectives : Type 0
-SameDirectives = (xs ys : List ListItem) (n : List ℕ) → AreRearranged xs ys → directive_of (directive_definitions xs) n ≡ directive_of (directive_definitions ys) n
+SameDirectives = (xs ys : List ListItem) (n : List ℕ) → AreRearranged xs ys
+    → directive_of (directive_definitions xs) n ≡ directive_of (directive_definitions ys) n
 
 abbrev pub SameFaults : Type 0
-SameFaults = (adopts : Bool) (xs ys : List Added) → AreRearranged (added_items xs) (added_items ys) → IsPermutation (faults_of adopts xs) (faults_of adopts ys)
+SameFaults = (adopts : Bool) (xs ys : List Added) → AreRearranged (added_items xs) (added_items ys)
+    → IsPermutation (faults_of adopts xs) (faults_of adopts ys)
 
 abbrev pub EqualSchemas : Type 0
-EqualSchemas = (adopts : Bool) (xs ys : List Added) → AreRearranged (added_items xs) (added_items ys) → MeanEqualSchemas adopts xs ys
+EqualSchemas = (adopts : Bool) (xs ys : List Added) → AreRearranged (added_items xs) (added_items ys)
+    → MeanEqualSchemas adopts xs ys
 
 -- what `==` compares of the schema definition that a schema has, by what it compares of that of the list, if
 -- there is one
 bare-or_none : (o : Option (NodeView SchemaDefinition))
-    → bare_schema_definition (unwrap_or o no_schema).value ≡ unwrap_or (option_map (λ d. bare_schema_definition d.value) o) (bare_schema_definition no_schema.value)
+    → bare_schema_definition (unwrap_or o no_schema).value
+    ≡ unwrap_or (option_map (λ d. bare_schema_definition d.value) o) (bare_schema_definition no_schema.value)
 bare-or_none None = refl
 bare-or_none (Some d) = refl
 
 module _ (adopts : Bool) (xs ys : List Added) where
   -- the schemas that two lists mean are equal where the lists mean equal schema definitions, types and
   -- directives
-  pub schemas-alike : ((start other : ℕ) → schema_meant start (whole adopts xs) ≡ schema_meant other (whole adopts ys))
-      → ((start other : ℕ) (n : List ℕ) → type_meant start (whole adopts xs) n ≡ type_meant other (whole adopts ys) n)
-      → ((n : List ℕ) → directive_meant (whole adopts xs) n ≡ directive_meant (whole adopts ys) n) → MeanEqualSchemas adopts xs ys
+  pub schemas-alike : ((start other : ℕ) → schema_meant start (whole adopts xs)
+      ≡ schema_meant other (whole adopts ys))
+      → ((start other : ℕ) (n : List ℕ) → type_meant start (whole adopts xs) n
+      ≡ type_meant other (whole adopts ys) n)
+      → ((n : List ℕ) → directive_meant (whole adopts xs) n ≡ directive_meant (whole adopts ys) n)
+      → MeanEqualSchemas adopts xs ys
   schemas-alike definitions types directives start other s t a b = λ i. record {
     definition = same_definition i;
     directive_definitions = λ n. same_directive n i;
@@ -67,29 +77,29 @@ module _ (adopts : Bool) (xs ys : List Added) where
   }
     where
       definition_of : (n : ℕ) (zs : List ListItem)
-          → bare_schema_definition (unwrap_or (schema_of n (folding_order zs) zs) no_schema).value ≡ unwrap_or (schema_meant n zs) (bare_schema_definition no_schema.value)
-      definition_of n zs = bare-or_none (schema_of n (folding_order zs) zs)
+          → bare_schema_definition (unwrap_or (schema_of n (folding_order zs) zs) no_schema).value
+          ≡ unwrap_or (schema_meant n zs) (bare_schema_definition no_schema.value)
+      definition_of n zs = bare-or_none _
 
-      same_definition : bare_schema_definition s.schema_definition.value ≡ bare_schema_definition t.schema_definition.value
-      same_definition =
-          ap (λ d. bare_schema_definition d.value) a.definition ∙ definition_of start (whole adopts xs)
-          ∙ ap (λ o. unwrap_or o (bare_schema_definition no_schema.value)) (definitions start other)
-          ∙ sym (definition_of other (whole adopts ys)) ∙ sym (ap (λ d. bare_schema_definition d.value) b.definition)
+      same_definition : bare_schema_definition s.schema_definition.value
+          ≡ bare_schema_definition t.schema_definition.value
+      same_definition = simp (a.definition, definition_of, definitions start other, b.definition)
 
-      same_type : (n : List ℕ) → entries_by_text bare_extended_type s.types n ≡ entries_by_text bare_extended_type t.types n
-      same_type n = ap (option_map bare_extended_type) (a.types.each n) ∙ types start other n ∙ sym (ap (option_map bare_extended_type) (b.types.each n))
+      same_type : (n : List ℕ)
+          → entries_by_text bare_extended_type s.types n ≡ entries_by_text bare_extended_type t.types n
+      same_type n = simp (a.types.each n, types start other n, b.types.each n)
 
-      same_directive : (n : List ℕ) → entries_by_text (λ d. bare_directive_definition d.value) s.directive_definitions n ≡ entries_by_text (λ d. bare_directive_definition d.value) t.directive_definitions n
-      same_directive n =
-          ap (option_map (λ d. bare_directive_definition d.value)) (a.directives.each n) ∙ directives n
-          ∙ sym (ap (option_map (λ d. bare_directive_definition d.value)) (b.directives.each n))
+      same_directive : (n : List ℕ)
+          → entries_by_text (λ d. bare_directive_definition d.value) s.directive_definitions n
+          ≡ entries_by_text (λ d. bare_directive_definition d.value) t.directive_definitions n
+      same_directive n = simp (a.directives.each, directives, b.directives.each)
 
 pub schemas-rearranged : CompletedToo → EqualDefinitions → EqualTypes → SameDirectives → EqualSchemas
 schemas-rearranged completes definitions types directives adopts xs ys r =
     let all = completes adopts (added_items xs) (added_items ys) r in
-    schemas-alike adopts xs ys (λ start other. definitions start other (whole adopts xs) (whole adopts ys) all)
-    (λ start other n. types start other (whole adopts xs) (whole adopts ys) n all)
-    (λ n. ap (option_map (λ d. bare_directive_definition d.value)) (directives (whole adopts xs) (whole adopts ys) n all))
+    schemas-alike adopts xs ys (λ start other. definitions start other (whole adopts xs) (whole adopts ys)
+    all) (λ start other n. types start other (whole adopts xs) (whole adopts ys) n all)
+    (λ n. ap (option_map (λ d. bare_directive_definition d.value)) (directives _ _ n all))
 
 -- what holds of what was added to a builder holds of the list that it stands for
 of_list : (P : ℕ → List Added → Type 0) (start : ℕ) (xs : List Added) (b : Building) → StandsFor start xs b
@@ -104,8 +114,7 @@ of_list P start xs b stands = by b.start b.standing stands.0 stands.1
 -- builders that stand for lists that mean equal schemas are built to equal ones
 pub built-alike : (xs ys : List Added) → ((adopts : Bool) → MeanEqualSchemas adopts xs ys) → (b c : Building)
     → StandFor xs ys b c → BuildEqualSchemas b c
-built-alike xs ys schemas b c stand = λ s t m n.
-    schemas b.adopts stand.start stand.other s t
+built-alike xs ys schemas b c stand = λ s t m n. schemas b.adopts stand.start stand.other s t
     (of_list (λ start zs. MeansSchema start b.adopts zs s) stand.start xs b stand.first m)
     (subst (λ (a : Bool). MeansSchema stand.other a ys t) (sym stand.one_setting)
     (of_list (λ start zs. MeansSchema start c.adopts zs t) stand.other ys c stand.second n))
@@ -113,34 +122,27 @@ built-alike xs ys schemas b c stand = λ s t m n.
 -- what is found of a builder's list is found of the list that it stands for
 found : (start : ℕ) (xs : List Added) (b : Building) (s : Schema) (faults : List Fault) → StandsFor start xs b
     → IsFoundIn b s faults → IsPartOf start b.adopts xs (sources_of b) s faults
-found start xs b s faults =
-    of_list (λ first zs. IsPartOf first b.adopts zs (sources_of b) s faults) start xs b
+found start xs b s faults = of_list (λ first zs. IsPartOf first b.adopts zs (sources_of b) s faults) start xs
+    b
 
 module _ (same_faults : SameFaults) where
   pub found-rearranged : EqualSchemas → (xs ys : List Added) → AreRearranged (added_items xs) (added_items ys)
       → (b c : Building) → StandFor xs ys b c → BuildSameFaults b c
   found-rearranged schemas xs ys r b c stand = λ s t faults others f g.
       let of_first = found stand.start xs b s faults stand.first f in
-      let of_second = found stand.other ys c t others stand.second g in
-      let first : faults ≡ faults_of b.adopts xs = of_first.1.0.0 in
-      let second : others ≡ faults_of b.adopts ys =
-      of_second.1.0.0 ∙ ap (λ a. faults_of a ys) (sym stand.one_setting) in
-      let same : IsPermutation faults others =
-      subst (λ l. IsPermutation l others) (sym first)
-      (subst (IsPermutation (faults_of b.adopts xs)) (sym second) (same_faults b.adopts xs ys r)) in
-      let other : MeansSchema stand.other b.adopts ys t =
-      subst (λ (a : Bool). MeansSchema stand.other a ys t) (sym stand.one_setting) of_second.0 in
-      (same, schemas b.adopts xs ys r stand.start stand.other s t of_first.0 other)
+      let of_second = found stand.other ys c t others stand.second g in (
+        (subst (λ l. IsPermutation l others) (sym of_first.1.0.0)
+            (subst (IsPermutation (faults_of b.adopts xs)) (sym (of_second.1.0.0
+            ∙ ap (λ a. faults_of a ys) (sym stand.one_setting))) (same_faults b.adopts xs ys r))),
+        schemas b.adopts xs ys r stand.start stand.other s t of_first.0
+            (subst (λ (a : Bool). MeansSchema stand.other a ys t) (sym stand.one_setting) of_second.0),
+      )
 
   pub faultless-rearranged : (xs ys : List Added) → AreRearranged (added_items xs) (added_items ys)
       → (b c : Building) → StandFor xs ys b c → BuildFaultlessTogether b c
   faultless-rearranged xs ys r b c stand = λ faultless t others g.
-      let none : faults_of b.adopts xs ≡ [] =
-      of_list (λ start zs. faults_of b.adopts zs ≡ []) stand.start xs b stand.first faultless in
-      let same : IsPermutation (faults_of b.adopts xs) (faults_of b.adopts ys) =
-      same_faults b.adopts xs ys r in
-      let also : faults_of b.adopts ys ≡ [] =
-      nil_from_length (faults_of b.adopts ys)
-      (length_permutation (faults_of b.adopts xs) (faults_of b.adopts ys) same ∙ ap length none) in
       let its = (found stand.other ys c t others stand.second g).1.0 in
-      its.1 (its.0 ∙ ap (λ a. faults_of a ys) (sym stand.one_setting) ∙ also)
+      its.1 (its.0 ∙ ap (λ a. faults_of a ys) (sym stand.one_setting)
+      ∙ (nil_from_length _ (length_permutation _ _ (same_faults b.adopts xs ys r)
+      ∙ ap length (of_list (λ start zs. faults_of b.adopts zs ≡ []) stand.start xs b stand.first
+      faultless))))

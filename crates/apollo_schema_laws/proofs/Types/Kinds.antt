@@ -1,12 +1,25 @@
 -- Types by their kinds, and what they hold by sorts. Of each sort that its kind has, a type that parts make
 -- has what the parts show, and of each name the first.
-use Rattle.apollo_schema_laws.proofs.Words.Lists.{◌≡◌, ℕ, Bool, true, false, cond, List, [], ◌∷◌, Option, map, find, option_map, flat_map, refl, sym, ap, ◌∙◌, arith, IsDistinct, list_any, list_any-map, map-map, map-id, map-flat_map}
-use Rattle.apollo_schema_laws.proofs.Words.Syntax.{bare_name, entries_by_text, members_by_text, NameView, NodeView, same_text, by_text, lookup, values_of, TypeKind, Directive, Parts, bare_directive, bare_enum_value_definition, bare_field_definition, bare_input_value_definition}
-use Rattle.apollo_schema_laws.proofs.Words.Types.{bare_component, BareType, bare_extended_type, ComponentOrigin, first_of_each, first_of_each-map, same_key}
-use Rattle.apollo_schema_laws.proofs.Words.Meaning.{TypePart, held_parts, Sourced, component, component_name, same_component_name, sourced_directives, names_of, fields_of, input_fields_of, distinct_names, distinct_entries, type_of_kind}
-use Rattle.apollo_schema_laws.proofs.Words.Written.{is_keyed, name_of, node_with_origin, name_with_origin, type_sections}
+use Rattle.apollo_schema_laws.proofs.Words.Lists.{◌≡◌, ℕ, Bool, true, false, cond, List, [], ◌∷◌, Option}
+use Rattle.apollo_schema_laws.proofs.Words.Lists.{None, map, find, option_map, flat_map, refl, sym, ap, ◌∙◌}
+use Rattle.apollo_schema_laws.proofs.Words.Lists.{arith, IsDistinct, list_any, list_any-map, map-map, map-id}
+use Rattle.apollo_schema_laws.proofs.Words.Lists.{map-flat_map}
+use Rattle.apollo_schema_laws.proofs.Words.Syntax.{bare_name, entries_by_text, members_by_text, NameView}
+use Rattle.apollo_schema_laws.proofs.Words.Syntax.{NodeView, same_text, by_text, lookup, values_of, TypeKind}
+use Rattle.apollo_schema_laws.proofs.Words.Syntax.{Directive, Parts, bare_directive}
+use Rattle.apollo_schema_laws.proofs.Words.Syntax.{bare_enum_value_definition, bare_field_definition}
+use Rattle.apollo_schema_laws.proofs.Words.Syntax.{bare_input_value_definition}
+use Rattle.apollo_schema_laws.proofs.Words.Types.{bare_component, BareType, bare_extended_type}
+use Rattle.apollo_schema_laws.proofs.Words.Types.{ComponentOrigin, first_of_each, first_of_each-map, same_key}
+use Rattle.apollo_schema_laws.proofs.Words.Meaning.{TypePart, held_parts, Sourced, component, component_name}
+use Rattle.apollo_schema_laws.proofs.Words.Meaning.{same_component_name, sourced_directives, names_of}
+use Rattle.apollo_schema_laws.proofs.Words.Meaning.{fields_of, input_fields_of, distinct_names}
+use Rattle.apollo_schema_laws.proofs.Words.Meaning.{distinct_entries, type_of_kind}
+use Rattle.apollo_schema_laws.proofs.Words.Written.{is_keyed, name_of, node_with_origin, name_with_origin}
+use Rattle.apollo_schema_laws.proofs.Words.Written.{type_sections}
 use Rattle.graphql_nodes.specs.declared.type_kind.TypeKind.TheVariants as kinds
-use Rattle.graphql_ast.specs.Parts.{Sort, Directives, Names, Fields, Values, InputFields, Item, listed, has, with_lists}
+use Rattle.graphql_ast.specs.Parts.{Sort, Directives, Names, Fields, Values, InputFields, Item, listed, has}
+use Rattle.graphql_ast.specs.Parts.{with_lists}
 use Rattle.graphql_nodes.specs.Comparing.{bare_node}
 use Rattle.graphql_ast.specs.BareDeclarations.{bare_parts}
 use Rattle.graphql_ast.specs.declared.type_system.EnumValueDefinition.{EnumValueDefinition}
@@ -82,7 +95,8 @@ pub sections-made : (kind : TypeKind) (head : TypePart) (ps : List Sourced)
     ≡ (λ s. cond (has kind s) (kept s (shown_in (held s) ps)) [])
 sections-made kind head ps = λ i s. by kind s i
   where
-    names : map name_with_origin (distinct_names (flat_map names_of ps)) ≡ kept Names (shown_in (held Names) ps)
+    names : map name_with_origin (distinct_names (flat_map names_of ps))
+        ≡ kept Names (shown_in (held Names) ps)
     names =
         ap (map name_with_origin) (firsts-made same_component_name component_name (held Names) ps)
         ∙ simp (map-map, map-id)
@@ -103,17 +117,16 @@ sections-made kind head ps = λ i s. by kind s i
 abbrev pub bare_with : TypeKind → Option NameView → NameView → List Directive → (List ℕ → Bool)
     → (List ℕ → Option FieldDefinition) → (List ℕ → Option EnumValueDefinition)
     → (List ℕ → Option InputValueDefinition) → BareType
-bare_with kinds.Scalar d n x i f v h = BareType.Scalar (record { description = d; name = n; directives = x })
-bare_with kinds.Object d n x i f v h = BareType.Object
-    (record { description = d; name = n; implements_interfaces = i; directives = x; fields = f })
-bare_with kinds.Interface d n x i f v h = BareType.Interface
-    (record { description = d; name = n; implements_interfaces = i; directives = x; fields = f })
-bare_with kinds.Union d n x i f v h = BareType.Union
-    (record { description = d; name = n; directives = x; members = i })
-bare_with kinds.Enum d n x i f v h = BareType.Enum
-    (record { description = d; name = n; directives = x; values = v })
-bare_with kinds.InputObject d n x i f v h = BareType.InputObject
-    (record { description = d; name = n; directives = x; fields = h })
+bare_with kind d n x i f v h = record {
+  kind = kind;
+  description = d;
+  name = n;
+  directives = x;
+  names = cond (has kind Names) i (λ _. false);
+  fields = cond (has kind Fields) f (λ _. None);
+  values = cond (has kind Values) v (λ _. None);
+  input_fields = cond (has kind InputFields) h (λ _. None);
+}
 
 -- the node of a name
 abbrev pub found_by : {T : Type 0} → (NodeView T → NameView) → List (NodeView T) → List ℕ → Option T

@@ -1,14 +1,14 @@
 -- What holds of each component of a type, and of the schema's definition, that parts make.
-use Rattle.std.proofs.Common.{◌≡◌, ◌∙◌, Bool, true, false, cond, List, [], Option, None, Some, ap, map, find, refl, subst, sym, option_map}
+use Rattle.std.proofs.Common.{◌≡◌, ◌∙◌, Bool, true, false, cond, List, [], None, Some, ap, map, find, refl}
+use Rattle.std.proofs.Common.{subst, sym, option_map}
 use Rattle.std.specs.List.{AllByRecursion, cons_option, flat_map}
 use Rattle.std.specs.Option.{IfSome}
-use Rattle.graphql_nodes.specs.NodeView.{NodeView}
 use Rattle.graphql_nodes.specs.SameText.{same_text}
 use Rattle.graphql_nodes.specs.declared.operation_type.OperationType.{OperationType}
-use Rattle.graphql_nodes.specs.declared.operation_type.OperationType.TheVariants.{Mutation, Query, Subscription}
+use Rattle.graphql_nodes.specs.declared.operation_type.OperationType.TheVariants.{Mutation, Query}
+use Rattle.graphql_nodes.specs.declared.operation_type.OperationType.TheVariants.{Subscription}
 use Rattle.graphql_nodes.specs.declared.type_kind.TypeKind.{TypeKind}
 use Rattle.graphql_ast.specs.Parts.{Sort, Directives, has, part_of, sorts}
-use Rattle.graphql_ast.specs.declared.directive.Directive.{Directive}
 use Rattle.apollo_component.specs.FirstOfEach.{first_of_each}
 use Rattle.apollo_component.specs.WriteOut.{SourcedPart}
 use Rattle.apollo_component.specs.declared.component.ComponentName.{ComponentName}
@@ -17,36 +17,26 @@ use Rattle.apollo_component.proofs.FirstOfEachLemmas.{each-first}
 use Rattle.apollo_component.proofs.Lists.Each.{each-append, each-weaken}
 use Rattle.apollo_types.specs.Components.{of_directive, of_root}
 use Rattle.apollo_types.specs.SchemaDefinitionWriteOut.{schema_components}
-use Rattle.apollo_types.specs.SchemaRoots.{named_roots}
 use Rattle.apollo_types.specs.TypeWriteOut.{type_components}
 use Rattle.apollo_meaning.specs.Items.Parts.{SchemaPart, TypePart}
-use Rattle.apollo_meaning.specs.Schema.Definition.{SourcedSchema, root_in, roots_of, same_operation, schema_definition_of}
+use Rattle.apollo_meaning.specs.Schema.Definition.{SourcedSchema, root_in, roots_of, same_operation}
+use Rattle.apollo_meaning.specs.Schema.Definition.{schema_definition_of}
 use Rattle.apollo_meaning.specs.Types.Components.{Sourced, component, component_name}
 use Rattle.apollo_meaning.specs.Types.Meaning.{type_of_kind}
 use Rattle.apollo_schema_laws.specs.Sections.{as_parts, in_sections}
-use Rattle.apollo_schema_laws.specs.TypeSections.{is_keyed, name_of}
+use Rattle.apollo_schema_laws.specs.TypeSections.{name_of}
 use Rattle.apollo_schema_laws.proofs.Types.Kinds.{held, kept, sections-made, shown_in}
 use Rattle.apollo_schema_laws.proofs.Types.WrittenParts.{components-sections}
 use Rattle.apollo_schema_laws.proofs.Lists.{each-flat_map, each-map, each-of, if-found}
 
 -- what is made of one sort of some parts
-each-sourced : {S A C : Type 0} (Q : C → Type 0) (make : ComponentOrigin → A → C) (held : S → List A)
-    (ps : List (ComponentOrigin × S))
+each-sourced : {S A C : Type 0} (Q : C → Type 0) (make : ComponentOrigin → A → C) (held : S
+    → List A) (ps : List (ComponentOrigin × S))
     → AllByRecursion (λ s. AllByRecursion (λ x. Q (make s.0 x)) (held s.1)) ps
     → AllByRecursion Q (flat_map (λ s. map (make s.0) (held s.1)) ps)
-each-sourced Q make held ps a =
-    each-flat_map Q (λ s. map (make s.0) (held s.1)) ps
-    (each-weaken (λ s. AllByRecursion (λ x. Q (make s.0 x)) (held s.1))
-    (λ s. AllByRecursion Q (map (make s.0) (held s.1)))
-    (λ s h. each-map Q (make s.0) (held s.1) h) ps a)
+each-sourced Q make held ps a = each-flat_map Q _ ps (each-weaken _ _ (λ s h. each-map Q _ _ h) ps a)
 
 module _ (P : SourcedPart → Type 0) where
-  directives : {S : Type 0} (held : S → List (NodeView Directive)) (ps : List (ComponentOrigin × S))
-      → AllByRecursion (λ s. AllByRecursion (λ d. P (s.0, part_of Directives d)) (held s.1)) ps
-      → AllByRecursion P (map of_directive (flat_map (λ s. map (component s.0) (held s.1)) ps))
-  directives held ps a =
-      each-map P of_directive _ (each-sourced (λ c. P (of_directive c)) component held ps a)
-
   module _ (ps : List Sourced) where
     -- it holds of the parts of a sort, with their origins
     abbrev Holds : Sort → Type 0
@@ -56,28 +46,25 @@ module _ (P : SourcedPart → Type 0) where
     pub type-made : (kind : TypeKind) (head : TypePart) → ((s : Sort) → has kind s ≡ true → Holds s)
         → AllByRecursion P (type_components (type_of_kind kind head ps))
     type-made kind head a =
-        subst (AllByRecursion P)
-        (sym (components-sections (type_of_kind kind head ps) ∙ ap in_sections (sections-made kind head ps)))
-        (each-flat_map P parts sorts
-        (each-of (λ s. AllByRecursion P (parts s)) (λ s. by s (has kind s) refl) sorts))
+        subst (AllByRecursion P) (sym (components-sections _ ∙ ap in_sections (sections-made kind head ps)))
+        (each-flat_map P parts sorts (each-of _ (λ s. by s (has kind s) refl) sorts))
       where
         parts : Sort → List SourcedPart
         parts s = as_parts (part_of s) (cond (has kind s) (kept s (shown_in (held s) ps)) [])
 
         shown : (s : Sort) → Holds s → AllByRecursion (λ x. P (x.0, part_of s x.1)) (shown_in (held s) ps)
-        shown s h = each-sourced (λ x. P (x.0, part_of s x.1)) (λ o x. (o, x)) (held s) ps h
+        shown s h = each-sourced _ _ (held s) ps h
 
-        first : (s : Sort) → Holds s → (b : Bool) → AllByRecursion (λ x. P (x.0, part_of s x.1))
+        first : (s : Sort) → Holds s → (b : Bool)
+            → AllByRecursion (λ x. P (x.0, part_of s x.1))
             (cond b (first_of_each (λ x y. same_text (name_of s x.1) (name_of s y.1)) (shown_in (held s) ps))
             (shown_in (held s) ps))
-        first s h true =
-            each-first (λ x. P (x.0, part_of s x.1)) (λ x y. same_text (name_of s x.1) (name_of s y.1))
-            (shown_in (held s) ps) (shown s h)
+        first s h true = each-first _ _ _ (shown s h)
         first s h false = shown s h
 
         by : (s : Sort) (b : Bool) → has kind s ≡ b
             → AllByRecursion P (as_parts (part_of s) (cond b (kept s (shown_in (held s) ps)) []))
-        by s true e = each-map P (λ x. (x.0, part_of s x.1)) _ (first s (a s e) (is_keyed s))
+        by s true e = each-map P _ _ (first s (a s e) _)
         by s false e = tt
 
   -- it holds of a root of a name, whatever its operation
@@ -87,48 +74,36 @@ module _ (P : SourcedPart → Type 0) where
   -- the schema's definition
   module _ (ps : List SourcedSchema)
       (a : AllByRecursion (λ q. AllByRecursion (λ d. P (q.0, part_of Directives d)) q.1.directives) ps)
-      (b : AllByRecursion (λ q. AllByRecursion
-      (λ r. Roots-hold (component_name q.0 r.value.1)) q.1.roots) ps) where
+      (b : AllByRecursion (λ q. AllByRecursion (λ r. Roots-hold (component_name q.0 r.value.1)) q.1.roots)
+      ps) where
     -- the first of an operation, if there is one, and the rest
     root : (op : OperationType) (rest : List (OperationType × ComponentName))
         → AllByRecursion (λ r. P (of_root r)) rest
         → AllByRecursion (λ r. P (of_root r)) (cons_option (option_map (λ n. (op, n)) (root_in op ps)) rest)
-    root op rest more =
-        by (find (λ r. same_operation op r.0) (flat_map roots_of ps))
-        (if-found (λ r. Roots-hold r.1) (λ r. same_operation op r.0) (flat_map roots_of ps)
-        (each-sourced (λ r. Roots-hold r.1) (λ o r. (r.value.0, component_name o r.value.1))
-        (λ (s : SchemaPart). s.roots) ps b))
-      where
-        by : (o : Option (OperationType × ComponentName)) → IfSome o (λ r. Roots-hold r.1)
-            → AllByRecursion (λ r. P (of_root r))
-            (cons_option (option_map (λ n. (op, n)) (option_map (λ r. r.1) o)) rest)
-        by None h = more
-        by (Some r) h = (h op, more)
+    root op rest more = (elim (find (λ r. same_operation op r.0) (flat_map roots_of ps)) as (λ o. IfSome o
+        (λ r. Roots-hold r.1)
+        → AllByRecursion (λ r. P (of_root r))
+        (cons_option (option_map (λ n. (op, n)) (option_map (λ r. r.1) o)) rest))
+        [ None ↦ λ h. more | Some r ↦ λ h. (h op, more) ]) (if-found (λ r. Roots-hold r.1) _ _
+        (each-sourced (λ r. Roots-hold r.1) _ _ ps b))
 
     pub schema-made : (head : SchemaPart)
         → AllByRecursion P (schema_components (schema_definition_of head ps))
-    schema-made head =
-        each-append P _ _ (directives (λ (s : SchemaPart). s.directives) ps a)
-        (each-map P of_root (named_roots (schema_definition_of head ps))
-        (root Query _ (root Mutation _ (root Subscription [] tt))))
+    schema-made head = each-append P _ _ (each-map P of_directive _ (each-sourced _ component _ ps a))
+        (each-map P of_root _ (root Query _ (root Mutation _ (root Subscription [] tt))))
 
 -- what holds of the origin of each part holds of the origin of each component
 module _ (P : ComponentOrigin → Type 0) where
   each-from : {S A : Type 0} (held : S → List A) (ps : List (ComponentOrigin × S))
-      → AllByRecursion (λ s. P s.0) ps
-      → AllByRecursion (λ s. AllByRecursion (λ _. P s.0) (held s.1)) ps
-  each-from held =
-      each-weaken (λ s. P s.0) (λ s. AllByRecursion (λ _. P s.0) (held s.1))
-      (λ s h. each-of (λ _. P s.0) (λ _. h) (held s.1))
+      → AllByRecursion (λ s. P s.0) ps → AllByRecursion (λ s. AllByRecursion (λ _. P s.0) (held s.1)) ps
+  each-from held = each-weaken _ _ (λ s h. each-of _ (λ _. h) _)
 
   pub each-of_type : (ps : List Sourced) → AllByRecursion (λ s. P s.0) ps
       → (kind : TypeKind) (head : TypePart)
       → AllByRecursion (λ c. P c.0) (type_components (type_of_kind kind head ps))
-  each-of_type ps a kind head = type-made (λ c. P c.0) ps kind head (λ s there. each-from (held s) ps a)
+  each-of_type ps a kind head = type-made _ ps kind head (λ s there. each-from (held s) ps a)
 
   pub each-of_schema : (ps : List SourcedSchema) → AllByRecursion (λ s. P s.0) ps → (head : SchemaPart)
       → AllByRecursion (λ c. P c.0) (schema_components (schema_definition_of head ps))
   each-of_schema ps a =
-      schema-made (λ c. P c.0) ps (each-from (λ (s : SchemaPart). s.directives) ps a)
-      (each-weaken (λ s. P s.0) (λ s. AllByRecursion (λ _. (op : OperationType) → P s.0) s.1.roots)
-      (λ s h. each-of (λ _. (op : OperationType) → P s.0) (λ _ op. h) s.1.roots) ps a)
+      schema-made _ ps (each-from _ ps a) (each-weaken _ _ (λ s h. each-of _ (λ _ op. h) s.1.roots) ps a)

@@ -1,9 +1,22 @@
 -- What a type is written out as, and types of a table, read as items of a list, and what that says of one
 -- name.
-use Rattle.apollo_schema_laws.proofs.Words.Lists.{◌≡◌, Bool, List, [], ◌∷◌, None, Option, map, refl, ℕ, true, false, cond, ◌++◌, filter, flat_map, sym, ap, subst, ◌∙◌, append_assoc, append-nil, map-append, filter-append, AllByRecursion, IsDistinct, list_any, option_map_or, map-map, arith, filter_map-unmade}
-use Rattle.apollo_schema_laws.proofs.Words.Syntax.{NameView, SourceSpan, TypeKind, type_definition, type_extension, Parts, is_built_in, same, same_text, by_text, HasUniqueKeys, keys_of, values_of, lookup, Definition}
-use Rattle.apollo_schema_laws.proofs.Words.Types.{extension_location, by_origin, of_origin, identities, origins_in, ComponentOrigin, ExtensionId, PartsByOrigin, type_kind, type_name, type_location, type_description, type_components, write_type, ExtendedType, Scalar, Object, Interface}
-use Rattle.apollo_schema_laws.proofs.Words.Meaning.{Defined, Extended, item_of, added, added_items, ignorable_if, ListItem, added_item, TypePart, write_held_type, TypeNamed, defined_part}
+use Rattle.apollo_schema_laws.proofs.Words.Lists.{◌≡◌, Bool, List, [], ◌∷◌, None, Option, map, refl, ℕ, true}
+use Rattle.apollo_schema_laws.proofs.Words.Lists.{false, cond, ◌++◌, filter, flat_map, sym, ap, subst, ◌∙◌}
+use Rattle.apollo_schema_laws.proofs.Words.Lists.{append_assoc, append-nil, map-append, filter-append}
+use Rattle.apollo_schema_laws.proofs.Words.Lists.{AllByRecursion, IsDistinct, list_any, option_map_or}
+use Rattle.apollo_schema_laws.proofs.Words.Lists.{map-map, arith, filter_map-unmade}
+use Rattle.apollo_schema_laws.proofs.Words.Syntax.{NameView, SourceSpan, TypeKind, type_definition}
+use Rattle.apollo_schema_laws.proofs.Words.Syntax.{type_extension, Parts, is_built_in, same, same_text}
+use Rattle.apollo_schema_laws.proofs.Words.Syntax.{by_text, HasUniqueKeys, keys_of, values_of, lookup}
+use Rattle.apollo_schema_laws.proofs.Words.Syntax.{Definition}
+use Rattle.apollo_schema_laws.proofs.Words.Types.{extension_location, by_origin, of_origin, identities}
+use Rattle.apollo_schema_laws.proofs.Words.Types.{origins_in, ComponentOrigin, ExtensionId, PartsByOrigin}
+use Rattle.apollo_schema_laws.proofs.Words.Types.{type_kind, type_name, type_location, type_description}
+use Rattle.apollo_schema_laws.proofs.Words.Types.{type_components, write_type, ExtendedType, Scalar, Object}
+use Rattle.apollo_schema_laws.proofs.Words.Types.{Interface}
+use Rattle.apollo_schema_laws.proofs.Words.Meaning.{Defined, Extended, item_of, added, added_items}
+use Rattle.apollo_schema_laws.proofs.Words.Meaning.{ignorable_if, ListItem, TypePart, write_held_type}
+use Rattle.apollo_schema_laws.proofs.Words.Meaning.{TypeNamed}
 use Rattle.apollo_schema_laws.proofs.Words.Written.{in_sections, type_sections}
 use Rattle.graphql_nodes.specs.declared.type_kind.TypeKind.TheVariants as kinds
 use Rattle.graphql_ast.specs.Parts.{Sort, Directives, has, listed, of_type}
@@ -66,45 +79,46 @@ module _ (t : ExtendedType) where
 
   -- as parts of a list
   abbrev pub definition_part : TypePart
-  definition_part =
-      part_of (type_kind t) (type_name t) (type_description t) (type_location t) written.definition
+  definition_part = part_of (type_kind t) (type_name t) (type_description t) (type_location t)
+      written.definition
+
+  -- the definition, which may be ignored or not
+  abbrev pub definition_as : Bool → TypePart
+  definition_as b = record definition_part { ignorable = b }
 
   abbrev pub extension_of : ExtensionId × Parts → TypePart
   extension_of e = part_of (type_kind t) (type_name t) None (extension_location e.0) e.1
 
   -- what is of one origin, by sections, is of the type's kind
   pub of_sections : (o : ComponentOrigin) → of_origin o (type_components t) ≡ parts_in o (type_sections t)
-  of_sections o = ap (of_origin o) (components-sections t) ∙ of_origin-sections o (type_sections t)
+  of_sections o = simp (components-sections, of_origin-sections)
 
   pub of_kind-origin : (o : ComponentOrigin) → IsOfKind (type_kind t) (of_origin o (type_components t))
   of_kind-origin o = subst (IsOfKind (type_kind t)) (sym (of_sections o)) (sections-of_kind t o)
 
   pub each-of_kind : AllByRecursion (λ e. IsOfKind (type_kind t) e.1) written.extensions
-  each-of_kind =
-      each-made (λ e. IsOfKind (type_kind t) e.1)
-      (λ e. (e, of_origin (origins.Extension e) (type_components t)))
-      (λ e. of_kind-origin (origins.Extension e)) (identities (origins_in (type_components t)))
+  each-of_kind = each-made _ _ (λ e. of_kind-origin (origins.Extension e)) _
 
-  items-extensions : (b : Bool) → added_items (added b (map
-      (λ e. type_extension (type_kind t) (type_name t) e.1 (extension_location e.0)) written.extensions))
-      ≡ map (λ e. Extended (extension_of e)) written.extensions
+  items-extensions : (b : Bool)
+      → added_items (added b (map (λ e. type_extension (type_kind t) (type_name t) e.1 (extension_location
+      e.0)) written.extensions)) ≡ map (λ e. Extended (extension_of e)) written.extensions
   items-extensions b = simp map-map
-      (λ i. map (λ e. ignorable_if b ((item-made (type_kind t) (type_name t) None
-      (extension_location e) _ (of_kind-origin (origins.Extension e))).1 i))
-      (identities (origins_in (type_components t))))
+      (λ i. map (λ e. ignorable_if b ((item-made _ (type_name t) None (extension_location e) _
+      (of_kind-origin (origins.Extension e))).1 i)) (identities (origins_in (type_components t))))
 
-  items-written : (b : Bool) → added_items (added b (write_type t))
-      ≡ Defined (record definition_part { ignorable = b })
+  items-written : (b : Bool)
+      → added_items (added b (write_type t)) ≡ Defined (definition_as b)
       ∷ map (λ e. Extended (extension_of e)) written.extensions
-  items-written b = λ i. ignorable_if b ((item-made (type_kind t) (type_name t) (type_description t)
-      (type_location t) written.definition (of_kind-origin origins.Definition)).0 i) ∷ items-extensions b i
+  items-written b = λ i. ignorable_if b ((item-made _ (type_name t) (type_description t) (type_location t)
+      written.definition (of_kind-origin origins.Definition)).0 i) ∷ items-extensions b i
 
 -- the items of a document
 abbrev pub document_items : Bool → List Definition → List ListItem
 document_items ignores ds = added_items (added ignores ds)
 
-pub document_items-append : (c : Bool) (xs ys : List Definition) → document_items c (xs ++ ys) ≡ document_items c xs ++ document_items c ys
-document_items-append c xs ys = ap added_items (map-append (λ d. (c, d)) xs ys) ∙ map-append added_item (added c xs) (added c ys)
+pub document_items-append : (c : Bool) (xs ys : List Definition)
+    → document_items c (xs ++ ys) ≡ document_items c xs ++ document_items c ys
+document_items-append c xs ys = simp map-append
 
 module _ (c : Bool) where
   -- a type's extensions, and its definition before them where that isn't a built-in one
@@ -112,45 +126,52 @@ module _ (c : Bool) where
   extension_items t = map (λ e. Extended (extension_of t e)) (written t).extensions
 
   abbrev pub held_items : ExtendedType → List ListItem
-  held_items t = cond (is_built_in (type_location t)) (extension_items t) (Defined (record (definition_part t) { ignorable = c }) ∷ extension_items t)
+  held_items t = cond (is_built_in (type_location t)) (extension_items t) (Defined (definition_as t c)
+      ∷ extension_items t)
 
   items-held : (t : ExtendedType) → document_items c (write_held_type t) ≡ held_items t
-  items-held t = grind (arith, items-extensions t c, items-written t c)
+  items-held t = grind (arith, items-extensions, items-written t c)
 
-  pub items-types : (ts : List ExtendedType) → document_items c (flat_map write_held_type ts) ≡ flat_map held_items ts
+  pub items-types : (ts : List ExtendedType)
+      → document_items c (flat_map write_held_type ts) ≡ flat_map held_items ts
   items-types [] = refl
-  items-types (t ∷ ts) = document_items-append c (write_held_type t) (flat_map write_held_type ts) ∙ (λ i. items-held t i ++ items-types ts i)
+  items-types (t ∷ ts) = document_items-append c _ _ ∙ (λ i. items-held t i ++ items-types ts i)
 
   module _ (n : List ℕ) where
     -- the items of a type are about its name
-    each-held : (t : ExtendedType) → AllByRecursion (λ x. is_about (TypeNamed n) x ≡ same n (type_name t).text) (held_items t)
-    each-held t = by (is_built_in (type_location t))
+    each-held : (t : ExtendedType)
+        → AllByRecursion (λ x. is_about (TypeNamed n) x ≡ same n (type_name t).text) (held_items t)
+    each-held t = elim (is_built_in (type_location t)) as (λ b. AllByRecursion (λ x. is_about (TypeNamed n) x
+        ≡ same n (type_name t).text) (cond b (extension_items t) (Defined (definition_as t c)
+        ∷ extension_items t))) [ true ↦ extensions | false ↦ (refl, extensions) ]
       where
-        extensions : AllByRecursion (λ x. is_about (TypeNamed n) x ≡ same n (type_name t).text) (extension_items t)
-        extensions = each-made (λ x. is_about (TypeNamed n) x ≡ same n (type_name t).text) (λ e. Extended (extension_of t e)) (λ e. refl) (written t).extensions
-
-        by : (b : Bool) → AllByRecursion (λ x. is_about (TypeNamed n) x ≡ same n (type_name t).text) (cond b (extension_items t) (Defined (record (definition_part t) { ignorable = c }) ∷ extension_items t))
-        by true = extensions
-        by false = (refl, extensions)
+        extensions : AllByRecursion (λ x. is_about (TypeNamed n) x ≡ same n (type_name t).text)
+            (extension_items t)
+        extensions = each-made _ _ (λ e. refl) (written t).extensions
 
     -- so a table of types says of a name what its type does
-    pub about-types : (es : List (NameView × ExtendedType)) → HasUniqueKeys same_text es → AllByRecursion (λ e. type_name e.1 ≡ e.0) es → about (TypeNamed n) (flat_map held_items (values_of es)) ≡ option_map_or held_items (lookup (by_text n) es) []
+    pub about-types : (es : List (NameView × ExtendedType)) → HasUniqueKeys same_text es
+        → AllByRecursion (λ e. type_name e.1 ≡ e.0) es
+        → about (TypeNamed n) (flat_map held_items (values_of es))
+        ≡ option_map_or held_items (lookup (by_text n) es) []
     unfolding IsDistinct
     about-types [] d named = refl
-    about-types (e ∷ es) d named =
-        let absent : same n e.0.text ≡ true → lookup (by_text n) es ≡ None = lookup-past n e es d in
-        filter-append (is_about (TypeNamed n)) (held_items e.1) (flat_map held_items (values_of es))
-        ∙ (λ i. (filter-alike (is_about (TypeNamed n)) (same n (type_name e.1).text) (held_items e.1) (each-held e.1) ∙ ap (λ (k : NameView). cond (same n k.text) (held_items e.1) []) named.0) i ++ about-types es d.1 named.1 i)
-        ∙ grind (arith, absent, append-nil (held_items e.1))
+    about-types (e ∷ es) d named = filter-append _ (held_items e.1) _
+        ∙ (λ i. (filter-alike _ _ _ (each-held e.1)
+        ∙ ap (λ (k : NameView). cond (same n k.text) (held_items e.1) []) named.0) i ++ about-types es d.1
+        named.1 i) ∙ grind (arith, (lookup-past n e es d), append-nil)
 
   -- and defines the types that aren't built in
-  defines-held : (t : ExtendedType) → defined_names (held_items t) ≡ cond (is_built_in (type_location t)) [] (type_name t ∷ [])
-  defines-held t = grind (arith, filter_map-unmade defined_part (λ e. Extended (extension_of t e)) (λ e. refl) (written t).extensions)
+  defines-held : (t : ExtendedType)
+      → defined_names (held_items t) ≡ cond (is_built_in (type_location t)) [] (type_name t ∷ [])
+  defines-held t = grind (arith, filter_map-unmade)
 
-  pub defines-types : (known : List NameView) (es : List (NameView × ExtendedType)) → AllByRecursion (λ e. type_name e.1 ≡ e.0) es → AllByRecursion (λ e. is_built_in (type_location e.1) ≡ list_any (same_text e.0) known) es
-      → defined_names (flat_map held_items (values_of es)) ≡ filter (new_to_these same_text known) (keys_of es)
+  pub defines-types : (known : List NameView) (es : List (NameView × ExtendedType))
+      → AllByRecursion (λ e. type_name e.1 ≡ e.0) es
+      → AllByRecursion (λ e. is_built_in (type_location e.1) ≡ list_any (same_text e.0) known) es
+      → defined_names (flat_map held_items (values_of es)) ≡ filter (new_to_these same_text known)
+      (keys_of es)
   defines-types known [] named marked = refl
-  defines-types known (e ∷ es) named marked =
-      defined_names-append (held_items e.1) (flat_map held_items (values_of es))
-      ∙ (λ i. (defines-held e.1 ∙ (λ j. cond (marked.0 j) [] (named.0 j ∷ []))) i ++ defines-types known es named.1 marked.1 i)
-      ∙ grind arith
+  defines-types known (e ∷ es) named marked = defined_names-append (held_items e.1) _
+      ∙ (λ i. (defines-held e.1 ∙ (λ j. cond (marked.0 j) [] (named.0 j ∷ []))) i ++ defines-types known es
+      named.1 marked.1 i) ∙ grind arith

@@ -7,13 +7,16 @@ pub use Rattle.graphql_nodes.specs.OperationTexts.{default_type_text, operation_
 pub use Rattle.graphql_nodes.specs.SameText.{by_text, same, same_text}
 pub use Rattle.graphql_nodes.specs.Tables.{HasUniqueKeys, keys_of, lookup, values_of}
 pub use Rattle.graphql_nodes.specs.declared.operation_type.OperationType.{OperationType}
-pub use Rattle.graphql_nodes.specs.declared.operation_type.OperationType.TheVariants.{Mutation, Query, Subscription}
+pub use Rattle.graphql_nodes.specs.declared.operation_type.OperationType.TheVariants.{Mutation, Query}
+pub use Rattle.graphql_nodes.specs.declared.operation_type.OperationType.TheVariants.{Subscription}
 pub use Rattle.graphql_nodes.specs.declared.source.SourceSpan.{SourceSpan}
 pub use Rattle.graphql_nodes.specs.declared.type_kind.TypeKind.{TypeKind}
 pub use Rattle.graphql_nodes.proofs.Texts.{same-is, same-true, same-refl}
 pub use Rattle.graphql_ast.specs.Bare.{bare_directive}
-pub use Rattle.graphql_ast.specs.BareTypeSystem.{bare_directive_definition, bare_enum_value_definition, bare_field_definition, bare_input_value_definition}
-pub use Rattle.graphql_ast.specs.Declarations.{schema_definition, schema_extension, type_definition, type_extension}
+pub use Rattle.graphql_ast.specs.BareTypeSystem.{bare_directive_definition, bare_enum_value_definition}
+pub use Rattle.graphql_ast.specs.BareTypeSystem.{bare_field_definition, bare_input_value_definition}
+pub use Rattle.graphql_ast.specs.Declarations.{schema_definition, schema_extension, type_definition}
+pub use Rattle.graphql_ast.specs.Declarations.{type_extension}
 pub use Rattle.graphql_ast.specs.Parts.{no_parts}
 pub use Rattle.graphql_ast.specs.declared.definition.Definition.{Definition}
 pub use Rattle.graphql_ast.specs.declared.parts.Part.{Part}

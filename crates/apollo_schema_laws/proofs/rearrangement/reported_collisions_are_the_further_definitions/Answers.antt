@@ -1,5 +1,6 @@
 use Rattle.apollo_meaning.specs.Items.ListItems.{added_items}
-use Rattle.apollo_schema_laws.proofs.Rearranged.Dropped.{reported-further_directives, reported-further_schemas, reported-further_types}
+use Rattle.apollo_schema_laws.proofs.Rearranged.Dropped.{reported-further_directives}
+use Rattle.apollo_schema_laws.proofs.Rearranged.Dropped.{reported-further_schemas, reported-further_types}
 use Rattle.apollo_schema_laws.proofs.rearrangement.reported_collisions_are_the_further_definitions.Goals as goal
 
 pub returns-clause-schemas : goal.returns-clause-schemas

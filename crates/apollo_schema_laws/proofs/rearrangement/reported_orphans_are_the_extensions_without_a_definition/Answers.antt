@@ -1,5 +1,6 @@
 use Rattle.apollo_meaning.specs.Items.ListItems.{added_items}
-use Rattle.apollo_schema_laws.proofs.Rearranged.Orphans.{no-orphans, no-schema_orphans, reported-orphans, reported-schema_orphans}
+use Rattle.apollo_schema_laws.proofs.Rearranged.Orphans.{no-orphans, no-schema_orphans, reported-orphans}
+use Rattle.apollo_schema_laws.proofs.Rearranged.Orphans.{reported-schema_orphans}
 use Rattle.apollo_schema_laws.proofs.rearrangement.reported_orphans_are_the_extensions_without_a_definition.Goals as goal
 
 pub returns-clause-types : goal.returns-clause-types

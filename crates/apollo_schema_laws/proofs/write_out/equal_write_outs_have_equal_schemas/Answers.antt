@@ -7,6 +7,6 @@ pub returns : goal.returns
 returns c = λ schema other m o alike.
     let first = rebuilds schema m false 0 in
     let second = rebuilds other o false 0 in
-    sym (equal schema m false 0 first.0 first.1)
-    ∙ c.equal_lists.ensures.schemas true (written_again false schema) (written_again false other) (equal-again false schema other alike) 0 0 first.0 second.0 first.1 second.1
-    ∙ equal other o false 0 second.0 second.1
+    sym (equal schema m false 0 first.0 first.1) ∙ c.equal_lists.ensures.schemas true
+    (written_again false schema) (written_again false other) (equal-again false schema other alike) 0 0
+    first.0 second.0 first.1 second.1 ∙ equal other o false 0 second.0 second.1
