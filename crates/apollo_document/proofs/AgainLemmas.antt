@@ -1,7 +1,9 @@
 -- A list builds one document, and a built document is that of its own write-out.
-use Rattle.std.proofs.Common.{◌≡◌, ◌∙◌, ap, sym, subst, refl, Bool, true, false, cond, not, List, [], ◌∷◌, ◌++◌, map, filter, Option, None, Some, option_map, is_some, unwrap_or}
+use Rattle.std.proofs.Common.{◌≡◌, ◌∙◌, ap, sym, subst, refl, Bool, true, false, cond, not, List, [], ◌∷◌}
+use Rattle.std.proofs.Common.{◌++◌, map, filter, Option, None, Some, option_map, is_some, unwrap_or}
 use Rattle.std.specs.List.{AllByRecursion, AllZip, IsDistinct, filter_map, flat_map, find, cons_option}
 use Rattle.std.proofs.lemmas.List.{map-append}
+use Rattle.std.proofs.lemmas.List.Folds.{flat_map-map}
 use Rattle.graphql_nodes.specs.NameView.{NameView}
 use Rattle.graphql_nodes.specs.NodeView.{NodeView}
 use Rattle.graphql_nodes.specs.SameText.{same_text}
@@ -14,7 +16,8 @@ use Rattle.apollo_component.specs.FirstOfEach.{same_key}
 use Rattle.apollo_component.proofs.Tabled.{first_of_each-distinct}
 use Rattle.apollo_schema.specs.declared.schema.Schema.{Schema}
 use Rattle.apollo_executable.specs.Listed.{listed}
-use Rattle.apollo_executable.specs.Erasure.{at_place, erased_set, erased_operation, erased_fragment, erased_definitions}
+use Rattle.apollo_executable.specs.Erasure.{at_place, erased_set, erased_operation, erased_fragment}
+use Rattle.apollo_executable.specs.Erasure.{erased_definitions}
 use Rattle.apollo_executable.specs.declared.operation.Operation.{Operation}
 use Rattle.apollo_executable.specs.declared.operation.Fragment.{Fragment}
 use Rattle.apollo_executable.specs.declared.selection.SelectionSet.{SelectionSet}
@@ -26,21 +29,20 @@ use Rattle.apollo_document.specs.declared.selection_path.ExecutableDefinitionNam
 use Rattle.apollo_document.specs.declared.selection_path.ExecutableDefinitionName.TheVariants as name
 use Rattle.apollo_document.specs.declared.selection_path.SelectionPath.{SelectionPath}
 use Rattle.apollo_document.specs.AddedDefinitions.{DocumentItem, document_list, operations, fragments}
-use Rattle.apollo_document.specs.KeptDefinitions.{root_type_of, is_rooted, first_if_anonymous, operation_under_name, kept_anonymous, kept_named, is_on_type, fragment_under_name, kept_fragments}
-use Rattle.apollo_document.specs.DocumentFaults.{ambiguous_if, rooted_faults, faults_in_operation, on_type_faults, document_faults}
-use Rattle.apollo_document.specs.TypedDefinitions.{stripped_operation, stripped_fragment, IsOperationOf, IsFragmentOf}
+use Rattle.apollo_document.specs.KeptDefinitions.{root_type_of, is_rooted, first_if_anonymous}
+use Rattle.apollo_document.specs.KeptDefinitions.{operation_under_name, kept_anonymous, kept_named}
+use Rattle.apollo_document.specs.KeptDefinitions.{is_on_type, fragment_under_name, kept_fragments}
+use Rattle.apollo_document.specs.DocumentFaults.{ambiguous_if, rooted_faults, faults_in_operation}
+use Rattle.apollo_document.specs.DocumentFaults.{on_type_faults, document_faults}
+use Rattle.apollo_document.specs.TypedDefinitions.{stripped_operation, IsOperationOf, IsFragmentOf}
 use Rattle.apollo_document.specs.Documents.{IsUnderName, IsDocumentOf}
-use Rattle.apollo_document.specs.Stands.{entries_by}
+use Rattle.apollo_document.specs.Stands.{entries_by, operation_over}
 use Rattle.apollo_document.specs.WrittenAgain.{ambiguous_again}
 use Rattle.apollo_document.proofs.BuiltLemmas.{with_selections, fragment_with}
 use Rattle.apollo_component.proofs.FirstOfEachLemmas.{each-first}
-use Rattle.apollo_document.proofs.WrittenLemmas.{IsSoundOperation, IsSoundFragment, IsSoundIf, operation_item, fragment_item, anonymous_items, written, AllKept, all_kept}
-
-abbrev Op : Type 0
-Op = NodeView OperationDefinition
-
-abbrev Frag : Type 0
-Frag = NodeView FragmentDefinition
+use Rattle.apollo_document.proofs.WrittenLemmas.{IsSoundOperation, IsSoundFragment, IsSoundIf, fragment_item}
+use Rattle.apollo_document.proofs.WrittenLemmas.{anonymous_items, written, AllKept, all_kept}
+use Rattle.apollo_document.proofs.OperationLemmas.{Op, Frag}
 
 abbrev erase_operation : NodeView Operation → Op
 erase_operation o = at_place erased_operation o
@@ -48,228 +50,308 @@ erase_operation o = at_place erased_operation o
 abbrev erase_fragment : NodeView Fragment → Frag
 erase_fragment f = at_place erased_fragment f
 
-condition : (s : Option Schema) (n : Frag) (f : NodeView Fragment) → IsFragmentOf s n f → n.value.type_condition ≡ (erase_fragment f).value.type_condition
-condition s n f h = ap (λ (z : Frag). z.value.type_condition) (sym h.0)
+-- ---- lists that are related, place by place
 
-typed_on : (s : Option Schema) (n : Frag) (f : NodeView Fragment) → IsFragmentOf s n f → IsTypedSet s (erase_fragment f).value.type_condition f.value.selection_set
-typed_on s n f h = subst (λ t. IsTypedSet s t f.value.selection_set) (condition s n f h) h.1
+module _ {A B : Type 0} (R : A → B → Type 0) where
+  abbrev IsOne : Type 0
+  IsOne = (x : A) (a b : B) → R x a → R x b → a ≡ b
 
--- entries that are related to the same things are one, where each thing has one value
-one_table : {A B : Type 0} (R : A → B → Type 0) → ((x : A) (a b : B) → R x a → R x b → a ≡ b) → (ks : List (NameView × A)) (es fs : List (NameView × B)) → AllZip (IsUnderName R) ks es → AllZip (IsUnderName R) ks fs → es ≡ fs
-one_table R one [] [] [] h g = refl
-one_table R one [] [] (f ∷ fs) h g = absurd g
-one_table R one [] (e ∷ es) fs h g = absurd h
-one_table R one (k ∷ ks) [] fs h g = absurd h
-one_table R one (k ∷ ks) (e ∷ es) [] h g = absurd g
-one_table R one (k ∷ ks) (e ∷ es) (f ∷ fs) h g =
-    let key : e.0 ≡ f.0 = h.0.0 ∙ sym g.0.0 in
-    let value : e.1 ≡ f.1 = one k.1 e.1 f.1 h.0.1 g.0.1 in
-    let rest = one_table R one ks es fs h.1 g.1 in
-    λ i. (key i, value i) ∷ rest i
+  -- lists that are related to one list are one, where each thing has one value
+  one_list : IsOne → (ks : List A) (es fs : List B) → AllZip R ks es → AllZip R ks fs → es ≡ fs
+  one_list one [] [] [] h g = refl
+  one_list one [] [] (f ∷ fs) h g = absurd g
+  one_list one (k ∷ ks) (e ∷ es) [] h g = absurd g
+  one_list one (k ∷ ks) (e ∷ es) (f ∷ fs) h g =
+      let first = one k e f h.0 g.0 in let rest = one_list one ks es fs h.1 g.1 in λ i. first i ∷ rest i
+  one_list one ks es fs h g = absurd h
 
-one_option : {A B : Type 0} (R : A → B → Type 0) → ((x : A) (a b : B) → R x a → R x b → a ≡ b) → (k : Option A) (e f : Option B) → AllZip R (listed k) (listed e) → AllZip R (listed k) (listed f) → e ≡ f
-one_option R one None None None h g = refl
-one_option R one None None (Some f) h g = absurd g
-one_option R one None (Some e) f h g = absurd h
-one_option R one (Some k) None f h g = absurd h
-one_option R one (Some k) (Some e) None h g = absurd g
-one_option R one (Some k) (Some e) (Some f) h g = ap Some (one k e f h.0 g.0)
+  one_option : IsOne → (k : Option A) (e f : Option B) → AllZip R (listed k) (listed e)
+      → AllZip R (listed k) (listed f) → e ≡ f
+  one_option one k e f h g = by e f (one_list one (listed k) (listed e) (listed f) h g)
+    where
+      by : (e f : Option B) → listed e ≡ listed f → e ≡ f
+      by None None is = refl
+      by (Some e) (Some f) is = cc
+      by e f is = cc
 
-self_table : {A B : Type 0} (R : A → B → Type 0) (erase : B → A) → ((x : A) (b : B) → R x b → R (erase b) b) → (ks : List (NameView × A)) (es : List (NameView × B)) → AllZip (IsUnderName R) ks es → AllZip (IsUnderName R) (entries_by erase es) es
-self_table R erase self [] [] h = tt
-self_table R erase self [] (e ∷ es) h = absurd h
-self_table R erase self (k ∷ ks) [] h = absurd h
-self_table R erase self (k ∷ ks) (e ∷ es) h = ((refl, self k.1 e.1 h.0.1), self_table R erase self ks es h.1)
+  -- what follows for each of the second list, from what is so of each of the first
+  each_second : {C : Type 0} (Q : A → Type 0) (f : B → C) (P : C → Type 0)
+      → ((x : A) (y : B) → R x y → Q x → P (f y)) → (xs : List A) (ys : List B) → AllZip R xs ys
+      → AllByRecursion Q xs → AllByRecursion P (map f ys)
+  each_second Q f P so [] [] h a = tt
+  each_second Q f P so (x ∷ xs) (y ∷ ys) h a = (so x y h.0 a.0, each_second Q f P so xs ys h.1 a.1)
+  each_second Q f P so xs ys h a = absurd h
 
-self_option : {A B : Type 0} (R : A → B → Type 0) (erase : B → A) → ((x : A) (b : B) → R x b → R (erase b) b) → (k : Option A) (e : Option B) → AllZip R (listed k) (listed e) → AllZip R (listed (option_map erase e)) (listed e)
-self_option R erase self None None h = tt
-self_option R erase self None (Some e) h = absurd h
-self_option R erase self (Some k) None h = absurd h
-self_option R erase self (Some k) (Some e) h = (self k e h.0, tt)
+  module _ (erase : B → A) (self : (x : A) (b : B) → R x b → R (erase b) b) where
+    self_list : (ks : List A) (es : List B) → AllZip R ks es → AllZip R (map erase es) es
+    self_list [] [] h = tt
+    self_list (k ∷ ks) (e ∷ es) h = (self k e h.0, self_list ks es h.1)
+    self_list ks es h = absurd h
 
--- the names of entries differ as those of the kept definitions do
-distinct_table : {A B : Type 0} (R : A → B → Type 0) (erase : B → A) (ks : List (NameView × A)) (es : List (NameView × B)) → AllZip (IsUnderName R) ks es → IsDistinct (same_key same_text) ks → IsDistinct (same_key same_text) (entries_by erase es)
-unfolding IsDistinct
-distinct_table R erase [] [] h g = tt
-distinct_table R erase [] (e ∷ es) h g = absurd h
-distinct_table R erase (k ∷ ks) [] h g = absurd h
-distinct_table {A} {B} R erase (k ∷ ks) (e ∷ es) h g = (others ks es h.1 g.0, distinct_table R erase ks es h.1 g.1)
-  where
-    others : (ls : List (NameView × A)) (fs : List (NameView × B)) → AllZip (IsUnderName R) ls fs → AllByRecursion (λ y. same_key same_text k y ≡ false) ls → AllByRecursion (λ y. same_text e.0 y.0 ≡ false) (entries_by erase fs)
-    others [] [] z a = tt
-    others [] (f ∷ fs) z a = absurd z
-    others (l ∷ ls) [] z a = absurd z
-    others (l ∷ ls) (f ∷ fs) z a = ((λ i. same_text (h.0.0 i) (z.0.0 i)) ∙ a.0, others ls fs z.1 a.1)
+    self_option : (k : Option A) (e : Option B) → AllZip R (listed k) (listed e)
+        → AllZip R (listed (option_map erase e)) (listed e)
+    self_option k None h = tt
+    self_option k (Some e) h = self_list (listed k) (e ∷ []) h
 
--- kept definitions have the names that they are kept under
-has_its_name : (os : List Op) → AllByRecursion (λ x. x.1.value.name ≡ Some x.0) (filter_map operation_under_name os)
+-- ---- the same under names
+
+module _ {A B : Type 0} (R : A → B → Type 0) where
+  one_table : IsOne R → IsOne (IsUnderName R)
+  one_table one k e f h g =
+      let key : e.0 ≡ f.0 = h.0 ∙ sym g.0 in let value = one k.1 e.1 f.1 h.1 g.1 in λ i. (key i, value i)
+
+  -- the names of entries differ as those of the kept definitions do
+  distinct_table : (erase : B → A) (ks : List (NameView × A)) (es : List (NameView × B))
+      → AllZip (IsUnderName R) ks es → IsDistinct (same_key same_text) ks
+      → IsDistinct (same_key same_text) (entries_by erase es)
+  unfolding IsDistinct
+  distinct_table erase [] [] h g = tt
+  distinct_table erase (k ∷ ks) (e ∷ es) h g = (
+    each_second (IsUnderName R) (λ l. same_key same_text k l ≡ false) (λ f. (f.0, erase f.1))
+        (λ (y : NameView × A). same_text e.0 y.0 ≡ false)
+        (λ l f z a. (λ i. same_text (h.0.0 i) (z.0 i)) ∙ a) ks es h.1 g.0,
+    distinct_table erase ks es h.1 g.1,
+  )
+  distinct_table erase ks es h g = absurd h
+
+-- ---- the names of kept definitions
+
+-- they have the names that they are kept under
+has_its_name : (os : List Op)
+    → AllByRecursion (λ x. x.1.value.name ≡ Some x.0) (filter_map operation_under_name os)
 has_its_name [] = tt
 has_its_name (n ∷ os) = by n.value.name refl (has_its_name os)
   where
-    by : (o : Option NameView) → n.value.name ≡ o → AllByRecursion (λ x. x.1.value.name ≡ Some x.0) (filter_map operation_under_name os) → AllByRecursion (λ (x : NameView × Op). x.1.value.name ≡ Some x.0) (cons_option (option_map (λ (name : NameView). (name, n)) o) (filter_map operation_under_name os))
+    by : (o : Option NameView) → n.value.name ≡ o
+        → AllByRecursion (λ x. x.1.value.name ≡ Some x.0) (filter_map operation_under_name os)
+        → AllByRecursion (λ (x : NameView × Op). x.1.value.name ≡ Some x.0) (cons_option
+        (option_map (λ (name : NameView). (name, n)) o) (filter_map operation_under_name os))
     by None h rest = rest
     by (Some m) h rest = (h, rest)
-
-is_its_fragment : (s : Option Schema) (ns : List Frag) → AllByRecursion (λ x. (x.1.value.name ≡ x.0) × (is_on_type s x.1 ≡ true)) (map fragment_under_name (filter (is_on_type s) ns))
-is_its_fragment s [] = tt
-is_its_fragment s (n ∷ ns) = by (is_on_type s n) refl (is_its_fragment s ns)
-  where
-    by : (b : Bool) → is_on_type s n ≡ b → AllByRecursion (λ x. (x.1.value.name ≡ x.0) × (is_on_type s x.1 ≡ true)) (map fragment_under_name (filter (is_on_type s) ns))
-        → AllByRecursion (λ (x : NameView × Frag). (x.1.value.name ≡ x.0) × (is_on_type s x.1 ≡ true)) (map fragment_under_name (cond b (n ∷ filter (is_on_type s) ns) (filter (is_on_type s) ns)))
-    by true h rest = ((refl, h), rest)
-    by false h rest = rest
 
 has_no_name : (o : Option Op) (n : Op) → first_if_anonymous o ≡ Some n → n.value.name ≡ None
 has_no_name None n h = cc
 has_no_name (Some m) n h = by m.value.name refl h
   where
-    by : (x : Option NameView) → m.value.name ≡ x → cond (not (is_some x)) (Some m) None ≡ Some n → n.value.name ≡ None
-    by None e h = let is : m ≡ n = ap (λ (o : Option Op). unwrap_or o m) h in ap (λ (n : Op). n.value.name) (sym is) ∙ e
+    by : (x : Option NameView) → m.value.name ≡ x → cond (not (is_some x)) (Some m) None ≡ Some n
+        → n.value.name ≡ None
+    by None e h = let is : m ≡ n = cc in ap (λ (n : Op). n.value.name) (sym is) ∙ e
     by (Some k) e h = cc
 
-rooted : (s : Option Schema) (n : Op) (o : NodeView Operation) → IsOperationOf s n o → is_rooted s (erase_operation o) ≡ true
-rooted s n o h = ap (λ (z : Op). is_some (root_type_of s z.value.operation_type)) h.1.1.0 ∙ ap (λ (r : Option NameView). is_some r) h.1.0
+-- ---- a write-out as a list
 
--- a write-out as a list
-operations-written : (b : Bool) (es : List (NameView × NodeView Operation)) → map (λ (x : Definition). (b, x)) (map (λ n. d.OperationDefinition (erase_operation n)) (values_of es)) ≡ map (operation_item b) (entries_by erase_operation es)
-operations-written b [] = refl
-operations-written b (e ∷ es) = ap (λ l. (b, d.OperationDefinition (erase_operation e.1)) ∷ l) (operations-written b es)
+as_items : {A B : Type 0} (b : Bool) (erase : B → A) (make : A → Definition) (es : List (NameView × B))
+    → map {B = DocumentItem} (λ x. (b, x)) (map (λ n. make (erase n)) (values_of es))
+    ≡ map {B = DocumentItem} (λ e. (b, make e.1)) (entries_by erase es)
+as_items b erase make [] = refl
+as_items b erase make (e ∷ es) = ap (λ l. (b, make (erase e.1)) ∷ l) (as_items b erase make es)
 
-fragments-written : (b : Bool) (es : List (NameView × NodeView Fragment)) → map (λ (x : Definition). (b, x)) (map (λ n. d.FragmentDefinition (erase_fragment n)) (values_of es)) ≡ map (fragment_item b) (entries_by erase_fragment es)
-fragments-written b [] = refl
-fragments-written b (e ∷ es) = ap (λ l. (b, d.FragmentDefinition (erase_fragment e.1)) ∷ l) (fragments-written b es)
-
-anonymous-written : (b : Bool) (o : Option (NodeView Operation)) → map (λ (x : Definition). (b, x)) (map (λ n. d.OperationDefinition (erase_operation n)) (listed o)) ≡ anonymous_items b (option_map erase_operation o)
+anonymous-written : (b : Bool) (o : Option (NodeView Operation))
+    → map (λ (x : Definition). (b, x)) (map (λ n. d.OperationDefinition (erase_operation n)) (listed o))
+    ≡ anonymous_items b (option_map erase_operation o)
 anonymous-written b None = refl
 anonymous-written b (Some n) = refl
 
 abbrev written_of : Bool → ExecutableDocument → List DocumentItem
-written_of b document = written b (option_map erase_operation document.operations.anonymous) (entries_by erase_operation document.operations.named) (entries_by erase_fragment document.fragments)
+written_of b document = written b (option_map erase_operation document.operations.anonymous)
+    (entries_by erase_operation document.operations.named) (entries_by erase_fragment document.fragments)
 
-is_written : (b : Bool) (document : ExecutableDocument) → document_list b (erased_definitions document) ≡ written_of b document
+is_written : (b : Bool) (document : ExecutableDocument)
+    → document_list b (erased_definitions document) ≡ written_of b document
 is_written b document =
     let op : NodeView Operation → Definition = λ n. d.OperationDefinition (erase_operation n) in
+    let fragment : NodeView Fragment → Definition = λ n. d.FragmentDefinition (erase_fragment n) in
     let with : Definition → DocumentItem = λ x. (b, x) in
-    map-append with (map op (listed document.operations.anonymous ++ values_of document.operations.named)) (map (λ n. d.FragmentDefinition (erase_fragment n)) (values_of document.fragments))
-    ∙ (λ i. map with (map-append op (listed document.operations.anonymous) (values_of document.operations.named) i) ++ fragments-written b document.fragments i)
-    ∙ ap (λ l. l ++ map (fragment_item b) (entries_by erase_fragment document.fragments)) (map-append with (map op (listed document.operations.anonymous)) (map op (values_of document.operations.named)))
-    ∙ (λ i. (anonymous-written b document.operations.anonymous i ++ operations-written b document.operations.named i) ++ map (fragment_item b) (entries_by erase_fragment document.fragments))
+    let first = document.operations.anonymous in
+    let named = document.operations.named in
+    let others = document.fragments in
+    map-append with (map op (listed first ++ values_of named)) (map fragment (values_of others))
+    ∙ (λ i. map with (map-append op (listed first) (values_of named) i) ++ as_items b erase_fragment
+    d.FragmentDefinition others i)
+    ∙ ap (λ l. l ++ map (fragment_item b) (entries_by erase_fragment others))
+    (map-append with (map op (listed first)) (map op (values_of named))
+    ∙ (λ i. anonymous-written b first i ++ as_items b erase_operation d.OperationDefinition named i))
 
-flat-entries : {A B C : Type 0} (f : A → B) (l : List C) (es : List (NameView × A)) → flat_map (λ x. l) (entries_by f es) ≡ flat_map (λ x. l) es
-flat-entries f l [] = refl
-flat-entries f l (e ∷ es) = ap (λ m. l ++ m) (flat-entries f l es)
-
-location-erased : (o : Option (NodeView Operation)) → option_map (λ (n : Op). n.location) (option_map erase_operation o) ≡ option_map (λ (n : NodeView Operation). n.location) o
+location-erased : (o : Option (NodeView Operation))
+    → option_map (λ (n : Op). n.location) (option_map erase_operation o)
+    ≡ option_map (λ (n : NodeView Operation). n.location) o
 location-erased None = refl
 location-erased (Some n) = refl
 
 -- what the law of typed sets says
 pub record TypedSetsLaw : Type 0 where
-  pub again : (s : Option Schema) (ty : NameView) (set : SelectionSet) → IsTypedSet s ty set → stripped s ty (erased_set set) ≡ erased_set set
-  pub faultless : (s : Option Schema) (ty : NameView) (path : SelectionPath) (set : SelectionSet) → IsTypedSet s ty set → faults_of_selections s ty path (erased_set set) ≡ []
-  pub unique : (s : Option Schema) (ty : NameView) (a b : SelectionSet) → IsTypedSet s ty a → IsTypedSet s ty b → erased_set a ≡ erased_set b → a ≡ b
+  pub again : (s : Option Schema) (ty : NameView) (set : SelectionSet) → IsTypedSet s ty set
+      → stripped s ty (erased_set set) ≡ erased_set set
+  pub faultless : (s : Option Schema) (ty : NameView) (path : SelectionPath) (set : SelectionSet)
+      → IsTypedSet s ty set → faults_of_selections s ty path (erased_set set) ≡ []
+  pub unique : (s : Option Schema) (ty : NameView) (a b : SelectionSet) → IsTypedSet s ty a
+      → IsTypedSet s ty b → erased_set a ≡ erased_set b → a ≡ b
 
-module _ (sets : TypedSetsLaw) where
-  -- one definition has one typed one
-  one_operation : (s : Option Schema) (n : Op) (a b : NodeView Operation) → IsOperationOf s n a → IsOperationOf s n b → a ≡ b
-  one_operation s n a b h g =
-      let root : g.0 ≡ h.0 = ap (λ (o : Option NameView). unwrap_or o g.0) (sym g.1.0 ∙ h.1.0) in
-      let same : erase_operation a ≡ erase_operation b = h.1.1.0 ∙ (λ i. at_place (stripped_operation s (sym root i)) n) ∙ sym g.1.1.0 in
-      let set : a.value.selection_set ≡ b.value.selection_set = sets.unique s h.0 a.value.selection_set b.value.selection_set h.1.1.1 (subst (λ r. IsTypedSet s r b.value.selection_set) root g.1.1.1) (ap (λ z. z.value.selection_set) same) in
-      λ i. record { value = record { operation_type = (same i).value.operation_type; name = (same i).value.name; variables = (same i).value.variables; directives = (same i).value.directives; selection_set = set i }; location = (same i).location }
+module _ (sets : TypedSetsLaw) (s : Option Schema) where
+  -- ---- one definition has one typed one
 
-  one_fragment : (s : Option Schema) (n : Frag) (a b : NodeView Fragment) → IsFragmentOf s n a → IsFragmentOf s n b → a ≡ b
-  one_fragment s n a b h g =
+  one_operation : IsOne (IsOperationOf s)
+  one_operation n a b h g =
+      let root : g.0 ≡ h.0 = ap (λ o. unwrap_or o g.0) (sym g.1.0 ∙ h.1.0) in
+      let same : erase_operation a ≡ erase_operation b =
+      h.1.1.0 ∙ (λ i. at_place (stripped_operation s (sym root i)) n) ∙ sym g.1.1.0 in
+      let set = sets.unique s h.0 a.value.selection_set b.value.selection_set h.1.1.1
+      (subst (λ r. IsTypedSet s r b.value.selection_set) root g.1.1.1) (ap (λ z. z.value.selection_set)
+      same) in
+      λ i. at_place (λ (o : OperationDefinition). operation_over o (set i)) (same i)
+
+  one_fragment : IsOne (IsFragmentOf s)
+  one_fragment n a b h g =
       let same : erase_fragment a ≡ erase_fragment b = h.0 ∙ sym g.0 in
-      let set : a.value.selection_set ≡ b.value.selection_set = sets.unique s n.value.type_condition a.value.selection_set b.value.selection_set h.1 g.1 (ap (λ z. z.value.selection_set) same) in
-      λ i. record { value = record { name = (same i).value.name; directives = (same i).value.directives; selection_set = set i }; location = (same i).location }
+      let set = sets.unique s n.value.type_condition a.value.selection_set b.value.selection_set h.1 g.1
+      (ap (λ z. z.value.selection_set) same) in
+      λ i. at_place (λ (f : FragmentDefinition). record {
+        name = f.name;
+        directives = f.directives;
+        selection_set = set i;
+      }) (same i)
 
-  -- and is that of what it is erased to
-  self_operation : (s : Option Schema) (n : Op) (o : NodeView Operation) → IsOperationOf s n o → IsOperationOf s (erase_operation o) o
-  self_operation s n o h =
-      let rooted : root_type_of s (erase_operation o).value.operation_type ≡ Some h.0 = ap (λ (z : Op). root_type_of s z.value.operation_type) h.1.1.0 ∙ h.1.0 in
-      let same : erase_operation o ≡ at_place (stripped_operation s h.0) (erase_operation o) = ap (with_selections (erase_operation o)) (sym (sets.again s h.0 o.value.selection_set h.1.1.1)) in
-      (h.0, (rooted, (same, h.1.1.1)))
-
-  self_fragment : (s : Option Schema) (n : Frag) (f : NodeView Fragment) → IsFragmentOf s n f → IsFragmentOf s (erase_fragment f) f
-  self_fragment s n f h =
-      let same : erase_fragment f ≡ at_place (stripped_fragment s) (erase_fragment f) = ap (fragment_with (erase_fragment f)) (sym (sets.again s (erase_fragment f).value.type_condition f.value.selection_set (typed_on s n f h))) in
-      (same, typed_on s n f h)
-
-  pub one_document : (s : Option Schema) (xs : List DocumentItem) (a b : ExecutableDocument) → IsDocumentOf s xs a → IsDocumentOf s xs b → a ≡ record b { sources = a.sources }
-  one_document s xs a b h g =
-      let anonymous = one_option (IsOperationOf s) (one_operation s) (kept_anonymous s xs) a.operations.anonymous b.operations.anonymous h.anonymous g.anonymous in
-      let named = one_table (IsOperationOf s) (one_operation s) (kept_named s xs) a.operations.named b.operations.named h.named g.named in
-      let fragments = one_table (IsFragmentOf s) (one_fragment s) (kept_fragments s xs) a.fragments b.fragments h.fragments g.fragments in
-      λ i. record { sources = a.sources; operations = record { anonymous = anonymous i; named = named i }; fragments = fragments i }
-
-  -- nothing is wrong with the write-out of a built definition itself
-  no_faults : (s : Option Schema) (path : ExecutableDefinitionName) (n : Op) (o : NodeView Operation) → IsOperationOf s n o → faults_in_operation s path (erase_operation o) ≡ []
-  no_faults s path n o h =
-      let whole : SelectionPath = record { root = path; nested_fields = [] } in
-      ap (rooted_faults s path (erase_operation o)) (ap (λ (z : Op). root_type_of s z.value.operation_type) h.1.1.0 ∙ h.1.0) ∙ sets.faultless s h.0 whole o.value.selection_set h.1.1.1
-
-  sound_table : (s : Option Schema) (ks : List (NameView × Op)) (es : List (NameView × NodeView Operation)) → AllZip (IsUnderName (IsOperationOf s)) ks es → AllByRecursion (λ x. x.1.value.name ≡ Some x.0) ks → AllByRecursion (IsSoundOperation s) (entries_by erase_operation es)
-  sound_table s [] [] h a = tt
-  sound_table s [] (e ∷ es) h a = absurd h
-  sound_table s (k ∷ ks) [] h a = absurd h
-  sound_table s (k ∷ ks) (e ∷ es) h a = (
-    (
-      ap (λ (z : Op). z.value.name) h.0.1.1.1.0 ∙ a.0 ∙ ap Some (sym h.0.0),
-      (rooted s k.1 e.1 h.0.1, no_faults s (name.NamedOperation e.1.value.operation_type e.0) k.1 e.1 h.0.1),
-    ),
-    sound_table s ks es h.1 a.1,
-  )
-
-  sound_fragments : (s : Option Schema) (ks : List (NameView × Frag)) (es : List (NameView × NodeView Fragment)) → AllZip (IsUnderName (IsFragmentOf s)) ks es → AllByRecursion (λ x. (x.1.value.name ≡ x.0) × (is_on_type s x.1 ≡ true)) ks → AllByRecursion (IsSoundFragment s) (entries_by erase_fragment es)
-  sound_fragments s [] [] h a = tt
-  sound_fragments s [] (e ∷ es) h a = absurd h
-  sound_fragments s (k ∷ ks) [] h a = absurd h
-  sound_fragments s (k ∷ ks) (e ∷ es) h a =
-      let whole : SelectionPath = record { root = name.Fragment e.1.value.name; nested_fields = [] } in
-      let on : is_on_type s (erase_fragment e.1) ≡ true = ap (is_on_type s) h.0.1.0 ∙ a.0.1 in (
-        (
-          ap (λ (z : Frag). z.value.name) h.0.1.0 ∙ a.0.0 ∙ sym h.0.0,
-          (on, ap (on_type_faults s (erase_fragment e.1)) on ∙ sets.faultless s (erase_fragment e.1).value.type_condition whole e.1.value.selection_set (typed_on s k.1 e.1 h.0.1)),
-        ),
-        sound_fragments s ks es h.1 a.1,
-      )
-
-  sound_option : (s : Option Schema) (k : Option Op) (e : Option (NodeView Operation)) → AllZip (IsOperationOf s) (listed k) (listed e) → ((n : Op) → k ≡ Some n → n.value.name ≡ None) → IsSoundIf s (option_map erase_operation e)
-  sound_option s None None h a = tt
-  sound_option s None (Some e) h a = absurd h
-  sound_option s (Some k) None h a = absurd h
-  sound_option s (Some k) (Some e) h a = (
-    ap (λ (z : Op). z.value.name) h.0.1.1.0 ∙ a k refl,
-    (rooted s k e h.0, no_faults s (name.AnonymousOperation e.value.operation_type) k e h.0),
-  )
-
-  kept_again : (s : Option Schema) (xs : List DocumentItem) (b : Bool) (document : ExecutableDocument) → IsDocumentOf s xs document
-      → AllKept s b (option_map erase_operation document.operations.anonymous) (entries_by erase_operation document.operations.named) (entries_by erase_fragment document.fragments)
-  kept_again s xs b document h = all_kept s b (option_map erase_operation document.operations.anonymous) (entries_by erase_operation document.operations.named) (entries_by erase_fragment document.fragments)
-      (sound_option s (kept_anonymous s xs) document.operations.anonymous h.anonymous (λ n e. has_no_name (find (is_rooted s) (operations xs)) n e))
-      (sound_table s (kept_named s xs) document.operations.named h.named (each-first (λ (x : NameView × Op). x.1.value.name ≡ Some x.0) (same_key same_text) (filter_map operation_under_name (filter (is_rooted s) (operations xs))) (has_its_name (filter (is_rooted s) (operations xs)))))
-      (distinct_table (IsOperationOf s) erase_operation (kept_named s xs) document.operations.named h.named (first_of_each-distinct (same_key same_text) (filter_map operation_under_name (filter (is_rooted s) (operations xs)))))
-      (sound_fragments s (kept_fragments s xs) document.fragments h.fragments (each-first (λ (x : NameView × Frag). (x.1.value.name ≡ x.0) × (is_on_type s x.1 ≡ true)) (same_key same_text) (map fragment_under_name (filter (is_on_type s) (fragments xs))) (is_its_fragment s (fragments xs))))
-      (distinct_table (IsFragmentOf s) erase_fragment (kept_fragments s xs) document.fragments h.fragments (first_of_each-distinct (same_key same_text) (map fragment_under_name (filter (is_on_type s) (fragments xs)))))
-
-  self_document : (s : Option Schema) (xs : List DocumentItem) (b : Bool) (document : ExecutableDocument) → IsDocumentOf s xs document → IsDocumentOf s (written_of b document) document
-  self_document s xs b document h =
-      let kept = kept_again s xs b document h in
-      record {
-        anonymous = subst (λ (k : Option Op). AllZip (IsOperationOf s) (listed k) (listed document.operations.anonymous)) (sym kept.anonymous) (self_option (IsOperationOf s) erase_operation (self_operation s) (kept_anonymous s xs) document.operations.anonymous h.anonymous);
-        named = subst (λ (ks : List (NameView × Op)). AllZip (IsUnderName (IsOperationOf s)) ks document.operations.named) (sym kept.named) (self_table (IsOperationOf s) erase_operation (self_operation s) (kept_named s xs) document.operations.named h.named);
-        fragments = subst (λ (ks : List (NameView × Frag)). AllZip (IsUnderName (IsFragmentOf s)) ks document.fragments) (sym kept.fragments) (self_table (IsFragmentOf s) erase_fragment (self_fragment s) (kept_fragments s xs) document.fragments h.fragments);
+  pub one_document : (xs : List DocumentItem) (a b : ExecutableDocument) → IsDocumentOf s xs a
+      → IsDocumentOf s xs b → a ≡ record b { sources = a.sources }
+  one_document xs a b h g =
+      let anonymous = one_option (IsOperationOf s) one_operation (kept_anonymous s xs) _ _ h.anonymous
+      g.anonymous in
+      let named = one_list (IsUnderName (IsOperationOf s)) (one_table (IsOperationOf s) one_operation)
+      (kept_named s xs) _ _ h.named g.named in
+      let fragments = one_list (IsUnderName (IsFragmentOf s)) (one_table (IsFragmentOf s) one_fragment)
+      (kept_fragments s xs) _ _ h.fragments g.fragments in
+      λ i. record {
+        sources = a.sources;
+        operations = record { anonymous = anonymous i; named = named i };
+        fragments = fragments i;
       }
 
-  pub document_is_itself : (s : Option Schema) (xs : List DocumentItem) (b : Bool) (document : ExecutableDocument) → IsDocumentOf s xs document → IsDocumentOf s (document_list b (erased_definitions document)) document
-  document_is_itself s xs b document h = subst (λ ys. IsDocumentOf s ys document) (sym (is_written b document)) (self_document s xs b document h)
+  -- ---- and is that of what it is erased to
 
-  pub document_is_again : (s : Option Schema) (xs : List DocumentItem) (b : Bool) (document again : ExecutableDocument) → IsDocumentOf s xs document → IsDocumentOf s (document_list b (erased_definitions document)) again → again ≡ record document { sources = again.sources }
-  document_is_again s xs b document again h g = one_document s (document_list b (erased_definitions document)) again document g (document_is_itself s xs b document h)
+  root_again : (n : Op) (o : NodeView Operation) (h : IsOperationOf s n o)
+      → root_type_of s (erase_operation o).value.operation_type ≡ Some h.0
+  root_again n o h = ap (λ (z : Op). root_type_of s z.value.operation_type) h.1.1.0 ∙ h.1.0
 
-  pub faults_again : (s : Option Schema) (xs : List DocumentItem) (b : Bool) (document : ExecutableDocument) → IsDocumentOf s xs document → document_faults s (document_list b (erased_definitions document)) ≡ ambiguous_again document.operations
-  faults_again s xs b document h =
-      ap (document_faults s) (is_written b document) ∙ (kept_again s xs b document h).faults
-      ∙ flat-entries erase_operation (ambiguous_if (option_map (λ n. n.location) (option_map erase_operation document.operations.anonymous))) document.operations.named
-      ∙ ap (λ p. flat_map (λ x. ambiguous_if p) document.operations.named) (location-erased document.operations.anonymous)
+  self_operation : (n : Op) (o : NodeView Operation) → IsOperationOf s n o
+      → IsOperationOf s (erase_operation o) o
+  self_operation n o h =
+      let again = sets.again s h.0 o.value.selection_set h.1.1.1 in
+      (h.0, (root_again n o h, (ap (with_selections (erase_operation o)) (sym again), h.1.1.1)))
+
+  typed_on : (n : Frag) (f : NodeView Fragment) → IsFragmentOf s n f
+      → IsTypedSet s f.value.selection_set.ty f.value.selection_set
+  typed_on n f h = subst (λ t. IsTypedSet s t f.value.selection_set)
+      (ap (λ (z : Frag). z.value.type_condition) (sym h.0)) h.1
+
+  self_fragment : (n : Frag) (f : NodeView Fragment) → IsFragmentOf s n f
+      → IsFragmentOf s (erase_fragment f) f
+  self_fragment n f h =
+      let again = sets.again s f.value.selection_set.ty f.value.selection_set (typed_on n f h) in
+      (ap (fragment_with (erase_fragment f)) (sym again), typed_on n f h)
+
+  -- ---- nothing is wrong with the write-out of a built definition itself
+
+  is_sound : (path : ExecutableDefinitionName) (n : Op) (o : NodeView Operation) → IsOperationOf s n o
+      → (is_rooted s (erase_operation o) ≡ true) × (faults_in_operation s path (erase_operation o) ≡ [])
+  is_sound path n o h = (
+    ap (λ (r : Option NameView). is_some r) (root_again n o h),
+    ap (rooted_faults s path (erase_operation o)) (root_again n o h)
+        ∙ sets.faultless s h.0 (record { root = path; nested_fields = [] }) o.value.selection_set h.1.1.1,
+  )
+
+  sound_entry : (k : NameView × Op) (e : NameView × NodeView Operation) → IsUnderName (IsOperationOf s) k e
+      → k.1.value.name ≡ Some k.0 → IsSoundOperation s (e.0, erase_operation e.1)
+  sound_entry k e h a = (
+    ap (λ (z : Op). z.value.name) h.1.1.1.0 ∙ a ∙ ap Some (sym h.0),
+    is_sound (name.NamedOperation e.1.value.operation_type e.0) k.1 e.1 h.1,
+  )
+
+  sound_fragment : (k : NameView × Frag) (e : NameView × NodeView Fragment) → IsUnderName (IsFragmentOf s) k e
+      → (k.1.value.name ≡ k.0) × (is_on_type s k.1 ≡ true) → IsSoundFragment s (e.0, erase_fragment e.1)
+  sound_fragment k e h a =
+      let set = e.1.value.selection_set in
+      let whole : SelectionPath = record { root = name.Fragment e.1.value.name; nested_fields = [] } in
+      let on : is_on_type s (erase_fragment e.1) ≡ true = ap (is_on_type s) h.1.0 ∙ a.1 in (
+        ap (λ (z : Frag). z.value.name) h.1.0 ∙ a.0 ∙ sym h.0,
+        (
+          on,
+          ap (on_type_faults s (erase_fragment e.1)) on
+              ∙ sets.faultless s set.ty whole set (typed_on k.1 e.1 h.1),
+        ),
+      )
+
+  sound_option : (k : Option Op) (e : Option (NodeView Operation))
+      → AllZip (IsOperationOf s) (listed k) (listed e) → ((n : Op) → k ≡ Some n → n.value.name ≡ None)
+      → IsSoundIf s (option_map erase_operation e)
+  sound_option k None h a = tt
+  sound_option None (Some e) h a = absurd h
+  sound_option (Some k) (Some e) h a = (
+    ap (λ (z : Op). z.value.name) h.0.1.1.0 ∙ a k refl,
+    is_sound (name.AnonymousOperation e.value.operation_type) k e h.0,
+  )
+
+  is_its_fragment : (ns : List Frag)
+      → AllByRecursion (λ (x : NameView × Frag). (x.1.value.name ≡ x.0) × (is_on_type s x.1 ≡ true))
+      (map fragment_under_name (filter (is_on_type s) ns))
+  is_its_fragment [] = tt
+  is_its_fragment (n ∷ ns) = by (is_on_type s n) refl (is_its_fragment ns)
+    where
+      by : (b : Bool) → is_on_type s n ≡ b
+          → AllByRecursion (λ x. (x.1.value.name ≡ x.0) × (is_on_type s x.1 ≡ true)) (map fragment_under_name
+          (filter (is_on_type s) ns))
+          → AllByRecursion (λ (x : NameView × Frag). (x.1.value.name ≡ x.0) × (is_on_type s x.1 ≡ true))
+          (map fragment_under_name (cond b (n ∷ filter (is_on_type s) ns) (filter (is_on_type s) ns)))
+      by true h rest = ((refl, h), rest)
+      by false h rest = rest
+
+  module _ (xs : List DocumentItem) (b : Bool) (document : ExecutableDocument)
+      (h : IsDocumentOf s xs document) where
+    kept_again : AllKept s b (option_map erase_operation document.operations.anonymous)
+        (entries_by erase_operation document.operations.named) (entries_by erase_fragment document.fragments)
+    kept_again =
+        let named = filter_map operation_under_name (filter (is_rooted s) (operations xs)) in
+        let on = map fragment_under_name (filter (is_on_type s) (fragments xs)) in
+        all_kept s b _ _ _ (sound_option (kept_anonymous s xs) document.operations.anonymous h.anonymous
+        (has_no_name (find (is_rooted s) (operations xs)))) (each_second (IsUnderName (IsOperationOf s))
+        (λ x. x.1.value.name ≡ Some x.0) (λ e. (e.0, erase_operation e.1)) (IsSoundOperation s)
+        sound_entry (kept_named s xs) _ h.named (each-first (λ x. x.1.value.name ≡ Some x.0)
+        (same_key same_text) named (has_its_name (filter (is_rooted s) (operations xs)))))
+        (distinct_table (IsOperationOf s) erase_operation (kept_named s xs) _ h.named
+        (first_of_each-distinct (same_key same_text) named)) (each_second (IsUnderName (IsFragmentOf s))
+        (λ x. (x.1.value.name ≡ x.0) × (is_on_type s x.1 ≡ true)) (λ e. (e.0, erase_fragment e.1))
+        (IsSoundFragment s) sound_fragment (kept_fragments s xs) _ h.fragments
+        (each-first (λ x. (x.1.value.name ≡ x.0) × (is_on_type s x.1 ≡ true)) (same_key same_text) on
+        (is_its_fragment (fragments xs)))) (distinct_table (IsFragmentOf s) erase_fragment
+        (kept_fragments s xs) _ h.fragments (first_of_each-distinct (same_key same_text) on))
+
+    self_document : IsDocumentOf s (written_of b document) document
+    self_document = record {
+      anonymous = subst (λ k. AllZip (IsOperationOf s) (listed k) (listed document.operations.anonymous))
+          (sym kept_again.anonymous)
+          (self_option (IsOperationOf s) erase_operation self_operation (kept_anonymous s xs) _ h.anonymous);
+      named = subst (λ ks. AllZip (IsUnderName (IsOperationOf s)) ks document.operations.named)
+          (sym kept_again.named) (self_list (IsUnderName (IsOperationOf s)) (λ e. (e.0, erase_operation e.1))
+          (λ k e g. (refl, self_operation k.1 e.1 g.1)) (kept_named s xs) _ h.named);
+      fragments = subst (λ ks. AllZip (IsUnderName (IsFragmentOf s)) ks document.fragments)
+          (sym kept_again.fragments)
+          (self_list (IsUnderName (IsFragmentOf s)) (λ e. (e.0, erase_fragment e.1))
+          (λ k e g. (refl, self_fragment k.1 e.1 g.1)) (kept_fragments s xs) _ h.fragments);
+    }
+
+    pub document_is_itself : IsDocumentOf s (document_list b (erased_definitions document)) document
+    document_is_itself = subst (λ ys. IsDocumentOf s ys document) (sym (is_written b document)) self_document
+
+    pub document_is_again : (again : ExecutableDocument)
+        → IsDocumentOf s (document_list b (erased_definitions document)) again
+        → again ≡ record document { sources = again.sources }
+    document_is_again again g = one_document (document_list b (erased_definitions document)) again document g
+        document_is_itself
+
+    pub faults_again : document_faults s (document_list b (erased_definitions document))
+        ≡ ambiguous_again document.operations
+    faults_again =
+        let first = document.operations.anonymous in
+        ap (document_faults s) (is_written b document) ∙ kept_again.faults ∙ flat_map-map {B = NameView × Op}
+        (λ x. ambiguous_if (option_map (λ n. n.location) (option_map erase_operation first)))
+        (λ e. (e.0, erase_operation e.1)) document.operations.named
+        ∙ ap (λ p. flat_map (λ x. ambiguous_if p) document.operations.named) (location-erased first)

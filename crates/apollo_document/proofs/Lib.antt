@@ -1,5 +1,5 @@
 mod AgainLemmas
-mod BuiltLemmas
+pub mod BuiltLemmas
 pub mod Equations
 pub mod ErasedAgain
 pub mod ErasureLemmas
@@ -8,7 +8,5 @@ pub mod LeafLemmas
 mod ListLemmas
 mod OperationLemmas
 mod StandsLemmas
-mod TakenLemmas
-pub mod TypableLemmas
 pub mod TypingLemmas
 mod WrittenLemmas

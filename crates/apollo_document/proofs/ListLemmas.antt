@@ -1,5 +1,6 @@
 -- The first of each name, and what stands after the first, in a list with one more element.
-use Rattle.std.proofs.Common.{◌≡◌, ◌∙◌, ap, sym, refl, Bool, true, false, cond, ◌||◌, List, [], ◌∷◌, ◌++◌, Option, None, Some, option_map, is_some}
+use Rattle.std.proofs.Common.{◌≡◌, ◌∙◌, ap, sym, refl, Bool, true, false, cond, ◌||◌, List, [], ◌∷◌, ◌++◌}
+use Rattle.std.proofs.Common.{Option, None, Some, option_map, is_some}
 use Rattle.std.specs.List.{find, list_any}
 use Rattle.std.specs.Map.{lookup_key}
 use Rattle.std.proofs.lemmas.List.{append-nil, map-append}
@@ -7,57 +8,71 @@ use Rattle.indexmap.specs.IndexMap.{insert_entry}
 use Rattle.graphql_nodes.specs.NameView.{NameView}
 use Rattle.graphql_nodes.specs.SameText.{same_text}
 use Rattle.apollo_component.specs.FirstOfEach.{first_of_each, same_key}
-use Rattle.apollo_component.proofs.FirstOfEachLemmas.{entry_laws, first_of_each-push_new, first_of_each-push_old, insert_entry-last, list_any-first_of_each}
+use Rattle.apollo_component.proofs.FirstOfEachLemmas.{entry_laws, first_of_each-push_new}
+use Rattle.apollo_component.proofs.FirstOfEachLemmas.{first_of_each-push_old, insert_entry-last}
+use Rattle.apollo_component.proofs.FirstOfEachLemmas.{list_any-first_of_each}
 use Rattle.apollo_document.specs.KeptDefinitions.{after_first}
 use Rattle.apollo_document.specs.Stands.{entries_by, put_unless_taken}
 
 -- a key is found where an entry passes
-pub some_key : {K V : Type 0} (test : K → Bool) (es : List (K × V)) → list_any (λ e. test e.0) es ≡ is_some (lookup_key test es)
+pub some_key : {K V : Type 0} (test : K → Bool) (es : List (K × V))
+    → list_any (λ e. test e.0) es ≡ is_some (lookup_key test es)
 some_key test [] = refl
 some_key test (e ∷ es) = by (test e.0) (some_key test es)
   where
-    by : (b : Bool) → list_any (λ e. test e.0) es ≡ is_some (lookup_key test es) → (b || list_any (λ e. test e.0) es) ≡ is_some (cond b (Some e.0) (lookup_key test es))
+    by : (b : Bool) → list_any (λ e. test e.0) es ≡ is_some (lookup_key test es)
+        → (b || list_any (λ e. test e.0) es) ≡ is_some (cond b (Some e.0) (lookup_key test es))
     by true rest = refl
     by false rest = rest
 
-any : {V : Type 0} (es : List (NameView × V)) (m : NameView) (v : V) → list_any (same_key same_text (m, v)) es ≡ is_some (lookup_key (same_text m) (first_of_each (same_key same_text) es))
-any es m v = sym (list_any-first_of_each (same_key same_text) entry_laws (m, v) es) ∙ some_key (same_text m) (first_of_each (same_key same_text) es)
+any : {V : Type 0} (es : List (NameView × V)) (m : NameView) (v : V)
+    → list_any (same_key same_text (m, v)) es
+    ≡ is_some (lookup_key (same_text m) (first_of_each (same_key same_text) es))
+any es m v = sym (list_any-first_of_each (same_key same_text) entry_laws (m, v) es)
+    ∙ some_key (same_text m) (first_of_each (same_key same_text) es)
 
 -- of one more entry, if there is one, the first of each name are those with it put last, unless its name is
 -- taken
 pub first-put : {V : Type 0} (es : List (NameView × V)) (m : NameView) (v : V) (b : Bool)
-    → first_of_each (same_key same_text) (es ++ cond b ((m, v) ∷ []) []) ≡ put_unless_taken m (lookup_key (same_text m) (first_of_each (same_key same_text) es)) (cond b (Some v) None) (first_of_each (same_key same_text) es)
+    → first_of_each (same_key same_text) (es ++ cond b ((m, v) ∷ []) [])
+    ≡ put_unless_taken m (lookup_key (same_text m) (first_of_each (same_key same_text) es))
+    (cond b (Some v) None) (first_of_each (same_key same_text) es)
 first-put {V} es m v b = by (lookup_key (same_text m) (first_of_each (same_key same_text) es)) refl b
   where
-    by : (o : Option NameView) → lookup_key (same_text m) (first_of_each (same_key same_text) es) ≡ o → (b : Bool)
-        → first_of_each (same_key same_text) (es ++ cond b ((m, v) ∷ []) []) ≡ put_unless_taken m o (cond b (Some v) None) (first_of_each (same_key same_text) es)
-    by (Some k) e true = first_of_each-push_old (same_key same_text) entry_laws es (m, v) (any es m v ∙ ap is_some e)
+    by : (o : Option NameView) → lookup_key (same_text m) (first_of_each (same_key same_text) es) ≡ o
+        → (b : Bool)
+        → first_of_each (same_key same_text) (es ++ cond b ((m, v) ∷ []) [])
+        ≡ put_unless_taken m o (cond b (Some v) None) (first_of_each (same_key same_text) es)
+    by (Some k) e true = first_of_each-push_old (same_key same_text) entry_laws es (m, v) (any es m v
+        ∙ ap is_some e)
     by (Some k) e false = ap (first_of_each (same_key same_text)) (append-nil es)
-    by None e true = first_of_each-push_new (same_key same_text) entry_laws es (m, v) (any es m v ∙ ap is_some e)
+    by None e true = first_of_each-push_new (same_key same_text) entry_laws es (m, v) (any es m v
+        ∙ ap is_some e)
     by None e false = ap (first_of_each (same_key same_text)) (append-nil es)
 
--- what the code does with a definition under its name
-pub put-taken : {V : Type 0} (m k : NameView) (v : Option V) (es : List (NameView × V)) → lookup_key (same_text m) es ≡ Some k → es ≡ put_unless_taken m (lookup_key (same_text m) es) v es
-put-taken m k v es h = ap (λ (o : Option NameView). put_unless_taken m o v es) (sym h)
-
-pub put-nothing : {V : Type 0} (m : NameView) (v : Option V) (es : List (NameView × V)) → lookup_key (same_text m) es ≡ None → v ≡ None → es ≡ put_unless_taken m (lookup_key (same_text m) es) v es
-put-nothing m v es h n = λ i. put_unless_taken m (sym h i) (sym n i) es
-
-pub put-last : {V : Type 0} (m k : NameView) (x : V) (v : Option V) (es new : List (NameView × V)) → lookup_key (same_text m) es ≡ None → Some x ≡ v → k ≡ m → new ≡ insert_entry same_text es k x → new ≡ put_unless_taken m (lookup_key (same_text m) es) v es
-put-last m k x v es new h is same put =
-    put ∙ ap (λ n. insert_entry same_text es n x) same ∙ insert_entry-last same_text es m x (some_key (same_text m) es ∙ ap is_some h) ∙ (λ i. put_unless_taken m (sym h i) (is i) es)
+-- what the code puts under a name that isn't taken comes last
+pub put-last : {V : Type 0} (m k : NameView) (x : V) (es new : List (NameView × V))
+    → lookup_key (same_text m) es ≡ None → k ≡ m → new ≡ insert_entry same_text es k x
+    → new ≡ es ++ (m, x) ∷ []
+put-last m k x es new h same put = put ∙ ap (λ n. insert_entry same_text es n x) same
+    ∙ insert_entry-last same_text es m x (some_key (same_text m) es ∙ ap is_some h)
 
 -- entries of values are found, and put, as those of what they are made of
-pub entries-put : {A B : Type 0} (f : A → B) (m : NameView) (taken : Option NameView) (o : Option A) (es : List (NameView × A)) → put_unless_taken m taken (option_map f o) (entries_by f es) ≡ entries_by f (put_unless_taken m taken o es)
+pub entries-put : {A B : Type 0} (f : A → B) (m : NameView) (taken : Option NameView) (o : Option A)
+    (es : List (NameView × A))
+    → put_unless_taken m taken (option_map f o) (entries_by f es)
+    ≡ entries_by f (put_unless_taken m taken o es)
 entries-put f m None (Some a) es = sym (map-append (λ e. (e.0, f e.1)) es ((m, a) ∷ []))
 entries-put f m None None es = refl
 entries-put f m (Some k) o es = refl
 
-pub entries-key : {A B : Type 0} (f : A → B) (test : NameView → Bool) (es : List (NameView × A)) → lookup_key test (entries_by f es) ≡ lookup_key test es
+pub entries-key : {A B : Type 0} (f : A → B) (test : NameView → Bool) (es : List (NameView × A))
+    → lookup_key test (entries_by f es) ≡ lookup_key test es
 entries-key f test [] = refl
 entries-key f test (e ∷ es) = ap (cond (test e.0) (Some e.0)) (entries-key f test es)
 
-pub after-push : {A : Type 0} (p : A → Bool) (xs : List A) (x : A) → after_first p (xs ++ x ∷ []) ≡ cond (is_some (find p xs)) (after_first p xs ++ x ∷ []) []
+pub after-push : {A : Type 0} (p : A → Bool) (xs : List A) (x : A)
+    → after_first p (xs ++ x ∷ []) ≡ cond (is_some (find p xs)) (after_first p xs ++ x ∷ []) []
 after-push p [] x = by (p x)
   where
     by : (b : Bool) → cond b [] (after_first p []) ≡ []
@@ -65,7 +80,9 @@ after-push p [] x = by (p x)
     by false = refl
 after-push {A} p (y ∷ ys) x = by (p y) (after-push p ys x)
   where
-    by : (b : Bool) → after_first p (ys ++ x ∷ []) ≡ cond (is_some (find p ys)) (after_first p ys ++ x ∷ []) []
-        → cond b (ys ++ x ∷ []) (after_first p (ys ++ x ∷ [])) ≡ cond (is_some (cond b (Some y) (find p ys))) (cond b ys (after_first p ys) ++ x ∷ []) []
+    by : (b : Bool)
+        → after_first p (ys ++ x ∷ []) ≡ cond (is_some (find p ys)) (after_first p ys ++ x ∷ []) []
+        → cond b (ys ++ x ∷ []) (after_first p (ys ++ x ∷ [])) ≡ cond (is_some (cond b (Some y) (find p ys)))
+        (cond b ys (after_first p ys) ++ x ∷ []) []
     by true rest = refl
     by false rest = rest

@@ -18,63 +18,51 @@ use Rattle.apollo_document.specs.Typable.{child_of, is_bare, typable_field, typa
 abbrev pub In : Type 1
 In = NameView → Type 0
 
--- one level of a selection. X, X', X'' and X3 stand for what is below, the functions k for the claims on
--- that, and v3 for the sets themselves
-abbrev pub selection_in : (X X' X'' X3 : Type 0) → (X' → In) → (X'' → In) → Selection-F X X' X'' X3 → In
-selection_in X X' X'' X3 k' k'' (Selection-F.Field n) ty = k' n.value ty
-selection_in X X' X'' X3 k' k'' (Selection-F.FragmentSpread n) ty = Unit {0}
-selection_in X X' X'' X3 k' k'' (Selection-F.InlineFragment n) ty = k'' n.value ty
+-- one level of typed selections. X, X', X'' and X3 stand for what is below, the functions v for the typed
+-- values themselves, and the functions k for the claims on what is below
+module _ (s : Option Schema) (X X' X'' X3 : Type 0) where
+  module _ (v : X → Selection) (v' : X' → Field) (v'' : X'' → InlineFragment) (v3 : X3 → SelectionSet) where
+    module _ (k : X → In) (k' : X' → In) (k'' : X'' → In) (k3 : X3 → In) where
+      -- one level of a selection: what is in its node is right for the type
+      abbrev pub selection_in : Selection-F X X' X'' X3 → In
+      selection_in (Selection-F.Field n) ty = k' n.value ty
+      selection_in (Selection-F.FragmentSpread n) ty = Unit {0}
+      selection_in (Selection-F.InlineFragment n) ty = k'' n.value ty
 
--- one level of a field: it is typable with the definition that it has, and its set is right for its child
--- type
-abbrev pub typed_field_in : Option Schema → (X X' X'' X3 : Type 0) → (X3 → SelectionSet) → (X3 → In)
-    → Field-F X X' X'' X3 → In
-typed_field_in s X X' X'' X3 v3 k3 f ty =
-    (typable_field s ty f.name (is_bare (v3 f.selection_set).selections) ≡ Ok f.definition)
-    × k3 f.selection_set (child_of f.definition)
+      -- one level of a field: it is typable with the definition that it has, and its set is right for its
+      -- child type
+      abbrev pub typed_field_in : Field-F X X' X'' X3 → In
+      typed_field_in f ty =
+          (typable_field s ty f.name (is_bare (v3 f.selection_set).selections) ≡ Ok f.definition)
+          × k3 f.selection_set (child_of f.definition)
 
--- one level of an inline fragment: it is typable, and its set is right for its child type
-abbrev pub typed_fragment_in : Option Schema → (X X' X'' X3 : Type 0) → (X3 → In)
-    → InlineFragment-F X X' X'' X3 → In
-typed_fragment_in s X X' X'' X3 k3 f ty = (child : NameView)
-    × ((typable_fragment s ty f.type_condition ≡ Ok child) × k3 f.selection_set child)
+      -- one level of an inline fragment: it is typable, and its set is right for its child type
+      abbrev pub typed_fragment_in : InlineFragment-F X X' X'' X3 → In
+      typed_fragment_in f ty = (child : NameView)
+          × ((typable_fragment s ty f.type_condition ≡ Ok child) × k3 f.selection_set child)
 
--- one level of a set: it is from this type, and each of its selections is right for it
-abbrev pub set_in : (X X' X'' X3 : Type 0) → (X → In) → SelectionSet-F X X' X'' X3 → In
-set_in X X' X'' X3 k x ty = (x.ty ≡ ty) × AllByRecursion (λ (y : X). k y ty) x.selections
+      -- one level of a set: it is from this type, and each of its selections is right for it
+      abbrev pub set_in : SelectionSet-F X X' X'' X3 → In
+      set_in x ty = (x.ty ≡ ty) × AllByRecursion (λ (y : X). k y ty) x.selections
 
 -- a selection is typed in a type, and so is what is below it
 abbrev pub IsTyped : Option Schema → NameView → Selection → Type 0
-IsTyped s ty x = folds.rec-Selection In In In In
-    (λ X X' X'' X3 v v' v'' v3 k k' k'' k3. selection_in X X' X'' X3 k' k'')
-    (λ X X' X'' X3 v v' v'' v3 k k' k'' k3. typed_field_in s X X' X'' X3 v3 k3)
-    (λ X X' X'' X3 v v' v'' v3 k k' k'' k3. typed_fragment_in s X X' X'' X3 k3)
-    (λ X X' X'' X3 v v' v'' v3 k k' k'' k3. set_in X X' X'' X3 k)
-    x ty
+IsTyped s ty x =
+    folds.rec-Selection In In In In (selection_in s) (typed_field_in s) (typed_fragment_in s) (set_in s) x ty
 
 -- a field is typed in a type, and so is what is below it
 abbrev pub IsTypedField : Option Schema → NameView → Field → Type 0
-IsTypedField s ty x = folds.rec-Field In In In In
-    (λ X X' X'' X3 v v' v'' v3 k k' k'' k3. selection_in X X' X'' X3 k' k'')
-    (λ X X' X'' X3 v v' v'' v3 k k' k'' k3. typed_field_in s X X' X'' X3 v3 k3)
-    (λ X X' X'' X3 v v' v'' v3 k k' k'' k3. typed_fragment_in s X X' X'' X3 k3)
-    (λ X X' X'' X3 v v' v'' v3 k k' k'' k3. set_in X X' X'' X3 k)
-    x ty
+IsTypedField s ty x =
+    folds.rec-Field In In In In (selection_in s) (typed_field_in s) (typed_fragment_in s) (set_in s) x ty
 
 -- an inline fragment is typed in a type, and so is what is below it
 abbrev pub IsTypedFragment : Option Schema → NameView → InlineFragment → Type 0
-IsTypedFragment s ty x = folds.rec-InlineFragment In In In In
-    (λ X X' X'' X3 v v' v'' v3 k k' k'' k3. selection_in X X' X'' X3 k' k'')
-    (λ X X' X'' X3 v v' v'' v3 k k' k'' k3. typed_field_in s X X' X'' X3 v3 k3)
-    (λ X X' X'' X3 v v' v'' v3 k k' k'' k3. typed_fragment_in s X X' X'' X3 k3)
-    (λ X X' X'' X3 v v' v'' v3 k k' k'' k3. set_in X X' X'' X3 k)
+IsTypedFragment s ty x =
+    folds.rec-InlineFragment In In In In (selection_in s) (typed_field_in s) (typed_fragment_in s) (set_in s)
     x ty
 
 -- a set is typed in a type, and so is what is below it
 abbrev pub IsTypedSet : Option Schema → NameView → SelectionSet → Type 0
-IsTypedSet s ty x = folds.rec-SelectionSet In In In In
-    (λ X X' X'' X3 v v' v'' v3 k k' k'' k3. selection_in X X' X'' X3 k' k'')
-    (λ X X' X'' X3 v v' v'' v3 k k' k'' k3. typed_field_in s X X' X'' X3 v3 k3)
-    (λ X X' X'' X3 v v' v'' v3 k k' k'' k3. typed_fragment_in s X X' X'' X3 k3)
-    (λ X X' X'' X3 v v' v'' v3 k k' k'' k3. set_in X X' X'' X3 k)
+IsTypedSet s ty x =
+    folds.rec-SelectionSet In In In In (selection_in s) (typed_field_in s) (typed_fragment_in s) (set_in s)
     x ty

@@ -29,6 +29,7 @@ use std::alloc::{AllocError, Global};
 ///
 /// Whatever the answer, the path is afterwards as it was before. The error is out of memory, and leaves the
 /// faults as they were.
+#[tactic(auto, using(crate::proofs::ErasureLemmas::erased_is_stripped, crate::proofs::TypingLemmas::elaborated_is_typed))]
 pub fn elaborate_selections(
     alloc: Global,
     schema: Option<&Schema>,

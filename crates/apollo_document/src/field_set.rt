@@ -55,6 +55,7 @@ impl FieldSet {
     /// an anonymous query.
     ///
     /// The error is out of memory, and drops the name.
+    #[tactic(auto, using(crate::proofs::ErasureLemmas::erased_is_stripped, crate::proofs::TypingLemmas::elaborated_is_typed))]
     pub fn from_ast(
         alloc: Global,
         schema: &Schema,

@@ -49,6 +49,7 @@ pub fn every_list_means_a_document()
 
 /// Each operation that is kept has a root type: the one that the schema names for its kind, or without a
 /// schema the default name. GraphQL specification of October 2021, sections 2.3 and 3.3.1.
+#[tactic(auto, using(crate::proofs::BuiltLemmas::anonymous_rooted, crate::proofs::BuiltLemmas::named_rooted))]
 pub fn kept_operations_are_rooted()
     ensures anonymous { (schema : Option Schema) (xs : List DocumentItem)
         → AllByRecursion (λ operation. is_rooted schema operation

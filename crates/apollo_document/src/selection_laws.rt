@@ -37,6 +37,7 @@ use graphql_ast::selection::Selection;
 /// The selections that a typed set is erased to are all typable in its type, so nothing of them is at fault.
 /// No two typed sets from one type are erased to the same selections. GraphQL specification of October 2021,
 /// sections 2.4 to 2.8.
+#[tactic(auto, using(crate::proofs::ErasedAgain::stripped_again, crate::proofs::ErasedAgain::faultless_again, crate::proofs::ErasedAgain::one_typed))]
 pub fn typed_sets()
     ensures stripped { (schema : Option Schema) (ty : NameView) (set : SelectionSet)
         → IsTypedSet schema ty set → stripped schema ty (erased_set set) ≡ erased_set set }
@@ -49,6 +50,7 @@ pub fn typed_sets()
 /// Take the set that selections are elaborated to from a type. It is erased to the typable ones of them, each
 /// stripped in its child type, and is typed in that type. No other set is both. GraphQL specification of
 /// October 2021, sections 2.4 to 2.8.
+#[tactic(auto, using(crate::proofs::ErasureLemmas::erased_is_stripped, crate::proofs::TypingLemmas::elaborated_is_typed, crate::proofs::ErasedAgain::only_elaborated))]
 pub fn elaborated_sets()
     ensures kept { (schema : Option Schema) (ty : NameView) (xs : List Selection)
         → erased_set (elaborated schema ty xs) ≡ stripped schema ty xs }
@@ -96,6 +98,7 @@ pub fn what_is_typable()
 
 /// In a set that is typed over a schema no field has subselections whose type is a scalar or enum of that
 /// schema. GraphQL specification of October 2021, section 5.3.3.
+#[tactic(auto, using(crate::proofs::LeafLemmas::typed_is_bare))]
 pub fn leaves_of_typed_sets()
     ensures { (schema : Schema) (ty : NameView) (set : SelectionSet) → IsTypedSet (Some schema) ty set
         → AllByRecursion (λ (n : NodeView Field). IsBareOnLeaf schema n.value)

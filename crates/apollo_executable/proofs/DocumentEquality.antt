@@ -6,7 +6,8 @@ use Rattle.graphql_ast.specs.BareDocuments.{bare_variable_definition}
 use Rattle.graphql_ast.specs.contracts.directive.DirectiveListPartialEq.TheImpl as list
 use Rattle.graphql_ast.specs.contracts.operation.VariableDefinitionPartialEq.TheImpl as variable
 use Rattle.apollo_executable.specs.BareSelections.{bare_selection_set}
-use Rattle.apollo_executable.specs.BareDocuments.{bare_operation, bare_fragment, bare_operation_map, bare_document}
+use Rattle.apollo_executable.specs.BareDocuments.{bare_operation, bare_fragment, bare_operation_map}
+use Rattle.apollo_executable.specs.BareDocuments.{bare_document}
 use Rattle.apollo_executable.specs.declared.operation.Operation.{Operation}
 use Rattle.apollo_executable.specs.declared.operation.Fragment.{Fragment}
 use Rattle.apollo_executable.specs.declared.operation_map.OperationMap.{OperationMap}
@@ -16,7 +17,8 @@ use Rattle.apollo_executable.specs.contracts.operation.FragmentPartialEq.TheImpl
 use Rattle.apollo_executable.specs.contracts.operation_map.OperationMapPartialEq.TheImpl as operation_map
 use Rattle.apollo_executable.specs.contracts.document.ExecutableDocumentPartialEq.TheImpl as document
 use Rattle.apollo_executable.specs.contracts.selection.SelectionSetPartialEq.TheImpl as set
-use Rattle.graphql_nodes.proofs.Comparisons.{Compares, of_part, and_then, made, names, nodes, lists, options, kinds}
+use Rattle.graphql_nodes.proofs.Comparisons.{Compares, of_part, and_then, made, names, nodes, lists, options}
+use Rattle.graphql_nodes.proofs.Comparisons.{kinds}
 use Rattle.graphql_nodes.proofs.TableEquality.{tables_of_names}
 
 -- what the laws of equality say of the parts of operations and fragments
@@ -27,15 +29,13 @@ pub record ComparedParts : Type 0 where
 
 module _ (parts : ComparedParts) where
   pub operations : Compares operation.ghosts.eq bare_operation
-  operations =
-      made (λ p. record {
-        operation_type = p.0;
-        name = p.1.0;
-        variables = p.1.1.0;
-        directives = p.1.1.1.0;
-        selection_set = p.1.1.1.1;
-      })
-      (λ o. (o.operation_type, (o.name, (o.variables, (o.directives, o.selection_set))))) (λ _. refl)
+  operations = made (λ p. record {
+    operation_type = p.0;
+    name = p.1.0;
+    variables = p.1.1.0;
+    directives = p.1.1.1.0;
+    selection_set = p.1.1.1.1;
+  }) (λ o. (o.operation_type, (o.name, (o.variables, (o.directives, o.selection_set))))) (λ _. refl)
       (and_then (of_part (λ (o : Operation). o.operation_type) (kinds kind.the_type tt))
       (and_then (of_part (λ (o : Operation). o.name) (options names))
       (and_then (of_part (λ (o : Operation). o.variables) (lists (nodes parts.variable_definitions)))
@@ -43,21 +43,17 @@ module _ (parts : ComparedParts) where
       (of_part (λ (o : Operation). o.selection_set) parts.selection_sets)))))
 
   pub fragments : Compares fragment.ghosts.eq bare_fragment
-  fragments =
-      made (λ p. record { name = p.0; directives = p.1.0; selection_set = p.1.1 })
+  fragments = made (λ p. record { name = p.0; directives = p.1.0; selection_set = p.1.1 })
       (λ f. (f.name, (f.directives, f.selection_set))) (λ _. refl)
-      (and_then (of_part (λ (f : Fragment). f.name) names)
-      (and_then (of_part (λ (f : Fragment). f.directives) parts.directive_lists)
-      (of_part (λ (f : Fragment). f.selection_set) parts.selection_sets)))
+      (and_then (of_part (λ (f : Fragment). f.name) names) (and_then (of_part (λ (f : Fragment). f.directives)
+      parts.directive_lists) (of_part (λ (f : Fragment). f.selection_set) parts.selection_sets)))
 
   pub operation_maps : Compares operation_map.ghosts.eq bare_operation_map
-  operation_maps =
-      made (λ p. record { anonymous = p.0; named = p.1 }) (λ m. (m.anonymous, m.named)) (λ _. refl)
-      (and_then (of_part (λ (m : OperationMap). m.anonymous) (options (nodes operations)))
+  operation_maps = made (λ p. record { anonymous = p.0; named = p.1 }) (λ m. (m.anonymous, m.named))
+      (λ _. refl) (and_then (of_part (λ (m : OperationMap). m.anonymous) (options (nodes operations)))
       (of_part (λ (m : OperationMap). m.named) (tables_of_names (nodes operations))))
 
   pub documents : Compares document.ghosts.eq bare_document
-  documents =
-      made (λ p. record { operations = p.0; fragments = p.1 }) (λ d. (d.operations, d.fragments)) (λ _. refl)
-      (and_then (of_part (λ (d : ExecutableDocument). d.operations) operation_maps)
+  documents = made (λ p. record { operations = p.0; fragments = p.1 }) (λ d. (d.operations, d.fragments))
+      (λ _. refl) (and_then (of_part (λ (d : ExecutableDocument). d.operations) operation_maps)
       (of_part (λ (d : ExecutableDocument). d.fragments) (tables_of_names (nodes fragments))))

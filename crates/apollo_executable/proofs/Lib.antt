@@ -1,5 +1,4 @@
 pub mod DocumentEquality
-pub mod ErrorEquality
 pub mod Erasing
 mod RequestLemmas
 pub mod SelectionEquality

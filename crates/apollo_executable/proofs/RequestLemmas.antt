@@ -17,12 +17,10 @@ only_put_back : (a : Option (NodeView Operation)) (es : List (NameView × NodeVi
     (o : NodeView Operation) → the_only (listed a ++ values_of es) ≡ Some o
     → with_only a (record { anonymous = a; named = es }) o ≡ record { anonymous = a; named = es }
 only_put_back (Some a) [] o h = λ i. record { anonymous = sym h i; named = [] }
-only_put_back (Some a) (e ∷ es) o h = cc
-only_put_back None [] o h = cc
 only_put_back None (e ∷ []) o h =
     let same : o ≡ e.1 = sym (ap (λ (x : Option (NodeView Operation)). unwrap_or x o) h) in
     λ i. record { anonymous = None; named = (e.0, same i) ∷ [] }
-only_put_back None (e ∷ f ∷ es) o h = cc
+only_put_back a es o h = cc
 
 -- nor does any that is asked for
 pub put_back : (m : OperationMap) (name : Option NameView) (o : NodeView Operation) → requested m name

@@ -1,5 +1,6 @@
 -- Equality of typed selections, fields, inline fragments and sets.
-use Rattle.std.proofs.Common.{rules, ◌≡◌, Bool, true, false, ◌&&◌, List, refl, map, ap, subst, nat_eq}
+use Rattle.std.proofs.Common.{rules, ◌≡◌, Bool, true, false, ◌&&◌, List, refl, sym, ◌∙◌, map, ap, subst}
+use Rattle.std.proofs.Common.{nat_eq}
 use Rattle.std.specs.Option.{option_map, option_eq}
 use lib.Pointwise.{pointwise}
 use denote.Hole.Compared.{compared_is}
@@ -13,16 +14,22 @@ use Rattle.graphql_ast.specs.declared.type_system.FieldDefinition.{FieldDefiniti
 use Rattle.graphql_ast.specs.contracts.directive.ArgumentPartialEq.TheImpl as argument
 use Rattle.graphql_ast.specs.contracts.directive.DirectiveListPartialEq.TheImpl as list
 use Rattle.graphql_ast.specs.contracts.type_system.FieldDefinitionPartialEq.TheImpl as definition
-use Rattle.graphql_nodes.proofs.Comparisons.{At, Compares, both_true, and_true, of_part, and_then, made, names, nodes, lists, options, name_at, node_at, list_at, rolled}
-use Rattle.apollo_executable.specs.BareSelections.{bare_selection, bare_field, bare_inline_fragment, bare_selection_set, bare_fragment_spread, selection_step, field_step, inline_step, set_step}
+use Rattle.graphql_nodes.proofs.Comparisons.{At, Compares, both_true, and_true, of_part, and_then, made}
+use Rattle.graphql_nodes.proofs.Comparisons.{names, nodes, lists, options, name_at, node_at, list_at}
+use Rattle.apollo_executable.specs.BareSelections.{bare_selection, bare_field, bare_inline_fragment}
+use Rattle.apollo_executable.specs.BareSelections.{bare_selection_set, bare_fragment_spread}
 use Rattle.apollo_executable.specs.declared.selection.FragmentSpread.{FragmentSpread}
-use Rattle.apollo_executable.specs.declared.selection.Selection.{Selection, roll-Selection, out-Selection, fold-roll-Selection, ind-Selection, the_lemmas}
-use Rattle.apollo_executable.specs.declared.selection.Selection.TheViews.{out-roll-Selection, roll-out-Selection, out-roll-Field, roll-out-Field, out-roll-InlineFragment, roll-out-InlineFragment, out-roll-SelectionSet, roll-out-SelectionSet}
-use Rattle.apollo_executable.specs.declared.selection.Selection.TheFolds.{map-Selection, map-Field, map-InlineFragment, map-SelectionSet, fold-roll-Field, fold-roll-InlineFragment, fold-roll-SelectionSet, ind-Field, ind-InlineFragment, ind-SelectionSet}
-use Rattle.apollo_executable.specs.declared.selection.Selection.TheOpen.{Selection-F, Field-F, InlineFragment-F, SelectionSet-F}
+use Rattle.apollo_executable.specs.declared.selection.Selection.{Selection, roll-Selection, out-Selection}
+use Rattle.apollo_executable.specs.declared.selection.Selection.{the_lemmas}
+use Rattle.apollo_executable.specs.declared.selection.Selection.TheViews as views
+use Rattle.apollo_executable.specs.declared.selection.Selection.TheFolds as folds
+use Rattle.apollo_executable.specs.declared.selection.Selection.TheOpen.{Selection-F, Field-F}
+use Rattle.apollo_executable.specs.declared.selection.Selection.TheOpen.{InlineFragment-F, SelectionSet-F}
 use Rattle.apollo_executable.specs.declared.selection.Field.{Field, roll-Field, out-Field}
-use Rattle.apollo_executable.specs.declared.selection.InlineFragment.{InlineFragment, roll-InlineFragment, out-InlineFragment}
-use Rattle.apollo_executable.specs.declared.selection.SelectionSet.{SelectionSet, roll-SelectionSet, out-SelectionSet}
+use Rattle.apollo_executable.specs.declared.selection.InlineFragment.{InlineFragment, roll-InlineFragment}
+use Rattle.apollo_executable.specs.declared.selection.InlineFragment.{out-InlineFragment}
+use Rattle.apollo_executable.specs.declared.selection.SelectionSet.{SelectionSet, roll-SelectionSet}
+use Rattle.apollo_executable.specs.declared.selection.SelectionSet.{out-SelectionSet}
 use Rattle.apollo_executable.specs.declared.selection.Selection.TheBlock as block
 use Rattle.apollo_executable.specs.contracts.selection.FragmentSpreadPartialEq.TheImpl as spread
 use Rattle.apollo_executable.specs.contracts.selection.SelectionPartialEq.TheImpl as impl
@@ -32,16 +39,16 @@ use Rattle.apollo_executable.specs.contracts.selection.InlineFragmentPartialEq.T
 use Rattle.apollo_executable.specs.contracts.selection.SelectionSetPartialEq.TheImpl as set
 
 -- what `==` answers
-unfoldable pub selection_eq : Selection → Selection → Bool
+unfoldable selection_eq : Selection → Selection → Bool
 selection_eq = impl.ghosts.eq
 
-unfoldable pub field_eq : Field → Field → Bool
+unfoldable field_eq : Field → Field → Bool
 field_eq = field.ghosts.eq
 
-unfoldable pub inline_eq : InlineFragment → InlineFragment → Bool
+unfoldable inline_eq : InlineFragment → InlineFragment → Bool
 inline_eq = inline.ghosts.eq
 
-unfoldable pub set_eq : SelectionSet → SelectionSet → Bool
+unfoldable set_eq : SelectionSet → SelectionSet → Bool
 set_eq = set.ghosts.eq
 
 abbrev name_eq : NameView → NameView → Bool
@@ -75,16 +82,12 @@ selection_layer_eq (Selection-F.InlineFragment x) (Selection-F.InlineFragment y)
 selection_layer_eq _ _ = false
 
 abbrev field_layer_eq : FL → FL → Bool
-field_layer_eq x y =
-    definition_eq x.definition y.definition
-    && (option_eq name_eq x.alias y.alias
-    && (name_eq x.name y.name
-    && (arguments_eq x.arguments y.arguments
+field_layer_eq x y = definition_eq x.definition y.definition && (option_eq name_eq x.alias y.alias
+    && (name_eq x.name y.name && (arguments_eq x.arguments y.arguments
     && (list.ghosts.eq x.directives y.directives && set_eq x.selection_set y.selection_set))))
 
 abbrev inline_layer_eq : IL → IL → Bool
-inline_layer_eq x y =
-    option_eq name_eq x.type_condition y.type_condition
+inline_layer_eq x y = option_eq name_eq x.type_condition y.type_condition
     && (list.ghosts.eq x.directives y.directives && set_eq x.selection_set y.selection_set)
 
 abbrev set_layer_eq : TL → TL → Bool
@@ -92,36 +95,34 @@ set_layer_eq x y = name_eq x.ty y.ty && pointwise selection_eq x.selections y.se
 
 selection-roll : (y z : SL) → selection_eq (roll-Selection y) (roll-Selection z) ≡ selection_layer_eq y z
 unfolding selection_eq field_eq inline_eq set_eq
-selection-roll (Selection-F.Field x) z =
-    rw (compared_is block.the_members block.the_family block.the_depth Bool true impl.the_step laws.local
-    block.member-Selection (roll-Selection (Selection-F.Field x)) (roll-Selection z))
-    (search (rules, the_lemmas))
+selection-roll (Selection-F.Field x) z = rw (compared_is block.the_members block.the_family block.the_depth
+    Bool true impl.the_step laws.local block.member-Selection) (search (rules, the_lemmas))
 selection-roll (Selection-F.FragmentSpread x) z =
     rw (compared_is block.the_members block.the_family block.the_depth Bool true impl.the_step laws.local
-    block.member-Selection (roll-Selection (Selection-F.FragmentSpread x)) (roll-Selection z))
-    (search (rules, the_lemmas))
+    block.member-Selection) (search (rules, the_lemmas))
 selection-roll (Selection-F.InlineFragment x) z =
     rw (compared_is block.the_members block.the_family block.the_depth Bool true impl.the_step laws.local
-    block.member-Selection (roll-Selection (Selection-F.InlineFragment x)) (roll-Selection z))
-    (search (rules, the_lemmas))
+    block.member-Selection) (search (rules, the_lemmas))
 
-field-roll : (y z : FL) → field_eq (roll-Field y) (roll-Field z) ≡ field_layer_eq y z
-unfolding selection_eq field_eq inline_eq set_eq
-field-roll y z =
-    rw (compared_is block.the_members block.the_family block.the_depth Bool true impl.the_step laws.local
-    block.member-Field (roll-Field y) (roll-Field z)) (search (rules, the_lemmas))
+selection-is : (a b : Selection) → selection_eq a b ≡ selection_layer_eq (out-Selection a) (out-Selection b)
+selection-is a b = (λ i. selection_eq (sym (views.roll-out-Selection a) i) (sym (views.roll-out-Selection b)
+    i)) ∙ selection-roll (out-Selection a) (out-Selection b)
 
-inline-roll : (y z : IL) → inline_eq (roll-InlineFragment y) (roll-InlineFragment z) ≡ inline_layer_eq y z
+field-is : (a b : Field) → field_eq a b ≡ field_layer_eq (out-Field a) (out-Field b)
 unfolding selection_eq field_eq inline_eq set_eq
-inline-roll y z =
-    rw (compared_is block.the_members block.the_family block.the_depth Bool true impl.the_step laws.local
-    block.member-InlineFragment (roll-InlineFragment y) (roll-InlineFragment z)) (search (rules, the_lemmas))
+field-is a b = compared_is block.the_members block.the_family block.the_depth Bool true impl.the_step
+    laws.local block.member-Field a b
 
-set-roll : (y z : TL) → set_eq (roll-SelectionSet y) (roll-SelectionSet z) ≡ set_layer_eq y z
+inline-is : (a b : InlineFragment)
+    → inline_eq a b ≡ inline_layer_eq (out-InlineFragment a) (out-InlineFragment b)
 unfolding selection_eq field_eq inline_eq set_eq
-set-roll y z =
-    rw (compared_is block.the_members block.the_family block.the_depth Bool true impl.the_step laws.local
-    block.member-SelectionSet (roll-SelectionSet y) (roll-SelectionSet z)) (search (rules, the_lemmas))
+inline-is a b = compared_is block.the_members block.the_family block.the_depth Bool true impl.the_step
+    laws.local block.member-InlineFragment a b
+
+set-is : (a b : SelectionSet) → set_eq a b ≡ set_layer_eq (out-SelectionSet a) (out-SelectionSet b)
+unfolding selection_eq field_eq inline_eq set_eq
+set-is a b = compared_is block.the_members block.the_family block.the_depth Bool true impl.the_step laws.local
+    block.member-SelectionSet a b
 
 abbrev bare_selection_layer : SL → SL
 bare_selection_layer (Selection-F.Field x) = Selection-F.Field (bare_node bare_field x)
@@ -131,53 +132,59 @@ bare_selection_layer (Selection-F.InlineFragment x) =
     Selection-F.InlineFragment (bare_node bare_inline_fragment x)
 
 abbrev bare_field_layer : FL → FL
-bare_field_layer x =
-    record {
-      definition = bare_node bare_field_definition x.definition;
-      alias = option_map bare_name x.alias;
-      name = bare_name x.name;
-      arguments = map (bare_node bare_argument) x.arguments;
-      directives = bare_directive_list x.directives;
-      selection_set = bare_selection_set x.selection_set;
-    }
+bare_field_layer x = record {
+  definition = bare_node bare_field_definition x.definition;
+  alias = option_map bare_name x.alias;
+  name = bare_name x.name;
+  arguments = map (bare_node bare_argument) x.arguments;
+  directives = bare_directive_list x.directives;
+  selection_set = bare_selection_set x.selection_set;
+}
 
 abbrev bare_inline_layer : IL → IL
-bare_inline_layer x =
-    record {
-      type_condition = option_map bare_name x.type_condition;
-      directives = bare_directive_list x.directives;
-      selection_set = bare_selection_set x.selection_set;
-    }
+bare_inline_layer x = record {
+  type_condition = option_map bare_name x.type_condition;
+  directives = bare_directive_list x.directives;
+  selection_set = bare_selection_set x.selection_set;
+}
 
 abbrev bare_set_layer : TL → TL
 bare_set_layer x = record { ty = bare_name x.ty; selections = map bare_selection x.selections }
 
 bare-selection : (z : SL) → bare_selection (roll-Selection z) ≡ roll-Selection (bare_selection_layer z)
-bare-selection (Selection-F.Field x) =
-    fold-roll-Selection Selection Field InlineFragment SelectionSet selection_step field_step inline_step
-    set_step (Selection-F.Field x)
+bare-selection (Selection-F.Field x) = folds.fold-roll-Selection _ _ _ _ _ _ _ _ (Selection-F.Field x)
 bare-selection (Selection-F.FragmentSpread x) =
-    fold-roll-Selection Selection Field InlineFragment SelectionSet selection_step field_step inline_step
-    set_step (Selection-F.FragmentSpread x)
+    folds.fold-roll-Selection _ _ _ _ _ _ _ _ (Selection-F.FragmentSpread x)
 bare-selection (Selection-F.InlineFragment x) =
-    fold-roll-Selection Selection Field InlineFragment SelectionSet selection_step field_step inline_step
-    set_step (Selection-F.InlineFragment x)
+    folds.fold-roll-Selection _ _ _ _ _ _ _ _ (Selection-F.InlineFragment x)
 
-bare-field : (z : FL) → bare_field (roll-Field z) ≡ roll-Field (bare_field_layer z)
-bare-field z =
-    fold-roll-Field Selection Field InlineFragment SelectionSet selection_step field_step inline_step
-    set_step z
+-- a test says whether two values are one
+abbrev Says : {A : Type 0} → Bool → A → A → Type 0
+Says b x y = (b ≡ true → x ≡ y) × (x ≡ y → b ≡ true)
 
-bare-inline : (z : IL) → bare_inline_fragment (roll-InlineFragment z)
-    ≡ roll-InlineFragment (bare_inline_layer z)
-bare-inline z =
-    fold-roll-InlineFragment Selection Field InlineFragment SelectionSet selection_step field_step inline_step
-    set_step z
+both : {A B : Type 0} {p q : Bool} {x y : A} {u v : B} → Says p x y → Says q u v
+    → Says {A = A × B} (p && q) (x, u) (y, v)
+both {p = p} {q = q} s t = (
+  λ h. let w = both_true p q h in let l = s.0 w.0 in let r = t.0 w.1 in λ i. (l i, r i),
+  λ h. and_true p q (s.1 (λ i. (h i).0)) (t.1 (λ i. (h i).1)),
+)
 
-bare-set : (z : TL) → bare_selection_set (roll-SelectionSet z) ≡ roll-SelectionSet (bare_set_layer z)
-bare-set z =
-    fold-roll-SelectionSet Selection Field InlineFragment SelectionSet selection_step field_step inline_step
-    set_step z
+-- the same of what is made of them, from which they can be read back
+remade : {A B : Type 0} {p : Bool} {x y : A} (to : A → B) (back : B → A) → ((z : A) → back (to z) ≡ z)
+    → Says p x y → Says p (to x) (to y)
+remade {x = x} {y = y} to back r s = (λ h. ap to (s.0 h), λ h. s.1 (sym (r x) ∙ ap back h ∙ r y))
+
+-- from one level to the values
+met : {A L : Type 0} (E : A → A → Bool) (f : A → A) (roll : L → A) (out : A → L) (e : L → L → Bool) (g : L
+    → L) → ((a b : A) → E a b ≡ e (out a) (out b)) → ((z : L) → f (roll z) ≡ roll (g z))
+    → ((z : L) → out (roll z) ≡ z) → ((a : A) → roll (out a) ≡ a) → (x : L) (b : A) → At e g x (out b)
+    → At E f (roll x) b
+met E f roll out e g er fr or ro x b s =
+    let one = er (roll x) b ∙ ap (λ l. e l (out b)) (or x) in
+    let bare = ap f (sym (ro b)) ∙ fr (out b) in (
+      λ h. fr x ∙ ap roll (s.0 (sym one ∙ h)) ∙ sym bare,
+      λ h. one ∙ s.1 (sym (or (g x)) ∙ ap out (sym (fr x) ∙ h ∙ bare) ∙ or (g (out b))),
+    )
 
 abbrev OfSelection : Selection → Type 0
 OfSelection a = (b : Selection) → At selection_eq bare_selection a b
@@ -191,40 +198,16 @@ OfInline a = (b : InlineFragment) → At inline_eq bare_inline_fragment a b
 abbrev OfSet : SelectionSet → Type 0
 OfSet a = (b : SelectionSet) → At set_eq bare_selection_set a b
 
--- each with what is to be shown of it
-abbrev S : Type 0
-S = (d : Selection) × OfSelection d
+-- one level, whose parts have what is to be shown of them
+abbrev Level : Type 0
+Level = Selection-F ((d : Selection) × OfSelection d) ((d : Field) × OfField d) ((d : InlineFragment)
+    × OfInline d) ((d : SelectionSet) × OfSet d)
 
-abbrev F : Type 0
-F = (d : Field) × OfField d
-
-abbrev I : Type 0
-I = (d : InlineFragment) × OfInline d
-
-abbrev T : Type 0
-T = (d : SelectionSet) × OfSet d
-
-abbrev along : {A B : Type 0} → (A → B) → NodeView A → NodeView B
-along f n = record { value = f n.value; location = n.location }
-
-abbrev plain_selection : Selection-F S F I T → SL
-plain_selection =
-    map-Selection S F I T Selection Field InlineFragment SelectionSet (λ e. e.0) (λ e. e.0) (λ e. e.0)
-    (λ e. e.0)
-
-abbrev plain_field : Field-F S F I T → FL
-plain_field =
-    map-Field S F I T Selection Field InlineFragment SelectionSet (λ e. e.0) (λ e. e.0) (λ e. e.0) (λ e. e.0)
-
-abbrev plain_inline : InlineFragment-F S F I T → IL
-plain_inline =
-    map-InlineFragment S F I T Selection Field InlineFragment SelectionSet (λ e. e.0) (λ e. e.0) (λ e. e.0)
-    (λ e. e.0)
-
-abbrev plain_set : SelectionSet-F S F I T → TL
-plain_set =
-    map-SelectionSet S F I T Selection Field InlineFragment SelectionSet (λ e. e.0) (λ e. e.0) (λ e. e.0)
-    (λ e. e.0)
+abbrev alone : Level → SL
+alone (Selection-F.Field n) = Selection-F.Field (record { value = n.value.0; location = n.location })
+alone (Selection-F.FragmentSpread n) = Selection-F.FragmentSpread n
+alone (Selection-F.InlineFragment n) =
+    Selection-F.InlineFragment (record { value = n.value.0; location = n.location })
 
 -- what the laws of equality say of the parts of typed selections
 pub record ComparedParts : Type 0 where
@@ -233,135 +216,112 @@ pub record ComparedParts : Type 0 where
   pub field_definitions : Compares definition.ghosts.eq bare_field_definition
 
 module _ (parts : ComparedParts) where
-  pub fragment_spreads : Compares spread.ghosts.eq bare_fragment_spread
-  fragment_spreads =
-      made (λ p. record { fragment_name = p.0; directives = p.1 }) (λ s. (s.fragment_name, s.directives))
-      (λ _. refl)
+  fragment_spreads : Compares spread.ghosts.eq bare_fragment_spread
+  fragment_spreads = made (λ p. record { fragment_name = p.0; directives = p.1 })
+      (λ s. (s.fragment_name, s.directives)) (λ _. refl)
       (and_then (of_part (λ (s : FragmentSpread). s.fragment_name) names)
       (of_part (λ (s : FragmentSpread). s.directives) parts.directive_lists))
 
-  selection_layers : (y : Selection-F S F I T) (z : SL)
-      → At selection_layer_eq bare_selection_layer (plain_selection y) z
-  selection_layers (Selection-F.Field x) (Selection-F.Field z) =
-      let t = node_at field_eq bare_field (along (λ (e : F). e.0) x) z (x.value.1 z.value) in
-      (λ h. ap Selection-F.Field (t.0 h), λ h. t.1 cc)
-  selection_layers (Selection-F.Field x) z = (λ h. cc, λ h. cc)
-  selection_layers (Selection-F.FragmentSpread x) (Selection-F.FragmentSpread z) =
+  selection_level : (y : Level) (z : SL) → At selection_layer_eq bare_selection_layer (alone y) z
+  selection_level (Selection-F.Field x) (Selection-F.Field z) =
+      let t = node_at field_eq bare_field (record { value = x.value.0; location = x.location }) z
+      (x.value.1 z.value) in (λ h. ap Selection-F.Field (t.0 h), λ h. t.1 cc)
+  selection_level (Selection-F.FragmentSpread x) (Selection-F.FragmentSpread z) =
       let t = (nodes fragment_spreads).at x z in (λ h. ap Selection-F.FragmentSpread (t.0 h), λ h. t.1 cc)
-  selection_layers (Selection-F.FragmentSpread x) z = (λ h. cc, λ h. cc)
-  selection_layers (Selection-F.InlineFragment x) (Selection-F.InlineFragment z) =
-      let t = node_at inline_eq bare_inline_fragment (along (λ (e : I). e.0) x) z (x.value.1 z.value) in
-      (λ h. ap Selection-F.InlineFragment (t.0 h), λ h. t.1 cc)
-  selection_layers (Selection-F.InlineFragment x) z = (λ h. cc, λ h. cc)
+  selection_level (Selection-F.InlineFragment x) (Selection-F.InlineFragment z) =
+      let t = node_at inline_eq bare_inline_fragment (record { value = x.value.0; location = x.location }) z
+      (x.value.1 z.value) in (λ h. ap Selection-F.InlineFragment (t.0 h), λ h. t.1 cc)
+  selection_level y z = (λ h. cc, λ h. cc)
 
-  field_layers : (y : Field-F S F I T) (z : FL) → At field_layer_eq bare_field_layer (plain_field y) z
-  field_layers y z =
-      let f = (nodes parts.field_definitions).at y.definition z.definition in
-      let a = (options names).at y.alias z.alias in let n = name_at y.name z.name in
-      let g = (lists (nodes parts.arguments)).at y.arguments z.arguments in
-      let d = parts.directive_lists.at y.directives z.directives in
-      let s = y.selection_set.1 z.selection_set in (
-        λ h. let o = both_true (definition_eq y.definition z.definition) _ h in
-            let p = both_true (option_eq name_eq y.alias z.alias) _ o.1 in
-            let q = both_true (name_eq y.name z.name) _ p.1 in
-            let r = both_true (arguments_eq y.arguments z.arguments) _ q.1 in
-            let t = both_true (list.ghosts.eq y.directives z.directives) _ r.1 in
-            let pf = f.0 o.0 in let pa = a.0 p.0 in let pn = n.0 q.0 in let pg = g.0 r.0 in
-            let pd = d.0 t.0 in let ps = s.0 t.1 in
-            λ i. record {
-              definition = pf i;
-              alias = pa i;
-              name = pn i;
-              arguments = pg i;
-              directives = pd i;
-              selection_set = ps i;
-            },
-        λ h. and_true _ _ (f.1 (λ i. (h i).definition))
-            (and_true _ _ (a.1 (λ i. (h i).alias))
-            (and_true _ _ (n.1 (λ i. (h i).name))
-            (and_true _ _ (g.1 (λ i. (h i).arguments))
-            (and_true _ _ (d.1 (λ i. (h i).directives)) (s.1 (λ i. (h i).selection_set)))))),
-      )
+  field_level : (y z : FL) → At set_eq bare_selection_set y.selection_set z.selection_set
+      → At field_layer_eq bare_field_layer y z
+  field_level y z s = remade {B = FL} (λ p. record {
+    definition = p.0;
+    alias = p.1.0;
+    name = p.1.1.0;
+    arguments = p.1.1.1.0;
+    directives = p.1.1.1.1.0;
+    selection_set = p.1.1.1.1.1;
+  }) (λ l. (l.definition, (l.alias, (l.name, (l.arguments, (l.directives, l.selection_set))))))
+      (λ _. refl) (both ((nodes parts.field_definitions).at y.definition z.definition)
+      (both ((options names).at y.alias z.alias) (both (name_at y.name z.name)
+      (both ((lists (nodes parts.arguments)).at y.arguments z.arguments)
+      (both (parts.directive_lists.at y.directives z.directives) s)))))
 
-  inline_layers : (y : InlineFragment-F S F I T) (z : IL)
-      → At inline_layer_eq bare_inline_layer (plain_inline y) z
-  inline_layers y z =
-      let c = (options names).at y.type_condition z.type_condition in
-      let d = parts.directive_lists.at y.directives z.directives in
-      let s = y.selection_set.1 z.selection_set in (
-        λ h. let p = both_true (option_eq name_eq y.type_condition z.type_condition) _ h in
-            let t = both_true (list.ghosts.eq y.directives z.directives) _ p.1 in
-            let pc = c.0 p.0 in let pd = d.0 t.0 in let ps = s.0 t.1 in
-            λ i. record { type_condition = pc i; directives = pd i; selection_set = ps i },
-        λ h. and_true _ _ (c.1 (λ i. (h i).type_condition))
-            (and_true _ _ (d.1 (λ i. (h i).directives)) (s.1 (λ i. (h i).selection_set))),
-      )
+  inline_level : (y z : IL) → At set_eq bare_selection_set y.selection_set z.selection_set
+      → At inline_layer_eq bare_inline_layer y z
+  inline_level y z s = remade {B = IL}
+      (λ p. record { type_condition = p.0; directives = p.1.0; selection_set = p.1.1 })
+      (λ l. (l.type_condition, (l.directives, l.selection_set))) (λ _. refl)
+      (both ((options names).at y.type_condition z.type_condition)
+      (both (parts.directive_lists.at y.directives z.directives) s))
 
-  set_layers : (y : SelectionSet-F S F I T) (z : TL) → At set_layer_eq bare_set_layer (plain_set y) z
-  set_layers y z =
-      let n = name_at y.ty z.ty in
-      let s = list_at selection_eq bare_selection (λ (e : S). e.0) (λ e z. e.1 z) y.selections
-      z.selections in (
-        λ h. let p = both_true (name_eq y.ty z.ty) _ h in let pn = n.0 p.0 in let ps = s.0 p.1 in
-            λ i. record { ty = pn i; selections = ps i },
-        λ h. and_true _ _ (n.1 (λ i. (h i).ty)) (s.1 (λ i. (h i).selections)),
-      )
+  set_level : (y z : TL) → At (pointwise selection_eq) (map bare_selection) y.selections z.selections
+      → At set_layer_eq bare_set_layer y z
+  set_level y z s = remade {B = TL} (λ p. record { ty = p.0; selections = p.1 }) (λ l. (l.ty, l.selections))
+      (λ _. refl) (both (name_at y.ty z.ty) s)
 
-  selection_met : (x : SL) (y : Selection-F S F I T) → plain_selection y ≡ x → OfSelection (roll-Selection x)
-  selection_met x y is b =
-      subst (λ c. At selection_eq bare_selection (roll-Selection x) c) (roll-out-Selection b)
-      (rolled selection_eq bare_selection roll-Selection out-Selection selection_layer_eq bare_selection_layer
-      selection-roll bare-selection out-roll-Selection x (out-Selection b)
-      (subst (λ l. At selection_layer_eq bare_selection_layer l (out-Selection b)) is
-      (selection_layers y (out-Selection b))))
+  selection_met : (y : Level) → OfSelection (roll-Selection (alone y))
+  selection_met y b = met selection_eq bare_selection roll-Selection out-Selection selection_layer_eq
+      bare_selection_layer selection-is bare-selection views.out-roll-Selection views.roll-out-Selection
+      (alone y) b (selection_level y (out-Selection b))
 
-  field_met : (x : FL) (y : Field-F S F I T) → plain_field y ≡ x → OfField (roll-Field x)
-  field_met x y is b = subst (λ c. At field_eq bare_field (roll-Field x) c) (roll-out-Field b)
-      (rolled field_eq bare_field roll-Field out-Field field_layer_eq bare_field_layer field-roll bare-field
-      out-roll-Field x (out-Field b) (subst (λ l. At field_layer_eq bare_field_layer l (out-Field b)) is
-      (field_layers y (out-Field b))))
+  field_met : (y : FL) → OfSet y.selection_set → OfField (roll-Field y)
+  field_met y s b = met field_eq bare_field roll-Field out-Field field_layer_eq bare_field_layer field-is
+      (folds.fold-roll-Field _ _ _ _ _ _ _ _) views.out-roll-Field views.roll-out-Field y b
+      (field_level y (out-Field b) (s (out-Field b).selection_set))
 
-  inline_met : (x : IL) (y : InlineFragment-F S F I T) → plain_inline y ≡ x → OfInline (roll-InlineFragment x)
-  inline_met x y is b =
-      subst (λ c. At inline_eq bare_inline_fragment (roll-InlineFragment x) c) (roll-out-InlineFragment b)
-      (rolled inline_eq bare_inline_fragment roll-InlineFragment out-InlineFragment inline_layer_eq
-      bare_inline_layer inline-roll bare-inline out-roll-InlineFragment x (out-InlineFragment b)
-      (subst (λ l. At inline_layer_eq bare_inline_layer l (out-InlineFragment b)) is
-      (inline_layers y (out-InlineFragment b))))
+  inline_met : (y : IL) → OfSet y.selection_set → OfInline (roll-InlineFragment y)
+  inline_met y s b = met inline_eq bare_inline_fragment roll-InlineFragment out-InlineFragment inline_layer_eq
+      bare_inline_layer inline-is (folds.fold-roll-InlineFragment _ _ _ _ _ _ _ _)
+      views.out-roll-InlineFragment views.roll-out-InlineFragment y b (inline_level y (out-InlineFragment b)
+      (s (out-InlineFragment b).selection_set))
 
-  set_met : (x : TL) (y : SelectionSet-F S F I T) → plain_set y ≡ x → OfSet (roll-SelectionSet x)
-  set_met x y is b =
-      subst (λ c. At set_eq bare_selection_set (roll-SelectionSet x) c) (roll-out-SelectionSet b)
-      (rolled set_eq bare_selection_set roll-SelectionSet out-SelectionSet set_layer_eq bare_set_layer
-      set-roll bare-set out-roll-SelectionSet x (out-SelectionSet b)
-      (subst (λ l. At set_layer_eq bare_set_layer l (out-SelectionSet b)) is
-      (set_layers y (out-SelectionSet b))))
+  set_met : (y : TL)
+      → ((zs : List Selection) → At (pointwise selection_eq) (map bare_selection) y.selections zs)
+      → OfSet (roll-SelectionSet y)
+  set_met y s b = met set_eq bare_selection_set roll-SelectionSet out-SelectionSet set_layer_eq bare_set_layer
+      set-is (folds.fold-roll-SelectionSet _ _ _ _ _ _ _ _) views.out-roll-SelectionSet
+      views.roll-out-SelectionSet y b (set_level y (out-SelectionSet b) (s (out-SelectionSet b).selections))
+
+  set_at : (a : SelectionSet) → OfSet a
+  set_at = folds.ind-SelectionSet OfSelection OfField OfInline OfSet
+      (λ x y is. subst (λ z. OfSelection (roll-Selection z)) is (selection_met y))
+      (λ x y is. subst (λ z. OfField (roll-Field z)) is (field_met _ y.selection_set.1))
+      (λ x y is. subst (λ z. OfInline (roll-InlineFragment z)) is (inline_met _ y.selection_set.1))
+      (λ x y is. subst (λ z. OfSet (roll-SelectionSet z)) is
+      (set_met _ (list_at selection_eq bare_selection (λ e. e.0) (λ e z. e.1 z) y.selections)))
+
+  field_at : (a : Field) → OfField a
+  field_at a = subst OfField (views.roll-out-Field a) (field_met (out-Field a) (set_at a.selection_set))
+
+  inline_at : (a : InlineFragment) → OfInline a
+  inline_at a = subst OfInline (views.roll-out-InlineFragment a) (inline_met (out-InlineFragment a)
+      (set_at a.selection_set))
+
+  of_level : (x : SL) → OfSelection (roll-Selection x)
+  of_level (Selection-F.Field n) =
+      selection_met (Selection-F.Field
+      (record { value = (n.value, field_at n.value); location = n.location }))
+  of_level (Selection-F.FragmentSpread n) = selection_met (Selection-F.FragmentSpread n)
+  of_level (Selection-F.InlineFragment n) =
+      selection_met (Selection-F.InlineFragment
+      (record { value = (n.value, inline_at n.value); location = n.location }))
 
   pub selections : Compares impl.ghosts.eq bare_selection
   unfolding selection_eq
-  selections =
-      record {
-        at = ind-Selection OfSelection OfField OfInline OfSet selection_met field_met inline_met
-            set_met;
-      }
+  selections = record {
+    at = λ a. subst OfSelection (views.roll-out-Selection a) (of_level (out-Selection a));
+  }
 
   pub fields : Compares field.ghosts.eq bare_field
   unfolding field_eq
-  fields =
-      record { at = ind-Field OfSelection OfField OfInline OfSet selection_met field_met inline_met set_met }
+  fields = record { at = field_at }
 
   pub inline_fragments : Compares inline.ghosts.eq bare_inline_fragment
   unfolding inline_eq
-  inline_fragments =
-      record {
-        at = ind-InlineFragment OfSelection OfField OfInline OfSet selection_met field_met inline_met
-            set_met;
-      }
+  inline_fragments = record { at = inline_at }
 
   pub selection_sets : Compares set.ghosts.eq bare_selection_set
   unfolding set_eq
-  selection_sets =
-      record {
-        at = ind-SelectionSet OfSelection OfField OfInline OfSet selection_met field_met inline_met
-            set_met;
-      }
+  selection_sets = record { at = set_at }

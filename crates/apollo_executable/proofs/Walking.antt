@@ -1,7 +1,6 @@
 pub mod CallLemmas
 pub mod FlagLemmas
 pub mod IntrospectionLemmas
-pub mod ItemLemmas
 pub mod NextLemmas
 pub mod PlainLemmas
 pub mod ReadingLemmas

@@ -24,8 +24,7 @@ module _ {F : Type 0} where
       at : (s : Bool) → same n e.0 ≡ s → unopened es (with_name n before) + at_fragment 0 (λ set. cond b 0 1)
           (fragment_of es n) ≤ unopened es before
           → cond (s || before e.0) 0 1 + unopened es (with_name n before) + at_fragment 0 (λ set. cond b 0 1)
-          (cond s (Some e.1) (fragment_of es n))
-          ≤ cond (before e.0) 0 1 + unopened es before
+          (cond s (Some e.1) (fragment_of es n)) ≤ cond (before e.0) 0 1 + unopened es before
       at true alike rest =
           let here : before e.0 ≡ b = ap before (sym (same-true n e.0 alike)) ∙ is in rw here (omega arith)
       at false other rest = omega arith
@@ -33,12 +32,11 @@ module _ {F : Type 0} where
   unopened-with_names : (fragments : Fragments F) (ns : List (List ℕ)) (before : Names)
       → unopened fragments (with_names ns before) ≤ unopened fragments before
   unopened-with_names fragments [] before = omega arith
-  unopened-with_names fragments (n ∷ ns) before =
-      omega (
-        arith,
-        opening fragments n before (before n) refl,
-        unopened-with_names fragments ns (with_name n before),
-      )
+  unopened-with_names fragments (n ∷ ns) before = omega (
+    arith,
+    opening fragments n before (before n) refl,
+    unopened-with_names fragments ns (with_name n before),
+  )
 
 -- what the order gives and opens
 pub record Ordered {F : Type 0} (fragments : Fragments F) (before : Names) (s : Selections F) : Type 0 where
@@ -59,8 +57,7 @@ module _ {F : Type 0} (fragments : Fragments F) where
       → Ordered fragments names set)
       → (before : Names) (s : Selections F) → unopened fragments before ≤ k → Ordered fragments before s
   in_reach k deeper before none le = record { fields = []; opened = []; order = of_none }
-  in_reach k deeper before (inline inner rest) le =
-      both (in_reach k deeper before inner le)
+  in_reach k deeper before (inline inner rest) le = both (in_reach k deeper before inner le)
       (λ names less. in_reach k deeper names rest (omega (arith, less)))
   in_reach k deeper before (field f below rest) le =
       let o = both (in_reach k deeper before below le)

@@ -50,11 +50,10 @@ with_names-in (n ∷ ns) q before (inr (inr h)) = with_names-in ns q (with_name 
 pub with_names-cases : (ns : List (List ℕ)) (q : List ℕ) (before : Names) → with_names ns before q ≡ true
     → (before q ≡ true) ⊎ Among q ns
 with_names-cases [] q before h = inl h
-with_names-cases (n ∷ ns) q before h =
-    elim (with_names-cases ns q (with_name n before) h) [
-      | inl at ↦ elim (with_name-cases n q before at) [ inl o ↦ inl o | inr e ↦ inr (inl e) ]
-      | inr among ↦ inr (inr among)
-    ]
+with_names-cases (n ∷ ns) q before h = elim (with_names-cases ns q (with_name n before) h) [
+  | inl at ↦ elim (with_name-cases n q before at) [ inl o ↦ inl o | inr e ↦ inr (inl e) ]
+  | inr among ↦ inr (inr among)
+]
 
 pub EachOnce-append : {A : Type 0} (xs ys : List A) → EachOnce xs → EachOnce ys
     → ((a : A) → Among a xs → Among a ys → ⊥) → EachOnce (xs ++ ys)

@@ -7,7 +7,7 @@ use Rattle.apollo_walks.specs.Reachable.{Among, EachOnce, AreReachable, at_fragm
 use Rattle.apollo_walks.specs.Turns.{size, whole_turns, selections_in_reach, turns_in_reach, AreAllTurns}
 use Rattle.apollo_walks.proofs.Existence.{ordered}
 use Rattle.apollo_walks.proofs.Reached.{Among-shuffled}
-use Rattle.apollo_walks.proofs.Whole.{order-reaches, order-few}
+use Rattle.apollo_walks.proofs.Whole.{order_reaches, order-few}
 
 module _ {A : Type 0} where
   taken-out : (x : A) (ys : List A) → Among x ys → (others : List A) × IsPermutation ys (x ∷ others)
@@ -41,14 +41,13 @@ module _ {A : Type 0} where
       by : (others : List A) → IsPermutation ys (xs ++ others)
           → (more : List A) × IsPermutation xs (ys ++ more) → IsPermutation xs ys
       by [] p q = IsPermutation-sym ys xs (rw append-nil at p)
-      by (o ∷ os) p q =
-          absurd (omega (
-            arith,
-            length_permutation _ _ p,
-            length-append xs (o ∷ os),
-            length_permutation _ _ q.1,
-            length-append ys q.0,
-          ))
+      by (o ∷ os) p q = absurd (omega (
+        arith,
+        length_permutation _ _ p,
+        length-append xs (o ∷ os),
+        length_permutation _ _ q.1,
+        length-append ys q.0,
+      ))
 
 module _ {F : Type 0} (fragments : Fragments F) (s : Selections F) where
   pub reachable-shuffled : (ms ns : List (List ℕ)) → AreReachable fragments s ms → AreReachable fragments s ns
@@ -70,7 +69,7 @@ module _ {F : Type 0} (fragments : Fragments F) (s : Selections F) where
   turns-few ns p =
       let o = ordered fragments no_names s in
       let few = order-few fragments s o.fields o.opened o.order in
-      let shuffled = reachable-shuffled o.opened ns (order-reaches fragments s o.fields o.opened o.order) p in
+      let shuffled = reachable-shuffled o.opened ns (order_reaches fragments s o.fields o.opened o.order) p in
       let size_same = sum_by-IsPermutation (λ n. at_fragment 0 size (fragment_of fragments n)) o.opened ns
       shuffled in
       omega (arith, few, size_same, turns-same o.opened ns shuffled)

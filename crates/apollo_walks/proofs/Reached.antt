@@ -46,8 +46,7 @@ module _ {F : Type 0} (fragments : Fragments F) (f : F) (s : Selections F) (fiel
   at-found (Some set) h = (set, refl, h)
 
   pub in-walk : Among f fields → IsReached fragments s f
-  in-walk h =
-      elim (Among-split f (occurrences s) (occurrences_in fragments w.opened)
+  in-walk h = elim (Among-split f (occurrences s) (occurrences_in fragments w.opened)
       (Among-shuffled f fields (reachable_occurrences fragments s w.opened) w.each_once h)) [
         | inl own ↦ inl own
         | inr inside ↦ (
@@ -58,18 +57,16 @@ module _ {F : Type 0} (fragments : Fragments F) (f : F) (s : Selections F) (fiel
       ]
 
   pub walk-has : IsReached fragments s f → Among f fields
-  walk-has reached =
-      Among-shuffled f (reachable_occurrences fragments s w.opened) fields
-      (IsPermutation-sym fields (reachable_occurrences fragments s w.opened) w.each_once)
-      (elim reached [
+  walk-has reached = Among-shuffled f (reachable_occurrences fragments s w.opened) fields
+      (IsPermutation-sym fields (reachable_occurrences fragments s w.opened) w.each_once) (elim reached [
         | inl own ↦ Among-left f (occurrences s) (occurrences_in fragments w.opened) own
         | inr (n, set, leads, found, h) ↦ Among-right f (occurrences s) (occurrences_in fragments w.opened)
             (joined-Among f (λ n. at_fragment [] occurrences (fragment_of fragments n)) w.opened n
             (w.reachable.complete n leads) (rw found h))
       ])
 
-pub reachable-within : {F : Type 0} (fragments : Fragments F) (s : Selections F) (set : Names)
+pub reachable_within : {F : Type 0} (fragments : Fragments F) (s : Selections F) (set : Names)
     → IsClosed fragments s set → (n : List ℕ) → Reachable fragments s n → set n ≡ true
-reachable-within fragments s set closed n (spread_at_the_start among found) = closed.start n _ among found
-reachable-within fragments s set closed n (spread_in_a_fragment {m = m} before at among found) =
-    closed.further m n _ _ (reachable-within fragments s set closed m before) at among found
+reachable_within fragments s set closed n (spread_at_the_start among found) = closed.start n _ among found
+reachable_within fragments s set closed n (spread_in_a_fragment {m = m} before at among found) =
+    closed.further m n _ _ (reachable_within fragments s set closed m before) at among found

@@ -1,5 +1,5 @@
 -- What is to come of a walk, turn by turn.
-use Rattle.std.proofs.Common.{◌≡◌, ◌⊎◌, inr, ◌+◌, ℕ, true, false, List, [], ◌∷◌, ◌++◌, None, Some, refl, sym, ap, ◌∙◌, arith, append_assoc, append-nil}
+use Rattle.std.proofs.Common.{◌≡◌, ◌⊎◌, inr, ◌+◌, ℕ, suc, true, false, List, [], ◌∷◌, ◌++◌, None, Some, refl, sym, ap, ◌∙◌, arith, append_assoc, append-nil}
 use Rattle.std.proofs.lemmas.List.Sums.{sum_by-cons}
 use Rattle.apollo_walks.specs.Selections.{Selections, none, field, spread, inline, Fragments, Names, no_names, with_name, with_names, fragment_of}
 use Rattle.apollo_walks.specs.Reachable.{at_fragment}
@@ -10,7 +10,7 @@ use Rattle.apollo_walks.specs.WalkOrder.{Order, of_none, of_inline, of_field, of
 use Rattle.apollo_walks.proofs.Existence.{ordered}
 use Rattle.apollo_walks.proofs.Names.{with_names-append, with_names-in}
 use Rattle.apollo_walks.proofs.Orders.{order-determined}
-use Rattle.apollo_walks.proofs.Whole.{opened-among, order-reaches, order-walk}
+use Rattle.apollo_walks.proofs.Whole.{opened-among, order_reaches, order-walk}
 
 module _ {F : Type 0} (fragments : Fragments F) where
   -- there is one that is to come
@@ -54,9 +54,7 @@ module _ {F : Type 0} (fragments : Fragments F) where
       → Order fragments before (inline below (joined ss)) fs ns
       × (turns_of_lists (over below ss) ≡ lists_below below + own_turns below + turns_of_lists ss)
   over-joined none ss order = (of_inline of_none order, omega arith)
-  over-joined (field f below rest) ss order = (order, omega arith)
-  over-joined (spread n rest) ss order = (order, omega arith)
-  over-joined (inline inner rest) ss order = (order, omega arith)
+  over-joined s ss order = (order, omega arith)
 
   module _ (before : Names) where
     field-first : {f : F} {below rest t : Selections F} {fs : List F} {ns : List (List ℕ)}
@@ -65,8 +63,7 @@ module _ {F : Type 0} (fragments : Fragments F) where
     field-first (of_inline a b) = of_inline (of_field a) b
 
     passed-first : {n : List ℕ} {rest t : Selections F} {fs : List F} {ns : List (List ℕ)}
-        → (before n ≡ true) ⊎ (fragment_of fragments n ≡ None)
-        → Order fragments before (inline rest t) fs ns
+        → (before n ≡ true) ⊎ (fragment_of fragments n ≡ None) → Order fragments before (inline rest t) fs ns
         → Order fragments before (inline (spread n rest) t) fs ns
     passed-first why (of_inline a b) = of_inline (of_passed why a) b
 
@@ -90,35 +87,22 @@ module _ {F : Type 0} (fragments : Fragments F) where
           turns = omega (arith, p.turns, inside, first);
         }
 
+    -- what is to come before that, by one turn that opens no name
+    one_turn : {ls ss : List (Selections F)} {x : ToCome F} {fs : List F} (p : IsToCome fragments before ss x)
+        → Order fragments before (joined ls) fs p.names → turns_of_lists ls ≡ turns_of_lists ss + 1
+        → IsToCome fragments before ls (record { fields = fs; opened = x.opened; turns = suc x.turns })
+    one_turn p order one =
+        record { names = p.names; order = order; opened = p.opened; turns = omega (arith, p.turns, one) }
+
     pub turn-by-turn : AreTurnByTurn fragments before
     turn-by-turn = record {
       ends = record { names = []; order = of_none; opened = refl; turns = refl };
-      closes = λ ss x p. record {
-        names = p.names;
-        order = of_inline of_none p.order;
-        opened = p.opened;
-        turns = omega (arith, p.turns);
-      };
+      closes = λ ss x p. one_turn p (of_inline of_none p.order) (omega arith);
       gives = λ f below rest ss x p.
           let over_it = over-joined below (rest ∷ ss) p.order in
-          record {
-            names = p.names;
-            order = field-first (regrouped over_it.0);
-            opened = p.opened;
-            turns = omega (arith, p.turns, over_it.1);
-          };
-      goes_inside = λ inner rest ss x p. record {
-        names = p.names;
-        order = regrouped p.order;
-        opened = p.opened;
-        turns = omega (arith, p.turns);
-      };
-      passes = λ n rest ss x why p. record {
-        names = p.names;
-        order = passed-first why p.order;
-        opened = p.opened;
-        turns = omega (arith, p.turns);
-      };
+          one_turn p (field-first (regrouped over_it.0)) (omega (arith, over_it.1));
+      goes_inside = λ inner rest ss x p. one_turn p (regrouped p.order) (omega arith);
+      passes = λ n rest ss x why p. one_turn p (passed-first why p.order) (omega arith);
       opens = opens;
       goes_on = λ s ss x p. omega (arith, p.turns);
     }
@@ -132,7 +116,7 @@ module _ {F : Type 0} (fragments : Fragments F) where
       → IsAllToCome fragments s x
   begins s x p =
       let order = alone p.order in
-      let reaches = order-reaches fragments s x.fields p.names order in
+      let reaches = order_reaches fragments s x.fields p.names order in
       record {
         walk = order-walk fragments s x.fields p.names order;
         turns = (p.names, reaches, omega (arith, p.turns));

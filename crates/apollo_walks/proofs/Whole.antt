@@ -19,8 +19,7 @@ opened-among n ns h =
 both-opened : (ms ns : List (List ℕ)) (before : Names) (n : List ℕ)
     → (with_names ms before n ≡ true) ⊎ (with_names ns (with_names ms before) n ≡ true)
     → with_names (ms ++ ns) before n ≡ true
-both-opened ms ns before n (inl h) =
-    ap (λ (N : Names). N n) (with_names-append ms ns before)
+both-opened ms ns before n (inl h) = ap (λ (N : Names). N n) (with_names-append ms ns before)
     ∙ with_names-in ns n (with_names ms before) (inl h)
 both-opened ms ns before n (inr h) = ap (λ (N : Names). N n) (with_names-append ms ns before) ∙ h
 
@@ -34,9 +33,7 @@ shuffle a b c d =
 
 some_below : {F : Type 0} (s : Selections F) → lists_below s ≤ 1
 some_below none = omega arith
-some_below (field f below rest) = omega arith
-some_below (spread n rest) = omega arith
-some_below (inline inner rest) = omega arith
+some_below s = omega arith
 
 module _ {F : Type 0} (fragments : Fragments F) where
   -- P is so of each name of a fragment that is spread in s
@@ -82,12 +79,11 @@ module _ {F : Type 0} (fragments : Fragments F) where
     covers = λ n at h found. both-opened ms ns before n
         (elim (Among-split n (spread_names p) (spread_names q) h)
         [ inl one ↦ inl (a.covers n at one found) | inr two ↦ inr (b.covers n at two found) ]);
-    closes = λ m at h at_m n inner in_m found. both-opened ms ns before n
-        (elim (Among-split m ms ns h) [
-          | inl one ↦ inl (a.closes m at one at_m n inner in_m found)
-          | inr two ↦
-              inr (b.closes m at two at_m n inner in_m found)
-        ]);
+    closes = λ m at h at_m n inner in_m found. both-opened ms ns before n (elim (Among-split m ms ns h) [
+      | inl one ↦ inl (a.closes m at one at_m n inner in_m found)
+      | inr two ↦
+          inr (b.closes m at two at_m n inner in_m found)
+    ]);
     few = omega (
       arith,
       a.few,
@@ -131,10 +127,8 @@ module _ {F : Type 0} (fragments : Fragments F) where
           | inl e ↦ (let both = sym is ∙ ap before e ∙ closed in cc)
           | inr later ↦ h.fresh n (with_names-in (k ∷ []) n before (inl is)) later
         ];
-        gives =
-            rw (at_k, ← append_assoc (occurrences rest) (occurrences set) inside)
-            (IsPermutation-trans _ _ _ h.gives
-            (IsPermutation-append_left inside _ _
+        gives = rw (at_k, ← append_assoc (occurrences rest) (occurrences set) inside)
+            (IsPermutation-trans _ _ _ h.gives (IsPermutation-append_left inside _ _
             (IsPermutation-append_comm (occurrences set) (occurrences rest))));
         sound = λ t start n among. elim among [
           | inl e ↦ start n set (inl e) (ap (fragment_of fragments) e ∙ at_k)
@@ -169,10 +163,10 @@ module _ {F : Type 0} (fragments : Fragments F) where
       of-spread (λ at found. let none_there = sym found ∙ missing in absurd (cc)) (holds a)
   holds (of_fragment closed found a) = of-opened closed found (holds a)
 
-  pub reach-found : (s : Selections F) (n : List ℕ) → Reachable fragments s n
+  pub reach_found : (s : Selections F) (n : List ℕ) → Reachable fragments s n
       → (set : Selections F) × (fragment_of fragments n ≡ Some set)
-  reach-found s n (spread_at_the_start {set = set} in_s found) = (set, found)
-  reach-found s n (spread_in_a_fragment {set = set} before found_at in_at found) = (set, found)
+  reach_found s n (spread_at_the_start {set = set} in_s found) = (set, found)
+  reach_found s n (spread_in_a_fragment {set = set} before found_at in_at found) = (set, found)
 
   -- a walk for which no name is opened
   module _ (s : Selections F) (fs : List F) (ns : List (List ℕ))
@@ -182,8 +176,8 @@ module _ {F : Type 0} (fragments : Fragments F) where
     complete n (spread_in_a_fragment {m = m} before found_at in_at found) =
         opened-among n ns ((holds order).closes m _ (complete m before) found_at n _ in_at found)
 
-    pub order-reaches : AreReachable fragments s ns
-    order-reaches = record {
+    pub order_reaches : AreReachable fragments s ns
+    order_reaches = record {
       each_once = (holds order).once;
       sound = (holds order).sound s (λ n at among found. spread_at_the_start among found);
       complete = complete;
@@ -191,7 +185,7 @@ module _ {F : Type 0} (fragments : Fragments F) where
 
     pub order-walk : IsWalk fragments s fs
     order-walk =
-        record { opened = ns; order = order; reachable = order-reaches; each_once = (holds order).gives }
+        record { opened = ns; order = order; reachable = order_reaches; each_once = (holds order).gives }
 
     pub order-few : turns_in_reach fragments s ns ≤ 2 * selections_in_reach fragments s ns + 1
     order-few = (holds order).few

@@ -41,12 +41,14 @@ pub fn walks_give_what_is_reached<F>()
 
 /// Take any set that has the defined names which are spread in selections. Let it have, with each fragment in
 /// it, those which are spread in that fragment. The names that the selections lead to are in that set.
+#[tactic(auto, using(crate::proofs::Reached::reachable_within))]
 pub fn reachable_names_are_the_fewest<F>()
     ensures { (fragments : Fragments F) (s : Selections F) (set : Names) → IsClosed fragments s set
         → (n : List ℕ) → Reachable fragments s n → set n ≡ true }
 {}
 
 /// A walk opens exactly the names that its selections lead to, each once, and each of these has a fragment.
+#[tactic(auto, using(crate::proofs::Whole::order_reaches, crate::proofs::Whole::reach_found))]
 pub fn walks_open_what_is_reached<F>()
     ensures opens { (fragments : Fragments F) (s : Selections F) (fields : List F) (opened : List (List ℕ))
         → Order fragments no_names s fields opened → AreReachable fragments s opened }

@@ -17,8 +17,7 @@ module _ (Holds : List Selection → Type 0) (of_none : Holds [])
     (of_spread : (n : NodeView FragmentSpread) (others : List Selection) → Holds others
     → Holds (variant.FragmentSpread n ∷ others))
     (of_inline : (n : NodeView InlineFragment) (others : List Selection)
-    → Holds n.value.selection_set.selections
-    → Holds others → Holds (variant.InlineFragment n ∷ others)) where
+    → Holds n.value.selection_set.selections → Holds others → Holds (variant.InlineFragment n ∷ others)) where
   abbrev First : Selection → Type 0
   First x = (others : List Selection) → Holds others → Holds (x ∷ others)
 
@@ -67,8 +66,7 @@ module _ (Holds : List Selection → Type 0) (of_none : Holds [])
   each (y ∷ ys) = y.1 (map (λ (y : S). y.0) ys) (each ys)
 
   pub of_set : (s : SelectionSet) → Holds s.selections
-  of_set =
-      folds.ind-SelectionSet First BelowField InFragment InSet
+  of_set = folds.ind-SelectionSet First BelowField InFragment InSet
       (λ x y is. subst (λ z. First (roll-Selection z)) is (first y))
       (λ x y is. subst (λ z. BelowField (roll-Field z)) is y.selection_set.1)
       (λ x y is. subst (λ z. InFragment (roll-InlineFragment z)) is y.selection_set.1)

@@ -1,9 +1,10 @@
 -- What calls of `next` give of a walk, one after another.
-use Rattle.std.proofs.Common.{◌≡◌, Bool, true, false, List, [], ◌∷◌, ◌++◌, Option, None, Some, Ok, Err, refl, sym, ap, subst, ◌∙◌, arith, append_assoc, append-nil, true≢false}
+use Rattle.std.proofs.Common.{◌≡◌, Bool, false, List, [], ◌∷◌, ◌++◌, None, refl, sym, ap, subst, ◌∙◌, arith}
+use Rattle.std.proofs.Common.{append_assoc, append-nil}
 use Rattle.graphql_nodes.specs.NodeView.{NodeView}
 use Rattle.apollo_executable.specs.Walks.Calls.{HasGiven, none_yet, one_more, IsWhole}
-use Rattle.apollo_executable.specs.Walks.NextItem.{Item, IsNext, IsOver}
-use Rattle.apollo_executable.specs.Walks.WalkView.{WalkView, AreReachedNames, AreWalked, IsNewWalk, IsWithinTurns, TakesAllTurns}
+use Rattle.apollo_executable.specs.Walks.NextItem.{IsNext}
+use Rattle.apollo_executable.specs.Walks.WalkView.{WalkView, AreWalked, IsNewWalk, IsWithinTurns}
 use Rattle.apollo_executable.specs.declared.document.ExecutableDocument.{ExecutableDocument}
 use Rattle.apollo_executable.specs.declared.selection.Field.{Field}
 use Rattle.apollo_executable.specs.declared.selection.SelectionSet.{SelectionSet}
@@ -12,8 +13,8 @@ pub beginning : (start now : WalkView) (fields : List (NodeView Field)) → HasG
     → fields ++ now.coming ≡ start.coming
 beginning start now fields none_yet = refl
 beginning start new fields' (one_more {fields = fields} {now = now} {field = field} before next) =
-    append_assoc fields (field.now ∷ []) new.coming
-    ∙ ap (λ (l : List (NodeView Field)). fields ++ l) (sym next.gives.0) ∙ beginning start now fields before
+    append_assoc fields (field.now ∷ []) new.coming ∙ ap (λ l. fields ++ l) (sym next.gives.0)
+    ∙ beginning start now fields before
 
 module _ (deep : Bool) (document : ExecutableDocument) (set : SelectionSet) where
   -- a walk over the set that goes on
@@ -23,14 +24,6 @@ module _ (deep : Bool) (document : ExecutableDocument) (set : SelectionSet) wher
     start_is : w.start ≡ set
     going : w.ended ≡ false
     within : IsWithinTurns deep document set w.taken
-
-  -- what is said of the walk's own view is said of the set
-  of_set : (P : Bool → ExecutableDocument → SelectionSet → Type 0) (w : WalkView) → w.deep ≡ deep
-      → w.document ≡ document → w.start ≡ set → P w.deep w.document w.start → P deep document set
-  of_set P w d o s h =
-      subst (λ (x : SelectionSet). P deep document x) s
-      (subst (λ (x : ExecutableDocument). P deep x w.start) o
-      (subst (λ (x : Bool). P x w.document w.start) d h))
 
   begun : (start : WalkView) → IsNewWalk deep document set start → GoesOn start
   begun start new = record {
@@ -54,7 +47,7 @@ module _ (deep : Bool) (document : ExecutableDocument) (set : SelectionSet) wher
         document_is = o;
         start_is = s;
         going = next.gives.2;
-        within = of_set (λ a b c. IsWithinTurns a b c later.taken) later d o s next.bound;
+        within = rw (d, o, s) at next.bound;
       }
 
   pub turns : (start now : WalkView) (fields : List (NodeView Field)) → IsNewWalk deep document set start
@@ -66,21 +59,13 @@ module _ (deep : Bool) (document : ExecutableDocument) (set : SelectionSet) wher
   whole start now end fields new given next =
       let g = goes_on start now fields new given in
       let all : start.coming ≡ fields = sym (beginning start now fields given)
-      ∙ ap (λ (l : List (NodeView Field)). fields ++ l) next.gives.0 ∙ append-nil fields in
+      ∙ ap (λ l. fields ++ l) next.gives.0 ∙ append-nil fields in
       let over = next.over g.going in
       let d = next.deep ∙ g.deep_is in
       let o = next.document ∙ g.document_is in
       let s = next.start ∙ g.start_is in
-      let is : IsOver end = over in
       record {
         walked = subst (AreWalked deep document set) all new.coming;
-        turns = of_set (λ a b c. TakesAllTurns a b c end.taken) end d o s is.0;
-        opened = of_set (λ a b c. AreReachedNames a b c end.opened) end d o s is.1;
+        turns = rw (d, o, s) at over.0;
+        opened = rw (d, o, s) at over.1;
       }
-
--- after the end nothing comes
-pub rests : (end later : WalkView) (item : Option Item) → end.ended ≡ true → IsNext end item later
-    → (item ≡ None) × (later ≡ end)
-rests end later None ended next = (refl, next.rests ended)
-rests end later (Some (Ok field)) ended next = absurd (true≢false (sym ended ∙ next.gives.1))
-rests end later (Some (Err error)) ended next = absurd (true≢false (sym ended ∙ next.gives.0))

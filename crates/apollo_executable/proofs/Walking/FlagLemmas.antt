@@ -1,5 +1,6 @@
 -- The names of the fragments whose places are marked.
-use Rattle.std.proofs.Common.{◌≡◌, ◌↔◌, inl, inr, ℕ, Bool, true, false, ◌||◌, cond, is_some, List, [], ◌∷◌, map, filter, Option, None, Some, refl, sym, ap, ◌∙◌, get_or, eq-eqb}
+use Rattle.std.proofs.Common.{◌≡◌, ◌↔◌, inl, inr, ℕ, Bool, true, false, ◌||◌, cond, is_some, List, [], ◌∷◌}
+use Rattle.std.proofs.Common.{map, filter, Option, None, Some, refl, sym, ap, ◌∙◌, get_or, eq-eqb}
 use Rattle.std.specs.Prelude.{nat_eq, position, slice_index_or}
 use Rattle.std.specs.Option.{option_map, option_map_or}
 use Rattle.std.proofs.lemmas.Bool.{eqb-true}
@@ -22,8 +23,8 @@ fragment_of-entries : (deep : Bool) (es : List (NameView × NodeView Fragment)) 
     → fragment_of (map (λ e. (e.0.text, plain deep e.1.value.selection_set.selections)) es) n
     ≡ option_map (λ f. plain deep f.value.selection_set.selections) (lookup (by_text n) es)
 fragment_of-entries deep [] n = refl
-fragment_of-entries deep (e ∷ es) n =
-    at (same n e.0.text) (fragment_of _ n) (lookup (by_text n) es) (fragment_of-entries deep es n)
+fragment_of-entries deep (e ∷ es) n = at (same n e.0.text) (fragment_of _ n) (lookup (by_text n) es)
+    (fragment_of-entries deep es n)
   where
     at : (b : Bool) (found : Option Plain) (f : Option (NodeView Fragment))
         → found ≡ option_map (λ f. plain deep f.value.selection_set.selections) f
@@ -72,26 +73,24 @@ module _ (keys : List NameView) (fs gs : List Bool) (n : List ℕ) (i : ℕ) whe
       go : (b : Bool) → nat_eq i j ≡ b → cond b true (slice_index_or fs j false) ≡ slice_index_or fs j false
       go false h = refl
       go true h =
-          let f = same-is n m (name-at keys n i there
-          ∙ ap (λ k. (get_or keys k nameless).text) (eqb-true i j h) ∙ sym (name-at keys m j is)) in
+          let f = same-is n m (name-at keys n i there ∙ ap (λ k. (get_or keys k nameless).text)
+          (eqb-true i j h) ∙ sym (name-at keys m j is)) in
           absurd (cc)
 
 pub marked_names-mark : (d : ExecutableDocument) (fs gs : List Bool) (n : List ℕ) (i : ℕ)
-    → position (by_text n) (keys_of d.fragments) ≡ Some i →
-    ((k : ℕ) → slice_index_or gs k false ≡ cond (nat_eq i k) true (slice_index_or fs k false))
+    → position (by_text n) (keys_of d.fragments) ≡ Some i
+    → ((k : ℕ) → slice_index_or gs k false ≡ cond (nat_eq i k) true (slice_index_or fs k false))
     → marked_names d gs ≡ with_name n (marked_names d fs)
 unfolding marked_names with_name
-marked_names-mark d fs gs n i place at =
-    λ j m. is_named (keys_of d.fragments) fs gs n i place at m (position (by_text m) (keys_of d.fragments))
-    refl (same n m) refl j
+marked_names-mark d fs gs n i place at = λ j m. is_named (keys_of d.fragments) fs gs n i place at m
+    (position (by_text m) (keys_of d.fragments)) refl (same n m) refl j
 
 -- the same places are marked
 pub marked_names-same : (d : ExecutableDocument) (fs gs : List Bool)
-    → ((k : ℕ) → slice_index_or gs k false ≡ slice_index_or fs k false) → marked_names d gs
-    ≡ marked_names d fs
+    → ((k : ℕ) → slice_index_or gs k false ≡ slice_index_or fs k false)
+    → marked_names d gs ≡ marked_names d fs
 unfolding marked_names
-marked_names-same d fs gs same_marks =
-    ap {B = Names} (λ (mark : ℕ → Bool) (n : List ℕ). option_map_or mark
+marked_names-same d fs gs same_marks = ap {B = Names} (λ (mark : ℕ → Bool) (n : List ℕ). option_map_or mark
     (position (by_text n) (keys_of d.fragments)) false) (λ j k. same_marks k j)
 
 pub marked_names-at : (d : ExecutableDocument) (fs : List Bool) (n : List ℕ) (i : ℕ) (b : Bool)
@@ -106,8 +105,8 @@ no_flag (Some i) = refl
 
 pub marked_names-empty : (d : ExecutableDocument) (fs : List Bool) → fs ≡ [] → marked_names d fs ≡ no_names
 unfolding marked_names
-marked_names-empty d fs is =
-    ap (marked_names d) is ∙ (λ j n. no_flag (position (by_text n) (keys_of d.fragments)) j)
+marked_names-empty d fs is = ap (marked_names d) is
+    ∙ (λ j n. no_flag (position (by_text n) (keys_of d.fragments)) j)
 
 -- ---- the names as a list
 
@@ -131,12 +130,10 @@ Among-filter p a (x ∷ xs) h = by (p x) refl (Among-filter p a xs) h
 
 -- a name that is opened and has a fragment is one of the keys
 key-opened : (es : List (NameView × NodeView Fragment)) (names : Names) (n : List ℕ) → names n ≡ true
-    → is_some (lookup (by_text n) es) ≡ true
-    → Among n (filter names (map (λ k. k.text) (keys_of es)))
+    → is_some (lookup (by_text n) es) ≡ true → Among n (filter names (map (λ k. k.text) (keys_of es)))
 key-opened [] names n held found = absurd (cc)
-key-opened (e ∷ es) names n held found =
-    by (same n e.0.text) refl (names e.0.text) refl _ (lookup (by_text n) es)
-    (key-opened es names n held) found
+key-opened (e ∷ es) names n held found = by (same n e.0.text) refl (names e.0.text) refl _
+    (lookup (by_text n) es) (key-opened es names n held) found
   where
     by : (b : Bool) → same n e.0.text ≡ b → (c : Bool) → names e.0.text ≡ c
         → (rest : List (List ℕ)) (later : Option (NodeView Fragment)) → (is_some later ≡ true → Among n rest)
@@ -150,14 +147,14 @@ key-opened (e ∷ es) names n held found =
 -- the names that are opened at the end of a whole walk are those that it leads to
 pub opened_names-reached : (deep : Bool) (d : ExecutableDocument) (s : Plain) (names : Names)
     → ((n : List ℕ) → (names n ≡ true) ↔ Reachable (fragments_of deep d) s n)
-    → ((n : List ℕ) → Reachable (fragments_of deep d) s n
-    → (set : Plain) × (fragment_of (fragments_of deep d) n ≡ Some set))
-    → (n : List ℕ) → Among n (opened_names d names) ↔ Reachable (fragments_of deep d) s n
+    → ((n : List ℕ) → Reachable (fragments_of deep d) s n → (set : Plain)
+    × (fragment_of (fragments_of deep d) n ≡ Some set)) → (n : List ℕ)
+    → Among n (opened_names d names) ↔ Reachable (fragments_of deep d) s n
 unfolding fragments_of
 opened_names-reached deep d s names opens defined n = (
   λ h. (opens n).0 (Among-filter names n (map (λ k. k.text) (keys_of d.fragments)) h),
-  λ r. key-opened d.fragments names n ((opens n).1 r)
-      (there (lookup (by_text n) d.fragments) (sym (fragment_of-entries deep d.fragments n) ∙ (defined n r).1)),
+  λ r. key-opened d.fragments names n ((opens n).1 r) (there (lookup (by_text n) d.fragments)
+      (sym (fragment_of-entries deep d.fragments n) ∙ (defined n r).1)),
 )
   where
     there : (found : Option (NodeView Fragment)) {set : Plain}

@@ -1,12 +1,12 @@
 -- Fields all of whose names stand at the root of queries of each schema.
-use Rattle.std.proofs.Common.{◌≡◌, ◌↔◌, inl, inr, false, List, Some, Ok, sym, subst}
+use Rattle.std.proofs.Common.{◌≡◌, ◌↔◌, inl, inr, refl, false, List, ◌∷◌, Some, Ok, sym, subst}
 use Rattle.std.specs.Borrow.{Bor}
 use Rattle.graphql_nodes.specs.NodeView.{NodeView}
 use Rattle.graphql_nodes.specs.declared.operation_type.OperationType.TheVariants.{Query}
 use Rattle.apollo_walks.specs.Reachable.{Among, IsReached}
 use Rattle.apollo_executable.specs.Walks.Plain.{plain, fragments_of}
 use Rattle.apollo_executable.specs.Walks.Introspection.{IsMetaName, IsIntrospection}
-use Rattle.apollo_executable.specs.Walks.NextItem.{IsNext}
+use Rattle.apollo_executable.specs.Walks.NextItem.{IsNext, Item}
 use Rattle.apollo_executable.specs.Walks.WalkView.{WalkView}
 use Rattle.apollo_executable.specs.declared.selection.Field.{Field}
 use Rattle.apollo_executable.specs.declared.operation.Operation.{Operation}
@@ -31,16 +31,19 @@ pub record HasGivenMeta (initial now : WalkView) : Type 0 where
   pub all : AreMeta now.coming → AreMeta initial.coming
   pub others : AreMeta initial.coming → AreMeta now.coming
 
-pub given-none : (walk : WalkView) → HasGivenMeta walk walk
-given-none walk = record { all = λ all. all; others = λ all. all }
+module _ (field : Bor (NodeView Field)) {initial now new : WalkView} {item : Item}
+    (before : HasGivenMeta initial now) (next : IsNext now (Some item) new) (given : item ≡ Ok field) where
+  first : now.coming ≡ field.now ∷ new.coming
+  first = (subst (λ i. IsNext now (Some i) new) given next).gives.0
 
-pub given-one_more : (initial now new : WalkView) (field : Bor (NodeView Field))
-    → IsMetaName field.now.value.name.text → IsNext now (Some (Ok field)) new
-    → HasGivenMeta initial now → HasGivenMeta initial new
-given-one_more initial now new field named next before = record {
-  all = λ all. before.all (rw next.gives.0 (λ n h. elim h [
-    | inl e ↦ subst (λ (k : NodeView Field). IsMetaName k.value.name.text) (sym e) named
-    | inr later ↦ all n later
-  ]));
-  others = λ all n later. before.others all n (rw next.gives.0 (inr later));
-}
+  pub given-meta : AreMeta initial.coming → IsMetaName field.now.value.name.text
+  given-meta all = before.others all field.now (rw first (inl refl))
+
+  pub given-one_more : IsMetaName field.now.value.name.text → HasGivenMeta initial new
+  given-one_more named = record {
+    all = λ all. before.all (rw first (λ n h. elim h [
+      | inl e ↦ subst (λ (k : NodeView Field). IsMetaName k.value.name.text) (sym e) named
+      | inr later ↦ all n later
+    ]));
+    others = λ all n later. before.others all n (rw first (inr later));
+  }

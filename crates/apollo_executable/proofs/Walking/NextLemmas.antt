@@ -1,12 +1,8 @@
 -- What a call of `next` gives, by the last turn that it takes.
-use Rattle.std.proofs.Common.{◌≡◌, ◌≤◌, true, false, [], Option, None, Some, Result, Ok, Err, refl, sym, ◌∙◌, arith, true≢false}
-use Rattle.std.specs.Borrow.{Bor}
-use Rattle.std.specs.declared.alloc.AllocError.{AllocError}
-use Rattle.graphql_nodes.specs.NodeView.{NodeView}
+use Rattle.std.proofs.Common.{◌≡◌, ◌≤◌, true, false, [], None, Ok, refl, sym, ◌∙◌, arith, true≢false}
 use Rattle.apollo_executable.specs.Walks.WalkView.{WalkView, IsWithinTurns}
-use Rattle.apollo_executable.specs.Walks.NextItem.{Item, GivesFirst, IsNext, IsOver}
+use Rattle.apollo_executable.specs.Walks.NextItem.{IsNext, IsOver}
 use Rattle.apollo_executable.specs.Walks.Step.{IsStep}
-use Rattle.apollo_executable.specs.declared.selection.Field.{Field}
 
 -- what stays from one walk to a later one, where the turns between gave no field
 pub record IsLater (old now : WalkView) : Type 0 where
@@ -45,27 +41,6 @@ module _ {old now : WalkView} (later : IsLater old now) where
     over = over;
     rests = later.stands;
   }
-
-  gives-some : {new : WalkView} {did : Result (Option (Bor (NodeView Field))) AllocError} {item : Item}
-      → IsStep now did new → GivesFirst old (Some item) new → IsNext old (Some item) new
-  gives-some step gives = record {
-    deep = step.deep ∙ later.deep;
-    document = step.document ∙ later.document;
-    start = step.start ∙ later.start;
-    gives = gives;
-    takes = omega (arith, step.taken, later.less);
-    bound = step.bound;
-    over = tt;
-    rests = tt;
-  }
-
-  pub gives-field : {new : WalkView} {field : Bor (NodeView Field)} → IsStep now (Ok (Some field)) new
-      → IsNext old (Some (Ok field)) new
-  gives-field step = gives-some step (later.coming ∙ step.gives.0, later.goes_on step.going, step.gives.1)
-
-  pub gives-error : {new : WalkView} {error : AllocError} → IsStep now (Err error) new
-      → IsNext old (Some (Err error)) new
-  gives-error step = gives-some step (later.goes_on step.going, step.gives.0, step.gives.1)
 
   -- a turn that gives no field leaves a later walk
   pub turns-later : {new : WalkView} → IsStep now (Ok None) new → IsLater old new

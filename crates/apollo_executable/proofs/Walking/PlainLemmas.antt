@@ -67,5 +67,4 @@ module _ (deep : Bool) where
           → over (put_before deep z (plain deep ss)) (map (plain deep) lists)
           ≡ put_before deep z (plain deep ss) ∷ map (plain deep) lists
       at (Selection-F.Field n) = refl
-      at (Selection-F.FragmentSpread n) = refl
-      at (Selection-F.InlineFragment n) = refl
+      at z = refl

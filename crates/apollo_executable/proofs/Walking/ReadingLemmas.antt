@@ -11,7 +11,8 @@ use Rattle.apollo_executable.specs.declared.selection.Selection.TheVariants as v
 use Rattle.apollo_executable.specs.declared.selection.Field.{Field}
 use Rattle.apollo_executable.specs.declared.selection.FragmentSpread.{FragmentSpread}
 use Rattle.apollo_executable.specs.declared.selection.InlineFragment.{InlineFragment}
-use Rattle.apollo_executable.proofs.Walking.PlainLemmas.{opened_up, plain-first, plain-none, plain-field, plain-spread, plain-inline}
+use Rattle.apollo_executable.proofs.Walking.PlainLemmas.{opened_up, plain-first, plain-none, plain-field}
+use Rattle.apollo_executable.proofs.Walking.PlainLemmas.{plain-spread, plain-inline}
 
 -- something to read, with what a field and a spread have of it themselves
 pub record Reading (X : Type 0) : Type 0 where
@@ -53,23 +54,21 @@ module _ {X : Type 0} (r : Reading X) (deep : Bool) where
   none-read = ap r.read (plain-none deep) ∙ r.of_none
 
   pub field-read : (n : NodeView Field) (others : List Selection)
-      → r.read (plain deep (variant.Field n ∷ others))
-      ≡ r.own n ++ (r.read (plain deep (below_of deep n.value)) ++ r.read (plain deep others))
-  field-read n others =
-      ap r.read (plain-field deep n others)
+      → r.read (plain deep (variant.Field n ∷ others)) ≡ r.own n
+      ++ (r.read (plain deep (below_of deep n.value)) ++ r.read (plain deep others))
+  field-read n others = ap r.read (plain-field deep n others)
       ∙ r.of_field n (plain deep (below_of deep n.value)) (plain deep others)
 
   pub spread-read : (n : NodeView FragmentSpread) (others : List Selection)
       → r.read (plain deep (variant.FragmentSpread n ∷ others)) ≡ r.named n.value.fragment_name.text
       ++ r.read (plain deep others)
-  spread-read n others =
-      ap r.read (plain-spread deep n others) ∙ r.of_spread n.value.fragment_name.text (plain deep others)
+  spread-read n others = ap r.read (plain-spread deep n others) ∙ r.of_spread n.value.fragment_name.text
+      (plain deep others)
 
   pub inline-read : (n : NodeView InlineFragment) (others : List Selection)
       → r.read (plain deep (variant.InlineFragment n ∷ others))
       ≡ r.read (plain deep n.value.selection_set.selections) ++ r.read (plain deep others)
-  inline-read n others =
-      ap r.read (plain-inline deep n others)
+  inline-read n others = ap r.read (plain-inline deep n others)
       ∙ r.of_inline (plain deep n.value.selection_set.selections) (plain deep others)
 
   -- what comes behind the others comes behind all
@@ -78,30 +77,18 @@ module _ {X : Type 0} (r : Reading X) (deep : Bool) where
       → r.read (put_before deep z all) ≡ r.read (put_before deep z first) ++ more
   put-joined (Selection-F.Field n) all first more is =
       let below = when_deep deep n.value.1 in
-      r.of_field (node_of n) below all
-      ∙ ap (λ (l : List X). r.own (node_of n) ++ (r.read below ++ l)) is
-      ∙ ap (λ (l : List X). r.own (node_of n) ++ l) (sym (append_assoc (r.read below) (r.read first) more))
-      ∙ sym (append_assoc (r.own (node_of n)) (r.read below ++ r.read first) more)
-      ∙ ap (λ (l : List X). l ++ more) (sym (r.of_field (node_of n) below first))
+      rw (r.of_field (node_of n) below all, is, r.of_field (node_of n) below first) (simp append_assoc)
   put-joined (Selection-F.FragmentSpread n) all first more is =
       let name = n.value.fragment_name.text in
-      r.of_spread name all
-      ∙ ap (λ (l : List X). r.named name ++ l) is
-      ∙ sym (append_assoc (r.named name) (r.read first) more)
-      ∙ ap (λ (l : List X). l ++ more) (sym (r.of_spread name first))
+      rw (r.of_spread name all, is, r.of_spread name first) (simp append_assoc)
   put-joined (Selection-F.InlineFragment n) all first more is =
-      let inner = n.value.1 in
-      r.of_inline inner all
-      ∙ ap (λ (l : List X). r.read inner ++ l) is
-      ∙ sym (append_assoc (r.read inner) (r.read first) more)
-      ∙ ap (λ (l : List X). l ++ more) (sym (r.of_inline inner first))
+      rw (r.of_inline n.value.1 all, is, r.of_inline n.value.1 first) (simp append_assoc)
 
-  pub joined-read : (first others : List Selection) → r.read (plain deep (first ++ others))
-      ≡ r.read (plain deep first) ++ r.read (plain deep others)
+  pub joined-read : (first others : List Selection)
+      → r.read (plain deep (first ++ others)) ≡ r.read (plain deep first) ++ r.read (plain deep others)
   joined-read [] others = ap (λ (l : List X). l ++ r.read (plain deep others)) (sym none-read)
   joined-read (s ∷ ss) others =
       let z = opened_up deep (out-Selection s) in
-      ap r.read (plain-first deep s (ss ++ others))
-      ∙ put-joined z (plain deep (ss ++ others)) (plain deep ss) (r.read (plain deep others))
-      (joined-read ss others)
-      ∙ ap (λ (l : List X). l ++ r.read (plain deep others)) (sym (ap r.read (plain-first deep s ss)))
+      ap r.read (plain-first deep s (ss ++ others)) ∙ put-joined z (plain deep (ss ++ others)) (plain deep ss)
+      (r.read (plain deep others)) (joined-read ss others) ∙ ap (λ (l : List X). l
+      ++ r.read (plain deep others)) (sym (ap r.read (plain-first deep s ss)))

@@ -1,5 +1,7 @@
 -- What the parts of a walk say of its open lists.
-use Rattle.std.proofs.Common.{◌≡◌, ◌≤◌, ◌<◌, ◌+◌, ℕ, Bool, cond, true, false, List, [], ◌∷◌, ◌++◌, map, reverse, Option, None, Some, Result, Ok, Err, OnOk, OnErr, is_err, length, arith, refl, sym, ap, ◌∙◌}
+use Rattle.std.proofs.Common.{◌≡◌, ◌≤◌, ◌<◌, ◌+◌, ℕ, Bool, cond, true, false, List, [], ◌∷◌, ◌++◌, map}
+use Rattle.std.proofs.Common.{reverse, Option, None, Some, Result, Ok, Err, OnOk, OnErr, is_err, length}
+use Rattle.std.proofs.Common.{arith, refl, sym, ap, ◌∙◌}
 use Rattle.std.proofs.lemmas.List.{reverse-append, map-append}
 use Rattle.std.specs.Prelude.{nat_eq}
 use Rattle.std.specs.Borrow.{Bor}
@@ -34,8 +36,7 @@ turns x = x.turns
 pub waiting-push : (lists : List (Bor (List Selection))) (l : Bor (List Selection))
     → waiting_lists (lists ++ l ∷ []) ≡ l.now ∷ waiting_lists lists
 unfolding waiting_lists
-waiting-push lists l =
-    ap reverse (map-append (λ (x : Bor (List Selection)). x.now) lists (l ∷ []))
+waiting-push lists l = ap reverse (map-append (λ (x : Bor (List Selection)). x.now) lists (l ∷ []))
     ∙ reverse-append (map (λ (x : Bor (List Selection)). x.now) lists) (l.now ∷ [])
 
 pub waiting-empty : waiting_lists [] ≡ []
@@ -54,9 +55,8 @@ cons-by-length (x ∷ xs) is = (x, xs, refl)
 -- what one turn costs, opens and gives
 counts : (start : SelectionSet) (old new : OpenLists) (did : Did) → IsTurn old did new
     → (cond (is_err did) 1 0 ≤ 1) × ((left_of old).turns + cond (is_err did) 1 0 ≡ (left_of new).turns + 1)
-    × ((left_of new).opened ≡ (left_of old).opened)
-    × GivesInTurn (seen_of start old false) did (seen_of start new (is_err did))
-    × OnOk did ((left_of new).turns < (left_of old).turns)
+    × ((left_of new).opened ≡ (left_of old).opened) × GivesInTurn (seen_of start old false) did
+    (seen_of start new (is_err did)) × OnOk did ((left_of new).turns < (left_of old).turns)
 counts start old new (Ok (Some field)) is =
     let e = ap turns is.0 in
     (omega arith, omega arith, sym (ap opened is.0), (ap fields is.0, is.1), omega arith)

@@ -1,8 +1,5 @@
-use Rattle.apollo_document.proofs.ErrorEquality.{roots, paths, build_errors}
+use Rattle.apollo_document.proofs.ErrorEquality.{paths, build_errors}
 use Rattle.apollo_document.proofs.selection_laws.equality_of_build_errors.Goals as goal
-
-pub returns-clause-definition_name : goal.returns-clause-definition_name
-returns-clause-definition_name c = roots.at
 
 pub returns-clause-path : goal.returns-clause-path
 returns-clause-path c = paths.at

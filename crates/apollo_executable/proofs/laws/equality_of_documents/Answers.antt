@@ -1,4 +1,4 @@
-use Rattle.apollo_executable.proofs.DocumentEquality.{ComparedParts, operations, fragments, operation_maps, documents}
+use Rattle.apollo_executable.proofs.DocumentEquality.{ComparedParts, operations, operation_maps, documents}
 use Rattle.apollo_executable.proofs.laws.equality_of_documents.Goals as goal
 
 parts : goal.After-equality_of_selections → ComparedParts
@@ -10,9 +10,6 @@ parts c = record {
 
 pub returns-clause-operation : goal.returns-clause-operation
 returns-clause-operation c = (operations (parts c)).at
-
-pub returns-clause-fragment : goal.returns-clause-fragment
-returns-clause-fragment c = (fragments (parts c)).at
 
 pub returns-clause-operation_map : goal.returns-clause-operation_map
 returns-clause-operation_map c = (operation_maps (parts c)).at

@@ -1,4 +1,5 @@
-use Rattle.apollo_executable.proofs.SelectionEquality.{ComparedParts, selections, fields, fragment_spreads, inline_fragments, selection_sets}
+use Rattle.apollo_executable.proofs.SelectionEquality.{ComparedParts, selections, fields, inline_fragments}
+use Rattle.apollo_executable.proofs.SelectionEquality.{selection_sets}
 use Rattle.apollo_executable.proofs.laws.equality_of_selections.Goals as goal
 
 parts : goal.After-equality_of_the_type_system → ComparedParts
@@ -13,9 +14,6 @@ returns-clause-selection c = (selections (parts c)).at
 
 pub returns-clause-field : goal.returns-clause-field
 returns-clause-field c = (fields (parts c)).at
-
-pub returns-clause-fragment_spread : goal.returns-clause-fragment_spread
-returns-clause-fragment_spread c = (fragment_spreads (parts c)).at
 
 pub returns-clause-inline_fragment : goal.returns-clause-inline_fragment
 returns-clause-inline_fragment c = (inline_fragments (parts c)).at

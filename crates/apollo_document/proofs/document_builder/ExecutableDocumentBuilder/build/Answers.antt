@@ -14,11 +14,8 @@ seen schema list held = record { schema = schema; standing = standing_of list he
 
 pub returns-in-Open-clause-built : goal.returns-in-Open-clause-built
 returns-in-Open-clause-built c =
-    let sets : ElaboratedSetsLaw = record {
-      kept = c.elaborated_sets.ensures.kept;
-      typed = c.elaborated_sets.ensures.typed;
-      unique = c.elaborated_sets.ensures.unique;
-    } in
+    let law = c.elaborated_sets.ensures in
+    let sets : ElaboratedSetsLaw = record { kept = law.kept; typed = law.typed } in
     let schema = option_copied c.self.inside.schema in
     let list = c.self.inside.added.items in
     let held = c.in-Open.field-0 in

@@ -2,12 +2,8 @@ use Rattle.std.proofs.Common.{rules, ◌∙◌, ◌++◌, ap, List}
 use Rattle.std.specs.Option.{option_copied}
 use Rattle.apollo_document.specs.SelectionFaults.{faults_of_selections}
 use Rattle.apollo_document.specs.Typable.{Fault}
-use Rattle.apollo_document.proofs.BuiltLemmas.{all_noted, fragment_made, fragment_faults_made}
+use Rattle.apollo_document.proofs.BuiltLemmas.{all_noted, fragment_faults_made}
 use Rattle.apollo_document.proofs.tables.Tables.build_fragment.Goals as goal
-
-pub returns-clause-built : goal.returns-clause-built
-returns-clause-built c =
-    fragment_made (option_copied c.args.schema) c.args.node.now c.deref-4.result.now _ _ c.in_ok-set.set c.in_ok-fragment.fragment _ (search rules) c.deref-4.ensures (search rules) (search rules) c.in_ok-set.ensures.set c.in_ok-fragment.ensures (search rules)
 
 pub returns-clause-faults : goal.returns-clause-faults
 returns-clause-faults c =
@@ -16,7 +12,10 @@ returns-clause-faults c =
     let t = c.args.self.now in
     let ty = c.deref.result.now.type_condition in
     let below = c.as_slice.result.now in
-    let found = all_noted (λ p. faults_of_selections s ty p below) _ c.of-elaboration.result c.elaborate_set.new.self c.of-elaboration.ensures.path c.of-elaboration.ensures.faults c.in_ok-set.ensures.faults in
-    let own = fragment_faults_made s n c.in_ok-clone-3.field-0 ty below (search rules) (search rules) (search rules) (search rules) in
+    let found = all_noted (λ p. faults_of_selections s ty p below) _ c.of-elaboration.result
+    c.elaborate_set.new.self c.of-elaboration.ensures.path c.of-elaboration.ensures.faults
+    c.in_ok-set.ensures.faults in
+    let own = fragment_faults_made s n c.in_ok-clone-3.field-0 ty below (search rules) (search rules)
+    (search rules) (search rules) in
     let all = c.in_ok-append.ensures.ok ∙ ap (λ (l : List Fault). t.faults ++ l) (found ∙ own) in
     λ i. record t { faults = all i }

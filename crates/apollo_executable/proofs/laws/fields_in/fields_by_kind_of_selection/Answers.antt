@@ -1,4 +1,5 @@
-use Rattle.apollo_executable.proofs.Walking.ReadingLemmas.{of_fields, none-read, field-read, spread-read, inline-read, joined-read}
+use Rattle.apollo_executable.proofs.Walking.ReadingLemmas.{of_fields, none-read, field-read, spread-read}
+use Rattle.apollo_executable.proofs.Walking.ReadingLemmas.{inline-read, joined-read}
 use Rattle.apollo_executable.proofs.laws.fields_in.fields_by_kind_of_selection.Goals as goal
 
 pub returns : goal.returns

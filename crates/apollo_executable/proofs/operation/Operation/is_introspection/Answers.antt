@@ -1,25 +1,19 @@
-use Rattle.std.proofs.Common.{rules, inl, ◌≡◌, Some, Result, Ok, Bor, refl, sym, ap, subst, ◌∙◌, true≢false}
-use Rattle.std.specs.declared.alloc.AllocError.{AllocError}
-use Rattle.graphql_nodes.specs.NodeView.{NodeView}
+use Rattle.std.proofs.Common.{rules, refl, sym, ap, subst, ◌∙◌, true≢false}
 use Rattle.apollo_executable.specs.Walks.Introspection.{IsMetaName}
-use Rattle.apollo_executable.specs.Walks.NextItem.{IsNext}
 use Rattle.apollo_executable.specs.declared.selection.Field.{Field}
-use Rattle.apollo_executable.proofs.Walking.IntrospectionLemmas.{given-none, given-one_more, meta-introspection, introspection-meta}
+use Rattle.apollo_executable.proofs.Walking.IntrospectionLemmas.{given-meta, given-one_more}
+use Rattle.apollo_executable.proofs.Walking.IntrospectionLemmas.{meta-introspection, introspection-meta}
 use Rattle.apollo_executable.proofs.operation.Operation.is_introspection.Goals as goal
 
 pub returns-then-not-is_meta_name-clause-answer : goal.returns-then-not-is_meta_name-clause-answer
 returns-then-not-is_meta_name-clause-answer c =
     let walk = c.root_fields-walk in
-    let field = c.in_ok-field.field-0 in
-    let given : c.in-Some.field ≡ Ok field = search rules in
-    let next = subst (λ (r : Result (Bor (NodeView Field)) AllocError). IsNext c.loop-field.walk
-    (Some r) c.next.new.self) given c.in-Some.ensures.steps in
     let named = c.as_str.ensures ∙ ap (λ (f : Field). f.name.text) c.deref.ensures in (
       λ no. absurd (true≢false (sym no)),
       λ is.
-          let all = introspection-meta c.args.document.now c.args.self.now walk.result.coming
-          (λ n. c.walks_give_what_is_reached.ensures _ _ _ n walk.ensures.coming) is in
-          let head = c.loop-field.invariant.others all field.now (rw next.gives.0 (inl refl)) in
+          let head = given-meta c.in_ok-field.field-0 c.loop-field.invariant c.in-Some.ensures.steps
+          (search rules) (introspection-meta c.args.document.now c.args.self.now walk.result.coming
+          (λ n. c.walks_give_what_is_reached.ensures _ _ _ n walk.ensures.coming) is) in
           sym c.if-not-is_meta_name.true ∙ c.is_meta_name.ensures.1 (subst IsMetaName (sym named) head),
     )
 
@@ -33,16 +27,8 @@ returns-clause-answer c =
       λ _. refl,
     )
 
-pub loop-field-init : goal.loop-field-init
-loop-field-init c = given-none c.root_fields-walk.result
-
 pub loop-field-preserved : goal.loop-field-preserved
 loop-field-preserved c =
-    let field = c.in_ok-field.field-0 in
-    let given : c.in-Some.field ≡ Ok field = search rules in
-    let next = subst (λ (r : Result (Bor (NodeView Field)) AllocError). IsNext c.loop-field.walk
-    (Some r) c.next.new.self) given c.in-Some.ensures.steps in
     let named = c.as_str.ensures ∙ ap (λ (f : Field). f.name.text) c.deref.ensures in
-    given-one_more c.root_fields-walk.result c.loop-field.walk c.next.new.self field
-    (subst IsMetaName named (c.is_meta_name.ensures.0 c.if-not-is_meta_name.false)) next
-    c.loop-field.invariant
+    given-one_more c.in_ok-field.field-0 c.loop-field.invariant c.in-Some.ensures.steps (search rules)
+    (subst IsMetaName named (c.is_meta_name.ensures.0 c.if-not-is_meta_name.false))

@@ -1,5 +1,5 @@
 use Rattle.std.proofs.Common.{rules, ◌≡◌, Some, Ok, Err, false, true, refl, sym, ap, subst, ◌∙◌}
-use Rattle.std.specs.Prelude.{is_ok, IsOk, OnErr, OnSome}
+use Rattle.std.specs.Prelude.{is_ok, IsOk}
 use Rattle.std.specs.Option.{option_map, option_copied, option_copied_mut}
 use Rattle.std.proofs.lemmas.Result.{err_from_is_err_and}
 use Rattle.graphql_nodes.specs.NodeView.{NodeView}
@@ -20,13 +20,10 @@ returns-in_err-make_mut-in-Some c =
     ∙ ap option_copied_mut c.in-Some.is in
     let refused : c.make_mut.result ≡ Err c.in_err-make_mut-in-Some.field-0.0 = search rules in
     let unwritten : c.make_mut.follows.lender-at-none ≡ node =
-    subst (λ r. OnErr r (c.make_mut.follows.lender-at-none ≡ node)) refused
-    c.make_mut.follows.holds-at-none in
+    rw refused at c.make_mut.follows.holds-at-none in
     let put : c.requested_mut.follows.lender c.make_mut.follows.lender-at-none
     ≡ with_requested m name c.make_mut.follows.lender-at-none =
-    subst (λ r. OnSome r (c.requested_mut.follows.lender c.make_mut.follows.lender-at-none
-    ≡ with_requested m name c.make_mut.follows.lender-at-none)) c.in-Some.is
-    (c.requested_mut.follows.holds c.make_mut.follows.lender-at-none) in
+    rw c.in-Some.is at (c.requested_mut.follows.holds c.make_mut.follows.lender-at-none) in
     let back : c.requested_mut.follows.lender c.make_mut.follows.lender-at-none ≡ m = put
     ∙ ap (with_requested m name) unwritten ∙ put_back m name node there in (
       (rw exit.1 refl, λ w ok. let no : false ≡ true = subst (λ r. IsOk r) exit.1 ok in cc, rw exit.1 back),
@@ -45,8 +42,7 @@ returns-in_ok-make_mut-in-Some c =
     let there : requested m name ≡ Some node = sym c.requested_mut.ensures.found
     ∙ ap option_copied_mut c.in-Some.is in
     let put : (w : NodeView Operation) → c.requested_mut.follows.lender w ≡ with_requested m name w =
-    λ w. subst (λ r. OnSome r (c.requested_mut.follows.lender w ≡ with_requested m name w)) c.in-Some.is
-    (c.requested_mut.follows.holds w) in
+    λ w. rw c.in-Some.is at (c.requested_mut.follows.holds w) in
     let given : c.make_mut.result ≡ Ok c.in_ok-make_mut-in-Some.field-0 = search rules in
     let lent : IsOk c.make_mut.result = ap (λ r. is_ok r) given in (
       (

@@ -9,8 +9,10 @@ use Rattle.apollo_executable.specs.Walks.LeftByTurn.{with_list}
 use Rattle.apollo_executable.specs.declared.selection.Selection.{Selection}
 use Rattle.apollo_executable.specs.declared.selection.Selection.TheVariants as variant
 use Rattle.apollo_executable.specs.declared.selection.Field.{Field}
-use Rattle.apollo_executable.proofs.Walking.FlagLemmas.{fragment-found, fragment-missing, opened_names-reached}
-use Rattle.apollo_executable.proofs.Walking.PlainLemmas.{plain-none, plain-field, plain-spread, plain-inline, over-list}
+use Rattle.apollo_executable.proofs.Walking.FlagLemmas.{fragment-found, fragment-missing}
+use Rattle.apollo_executable.proofs.Walking.FlagLemmas.{opened_names-reached}
+use Rattle.apollo_executable.proofs.Walking.PlainLemmas.{plain-none, plain-field, plain-spread, plain-inline}
+use Rattle.apollo_executable.proofs.Walking.PlainLemmas.{over-list}
 use Rattle.apollo_executable.proofs.walks.left.walks_are_left_by_turn.Goals as goal
 
 pub returns-clause-turns : goal.returns-clause-turns
@@ -36,24 +38,19 @@ returns-clause-turns c = λ deep document names lists.
           (steps.gives n (plain deep (below_of deep n.value)) (plain deep rest) others _
           (rw (over-list deep (below_of deep n.value) (rest ∷ lists))
           (is_left (with_list (below_of deep n.value) (rest ∷ lists))))));
-      goes_inside = λ n rest. is ((variant.InlineFragment n ∷ rest) ∷ lists) _
-          (rw (plain-inline deep n rest)
+      goes_inside = λ n rest. is ((variant.InlineFragment n ∷ rest) ∷ lists) _ (rw (plain-inline deep n rest)
           (steps.goes_inside _ (plain deep rest) others _
           (is_left (n.value.selection_set.selections ∷ (rest ∷ lists)))));
-      passes =
-          λ n rest why. is ((variant.FragmentSpread n ∷ rest) ∷ lists) _
+      passes = λ n rest why. is ((variant.FragmentSpread n ∷ rest) ∷ lists) _
           (rw (plain-spread deep n rest) (steps.passes n.value.fragment_name.text (plain deep rest) others _
           (elim why [
             | inl opened ↦ inl opened
-            | inr missing ↦ inr
-                (fragment-missing deep document n.value.fragment_name.text missing)
+            | inr missing ↦ inr (fragment-missing deep document n.value.fragment_name.text missing)
           ]) (is_left (rest ∷ lists))));
-      opens =
-          λ n rest f closed found. is ((variant.FragmentSpread n ∷ rest) ∷ lists) _
+      opens = λ n rest f closed found. is ((variant.FragmentSpread n ∷ rest) ∷ lists) _
           (rw (plain-spread deep n rest)
           (steps.opens n.value.fragment_name.text _ (plain deep rest) others _ closed
-          (fragment-found deep document n.value.fragment_name.text f found)
-          (what_is_to_come fragments _
+          (fragment-found deep document n.value.fragment_name.text f found) (what_is_to_come fragments _
           (map (plain deep) (f.value.selection_set.selections ∷ (rest ∷ lists)))).1));
     }
 

@@ -30,19 +30,8 @@ returns-in_err-make_room-clause-refused c =
     let w = c.args.self.now in
     let names = marked_names-same w.document.now w.opened.items c.make_room.new.flags.items
     c.make_room.ensures.marks in
-    let same : AreSameLists w (record {
-      document = w.document;
-      current = w.current;
-      waiting = w.waiting;
-      opened = c.make_room.new.flags;
-      deep = w.deep;
-      ended = w.ended;
-    }) = record {
-      current = refl;
-      waiting = refl;
-      names = names;
-    } in
-    OnErr-always _ _ same
+    OnErr-always (AreSameLists w (record w { opened = c.make_room.new.flags })) _
+    (record { current = refl; waiting = refl; names = names })
 
 pub returns-in_err-open-clause-refused : goal.returns-in_err-open-clause-refused
 returns-in_err-open-clause-refused c =
@@ -50,12 +39,8 @@ returns-in_err-open-clause-refused c =
     let opened = c.in_err-open.ensures.refused in
     let names = opened.names
     ∙ marked_names-same w.document.now w.opened.items c.make_room.new.flags.items c.make_room.ensures.marks in
-    let same : AreSameLists w c.open.new.self = record {
-      current = opened.current;
-      waiting = opened.waiting;
-      names = names;
-    } in
-    OnErr-always _ _ same
+    OnErr-always (AreSameLists w c.open.new.self) _
+    (record { current = opened.current; waiting = opened.waiting; names = names })
 
 pub returns-clause-turn : goal.returns-clause-turn
 returns-clause-turn c =

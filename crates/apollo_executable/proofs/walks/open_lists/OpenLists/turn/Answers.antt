@@ -5,7 +5,9 @@ use Rattle.apollo_executable.specs.Walks.Left.{waiting_lists, names_opened}
 use Rattle.apollo_executable.specs.Walks.Plain.{below_of}
 use Rattle.apollo_executable.specs.declared.selection.InlineFragment.{InlineFragment}
 use Rattle.apollo_executable.proofs.Walking.WalkLemmas.{waiting-push, waiting-empty, cons-by-length}
-use Rattle.apollo_executable.proofs.walks.open_lists.OpenLists.turn.Goals.{in-None-pop, in-Some-pop, then-is_empty, else-is_empty+in_ok-open-in-Field}
+use Rattle.apollo_executable.proofs.walks.open_lists.OpenLists.turn.Goals.{in-None-pop, in-Some-pop}
+use Rattle.apollo_executable.proofs.walks.open_lists.OpenLists.turn.Goals.{then-is_empty}
+use Rattle.apollo_executable.proofs.walks.open_lists.OpenLists.turn.Goals.{else-is_empty+in_ok-open-in-Field}
 use Rattle.apollo_executable.proofs.walks.open_lists.OpenLists.turn.Goals as goal
 
 pub returns-after-pop-clause-turn : goal.returns-after-pop-clause-turn
@@ -15,8 +17,7 @@ returns-after-pop-clause-turn c =
     let current : v.current.now ≡ [] = nil_from_length v.current.now c.in-None.ensures.cases in
     elim c.match-pop.branch [
       | in-None-pop w ↦
-          let stack : v.waiting.items
-          ≡ [] = nil_from_length v.waiting.items
+          let stack : v.waiting.items ≡ [] = nil_from_length v.waiting.items
           (omega (arith, v.waiting.ok.0, w.in-None-pop.ensures.cases.0)) in
           let lists : waiting_lists v.waiting.items ≡ [] = ap waiting_lists stack ∙ waiting-empty in
           rw (w.self-is, c.requires, current, lists) (left []).closes
@@ -70,8 +71,8 @@ returns-in_ok-open-in-InlineFragment-clause-turn c =
     let n = c.in-InlineFragment.inline in
     let first = c.in-Some.ensures.cases.0 in
     let e = c.open-in-InlineFragment.ensures in
-    let inner = c.as_slice.ensures
-    ∙ ap (λ (f : InlineFragment). f.selection_set.selections) c.deref-in-InlineFragment.ensures in
+    let inner = c.as_slice.ensures ∙ ap (λ (f : InlineFragment). f.selection_set.selections)
+    c.deref-in-InlineFragment.ensures in
     let current = c.in_ok-open-in-InlineFragment.ensures.current ∙ inner in
     let lists = ap waiting_lists c.in_ok-open-in-InlineFragment.ensures.waiting
     ∙ waiting-push v.waiting.items c.in-Some.rest in

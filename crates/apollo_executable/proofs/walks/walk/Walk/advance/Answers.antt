@@ -1,6 +1,6 @@
 use Rattle.std.proofs.Common.{refl, true≢false}
 use Rattle.apollo_executable.specs.Walks.Seen.{seen}
-use Rattle.apollo_executable.proofs.Walking.NextLemmas.{later-itself, turns-later, gives-none, gives-field, gives-error}
+use Rattle.apollo_executable.proofs.Walking.NextLemmas.{later-itself, turns-later, gives-none}
 use Rattle.apollo_executable.proofs.Walking.WalkLemmas.{at-end}
 use Rattle.apollo_executable.proofs.walks.walk.Walk.advance.Goals as goal
 
@@ -12,21 +12,11 @@ returns-then-self c =
     gives-none (later-itself (seen w)) (rw refused refl) (rw refused refl) bound
     (rw refused (λ going. absurd (true≢false going)))
 
-pub loop-self-init : goal.loop-self-init
-loop-self-init c = (later-itself (seen c.args.self.now), c.if-self.false)
-
 pub loop-self-preserved : goal.loop-self-preserved
 loop-self-preserved c = (
   turns-later c.loop-self.invariant.0 (rw c.in-Ok-None.field-0-is at c.in-Ok-None.ensures.step),
   c.in-Ok-None.ensures.refused,
 )
-
-pub returns-in-Ok-Some : goal.returns-in-Ok-Some
-returns-in-Ok-Some c =
-    gives-field c.loop-self.invariant.0 (rw c.in-Ok-Some.field-0-is at c.in-Ok-Some.ensures.step)
-
-pub returns-in-Err : goal.returns-in-Err
-returns-in-Err c = gives-error c.loop-self.invariant.0 c.in-Err.ensures.step
 
 pub returns : goal.returns
 returns c =
