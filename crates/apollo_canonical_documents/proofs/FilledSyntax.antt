@@ -1,141 +1,91 @@
 -- Untyped selections of which no inline fragment is empty: what filled typed selections are erased to.
-use Rattle.std.proofs.Common.{◌≡◌, ◌∙◌, Bool, true, List, [], ◌∷◌, map, ap, sym, subst, refl}
-use Rattle.graphql_nodes.specs.NodeView.{NodeView}
+use Rattle.apollo_canonical_documents.proofs.Prelude.{Bool, Each, List, NodeView, SelectionSet, all_there, ap}
+use Rattle.apollo_canonical_documents.proofs.Prelude.{each_filled, erased, erased_field}
+use Rattle.apollo_canonical_documents.proofs.Prelude.{erased_inline_fragment, erased_set, erased_spread}
+use Rattle.apollo_canonical_documents.proofs.Prelude.{in_place_of, is_filled, map, of_set, refl, some_there}
+use Rattle.apollo_canonical_documents.proofs.Prelude.{sym, true, ◌∙◌, ◌∷◌, ◌≡◌}
 use Rattle.graphql_ast.specs.declared.selection.Field as ast_field
 use Rattle.graphql_ast.specs.declared.selection.FragmentSpread as ast_spread
 use Rattle.graphql_ast.specs.declared.selection.InlineFragment as ast_inline
 use Rattle.graphql_ast.specs.declared.selection.Selection as ast
 use Rattle.graphql_ast.specs.declared.selection.Selection.TheFolds as folds
 use Rattle.graphql_ast.specs.declared.selection.Selection.TheOpen as layer
-use Rattle.apollo_executable.specs.Erasure as e
-use Rattle.apollo_executable.specs.Erasure.{EF, EI, EL, ES, erased, erased_field, erased_inline_fragment, erased_set}
-use Rattle.apollo_executable.specs.declared.selection.Field.{Field, roll-Field}
-use Rattle.apollo_executable.specs.declared.selection.InlineFragment.{InlineFragment, roll-InlineFragment}
-use Rattle.apollo_executable.specs.declared.selection.Selection.{Selection, roll-Selection}
-use Rattle.apollo_executable.specs.declared.selection.Selection.TheFolds as typed_folds
-use Rattle.apollo_executable.specs.declared.selection.Selection.TheOpen as typed_layer
-use Rattle.apollo_executable.specs.declared.selection.SelectionSet.{SelectionSet, roll-SelectionSet}
-use Rattle.apollo_document.specs.Stripped.{in_place_of}
-use Rattle.apollo_document.proofs.ErasureLemmas.{erased-typed-field, erased-typed-fragment, erased-typed-spread}
-use Rattle.apollo_canonical_documents.specs.FilledSets.{Each, all_there, each_filled, field_step, inline_step, is_filled, is_filled_field, is_filled_inline_fragment, selection_step, set_step, some_there}
+use Rattle.apollo_executable.specs.declared.selection.Field.{Field}
+use Rattle.apollo_executable.specs.declared.selection.FragmentSpread.{FragmentSpread}
+use Rattle.apollo_executable.specs.declared.selection.InlineFragment.{InlineFragment}
+use Rattle.apollo_executable.specs.declared.selection.Selection.{Selection}
+use Rattle.apollo_executable.specs.declared.selection.Selection.TheFolds as typed
+use Rattle.apollo_executable.specs.declared.selection.Selection.TheOpen.{Selection-F}
+use Rattle.apollo_executable.specs.declared.selection.Selection.TheVariants as variant
+use Rattle.apollo_canonical_documents.proofs.Induction.{field, inline, spread}
+use Rattle.apollo_canonical_documents.proofs.TypedLevels.{erased-field, erased-inline, erased-spread}
+use Rattle.apollo_canonical_documents.proofs.TypedLevels.{field-erased, inline-erased, set-erased}
+
+-- ---- untyped selections, one level at a time
 
 abbrev untyped_step : layer.Selection-F Bool Bool Bool → Bool
 untyped_step (layer.Selection-F.Field n) = n.value
 untyped_step (layer.Selection-F.FragmentSpread n) = true
 untyped_step (layer.Selection-F.InlineFragment n) = n.value
 
-abbrev untyped_field_step : layer.Field-F Bool Bool Bool → Bool
-untyped_field_step f = all_there f.selection_set
+abbrev in_field : layer.Field-F Bool Bool Bool → Bool
+in_field f = all_there f.selection_set
 
-abbrev untyped_inline_step : layer.InlineFragment-F Bool Bool Bool → Bool
-untyped_inline_step f = some_there f.selection_set
+abbrev in_inline : layer.InlineFragment-F Bool Bool Bool → Bool
+in_inline f = some_there f.selection_set
 
 -- no inline fragment is empty that an untyped selection is or has
 abbrev pub is_filled_syntax : ast.Selection → Bool
-is_filled_syntax = folds.fold-Selection Bool Bool Bool untyped_step untyped_field_step untyped_inline_step
+is_filled_syntax = folds.fold-Selection Bool Bool Bool untyped_step in_field in_inline
 
--- none that an untyped field has
-abbrev pub is_filled_field_syntax : ast_field.Field → Bool
-is_filled_field_syntax = folds.fold-Field Bool Bool Bool untyped_step untyped_field_step untyped_inline_step
+pub field_filled : (n : NodeView ast_field.Field)
+    → is_filled_syntax (field n) ≡ all_there (map is_filled_syntax n.value.selection_set)
+field_filled n = folds.fold-roll-Selection Bool Bool Bool _ _ _ (layer.Selection-F.Field n)
+    ∙ folds.fold_out-Field Bool Bool Bool _ _ _ n.value
 
--- none that an untyped inline fragment is or has
-abbrev pub is_filled_inline_syntax : ast_inline.InlineFragment → Bool
-is_filled_inline_syntax = folds.fold-InlineFragment Bool Bool Bool untyped_step untyped_field_step untyped_inline_step
+pub spread_filled : (n : NodeView ast_spread.FragmentSpread) → is_filled_syntax (spread n) ≡ true
+spread_filled n = folds.fold-roll-Selection Bool Bool Bool untyped_step in_field in_inline
+    (layer.Selection-F.FragmentSpread n)
 
--- from one level to the next
-pub field_selection_filled : (n : NodeView ast_field.Field) → is_filled_syntax (ast.roll-Selection (layer.Selection-F.Field n)) ≡ is_filled_field_syntax n.value
-field_selection_filled n = folds.fold-roll-Selection Bool Bool Bool untyped_step untyped_field_step untyped_inline_step (layer.Selection-F.Field n)
+pub inline_filled : (n : NodeView ast_inline.InlineFragment)
+    → is_filled_syntax (inline n) ≡ some_there (map is_filled_syntax n.value.selection_set)
+inline_filled n = folds.fold-roll-Selection Bool Bool Bool untyped_step in_field in_inline
+    (layer.Selection-F.InlineFragment n) ∙ folds.fold_out-InlineFragment Bool Bool Bool _ _ _ n.value
 
-pub inline_selection_filled : (n : NodeView ast_inline.InlineFragment) → is_filled_syntax (ast.roll-Selection (layer.Selection-F.InlineFragment n)) ≡ is_filled_inline_syntax n.value
-inline_selection_filled n = folds.fold-roll-Selection Bool Bool Bool untyped_step untyped_field_step untyped_inline_step (layer.Selection-F.InlineFragment n)
+-- ---- typed selections are filled as what they are erased to
 
-pub spread_filled : (n : NodeView ast_spread.FragmentSpread) → is_filled_syntax (ast.roll-Selection (layer.Selection-F.FragmentSpread n)) ≡ true
-spread_filled n = folds.fold-roll-Selection Bool Bool Bool untyped_step untyped_field_step untyped_inline_step (layer.Selection-F.FragmentSpread n)
+abbrev Same : List Selection → Type 0
+Same xs = map is_filled_syntax (map erased xs) ≡ map is_filled xs
 
-pub field_filled : (x : layer.Field-F ast.Selection ast_field.Field ast_inline.InlineFragment) → is_filled_field_syntax (ast_field.roll-Field x) ≡ all_there (map is_filled_syntax x.selection_set)
-field_filled x = folds.fold-roll-Field Bool Bool Bool untyped_step untyped_field_step untyped_inline_step x
+set_same : (x : SelectionSet) → Same x.selections → map is_filled_syntax (erased_set x) ≡ each_filled x
+set_same x h = ap (map is_filled_syntax) (set-erased x)
+    ∙ h ∙ sym (typed.fold_out-SelectionSet Bool Bool Bool Each _ _ _ _ x)
 
-pub inline_filled : (x : layer.InlineFragment-F ast.Selection ast_field.Field ast_inline.InlineFragment) → is_filled_inline_syntax (ast_inline.roll-InlineFragment x) ≡ some_there (map is_filled_syntax x.selection_set)
-inline_filled x = folds.fold-roll-InlineFragment Bool Bool Bool untyped_step untyped_field_step untyped_inline_step x
+field_same : (n : NodeView Field) → Same n.value.selection_set.selections
+    → is_filled_syntax (erased (variant.Field n)) ≡ is_filled (variant.Field n)
+field_same n below = ap is_filled_syntax (erased-field n)
+    ∙ field_filled (in_place_of n (erased_field n.value))
+    ∙ ap (λ (f : ast_field.Field). all_there (map is_filled_syntax f.selection_set)) (field-erased n.value)
+    ∙ ap all_there (set_same n.value.selection_set below) ∙ sym (ap is_filled (sym (variant.rolls-Field n))
+    ∙ typed.fold-roll-Selection Bool Bool Bool Each _ _ _ _ (Selection-F.Field n)
+    ∙ typed.fold_out-Field Bool Bool Bool Each _ _ _ _ n.value)
 
-abbrev Same : Selection → Type 0
-Same x = is_filled_syntax (erased x) ≡ is_filled x
+spread_same : (n : NodeView FragmentSpread)
+    → is_filled_syntax (erased (variant.FragmentSpread n)) ≡ is_filled (variant.FragmentSpread n)
+spread_same n = ap is_filled_syntax (erased-spread n) ∙ spread_filled (in_place_of n (erased_spread n.value))
+    ∙ sym (ap is_filled (sym (variant.rolls-FragmentSpread n)) ∙ typed.fold-roll-Selection Bool Bool Bool Each
+    _ _ _ _ (Selection-F.FragmentSpread n))
 
-abbrev SameField : Field → Type 0
-SameField x = is_filled_field_syntax (erased_field x) ≡ is_filled_field x
+inline_same : (n : NodeView InlineFragment) → Same n.value.selection_set.selections
+    → is_filled_syntax (erased (variant.InlineFragment n)) ≡ is_filled (variant.InlineFragment n)
+inline_same n below = ap is_filled_syntax (erased-inline n)
+    ∙ inline_filled (in_place_of n (erased_inline_fragment n.value))
+    ∙ ap (λ (f : ast_inline.InlineFragment). some_there (map is_filled_syntax f.selection_set))
+    (inline-erased n.value) ∙ ap some_there (set_same n.value.selection_set below)
+    ∙ sym (ap is_filled (sym (variant.rolls-InlineFragment n)) ∙ typed.fold-roll-Selection Bool Bool Bool Each
+    _ _ _ _ (Selection-F.InlineFragment n) ∙ typed.fold_out-InlineFragment Bool Bool Bool Each _ _ _ _
+    n.value)
 
-abbrev SameInline : InlineFragment → Type 0
-SameInline x = is_filled_inline_syntax (erased_inline_fragment x) ≡ is_filled_inline_fragment x
-
-abbrev SameSet : SelectionSet → Type 0
-SameSet x = map is_filled_syntax (erased_set x) ≡ each_filled x
-
-abbrev WS : Type 0
-WS = (x : Selection) × Same x
-
-abbrev WF : Type 0
-WF = (x : Field) × SameField x
-
-abbrev WI : Type 0
-WI = (x : InlineFragment) × SameInline x
-
-abbrev WL : Type 0
-WL = (x : SelectionSet) × SameSet x
-
--- the elements come with their proofs
-list_same : (ys : List WS) → map is_filled_syntax (map erased (map (λ (y : WS). y.0) ys)) ≡ map is_filled (map (λ (y : WS). y.0) ys)
-list_same [] = refl
-list_same (y ∷ ys) = λ i. y.1 i ∷ list_same ys i
-
-set_same : (y : typed_layer.SelectionSet-F WS WF WI WL) → SameSet (roll-SelectionSet (typed_folds.map-SelectionSet WS WF WI WL Selection Field InlineFragment SelectionSet (λ z. z.0) (λ z. z.0) (λ z. z.0) (λ z. z.0) y))
-set_same y =
-    let x : typed_layer.SelectionSet-F Selection Field InlineFragment SelectionSet = record { ty = y.ty; selections = map (λ (z : WS). z.0) y.selections } in
-    ap (map is_filled_syntax) (typed_folds.fold-roll-SelectionSet ES EF EI EL e.selection_step e.field_step e.inline_step e.set_step x)
-    ∙ list_same y.selections
-    ∙ sym (typed_folds.fold-roll-SelectionSet Bool Bool Bool Each selection_step field_step inline_step set_step x)
-
-field_same : (y : typed_layer.Field-F WS WF WI WL) → SameField (roll-Field (typed_folds.map-Field WS WF WI WL Selection Field InlineFragment SelectionSet (λ z. z.0) (λ z. z.0) (λ z. z.0) (λ z. z.0) y))
-field_same y =
-    let x : typed_layer.Field-F Selection Field InlineFragment SelectionSet =
-    record { definition = y.definition; alias = y.alias; name = y.name; arguments = y.arguments; directives = y.directives; selection_set = y.selection_set.0 } in
-    let z : layer.Field-F ast.Selection ast_field.Field ast_inline.InlineFragment =
-    record { alias = y.alias; name = y.name; arguments = y.arguments; directives = y.directives; selection_set = erased_set y.selection_set.0 } in
-    ap is_filled_field_syntax (typed_folds.fold-roll-Field ES EF EI EL e.selection_step e.field_step e.inline_step e.set_step x)
-    ∙ field_filled z
-    ∙ ap all_there y.selection_set.1
-    ∙ sym (typed_folds.fold-roll-Field Bool Bool Bool Each selection_step field_step inline_step set_step x)
-
-inline_same : (y : typed_layer.InlineFragment-F WS WF WI WL) → SameInline (roll-InlineFragment (typed_folds.map-InlineFragment WS WF WI WL Selection Field InlineFragment SelectionSet (λ z. z.0) (λ z. z.0) (λ z. z.0) (λ z. z.0) y))
-inline_same y =
-    let x : typed_layer.InlineFragment-F Selection Field InlineFragment SelectionSet = record { type_condition = y.type_condition; directives = y.directives; selection_set = y.selection_set.0 } in
-    let z : layer.InlineFragment-F ast.Selection ast_field.Field ast_inline.InlineFragment = record { type_condition = y.type_condition; directives = y.directives; selection_set = erased_set y.selection_set.0 } in
-    ap is_filled_inline_syntax (typed_folds.fold-roll-InlineFragment ES EF EI EL e.selection_step e.field_step e.inline_step e.set_step x)
-    ∙ inline_filled z
-    ∙ ap some_there y.selection_set.1
-    ∙ sym (typed_folds.fold-roll-InlineFragment Bool Bool Bool Each selection_step field_step inline_step set_step x)
-
-selection_same : (y : typed_layer.Selection-F WS WF WI WL) → Same (roll-Selection (typed_folds.map-Selection WS WF WI WL Selection Field InlineFragment SelectionSet (λ z. z.0) (λ z. z.0) (λ z. z.0) (λ z. z.0) y))
-selection_same (typed_layer.Selection-F.Field n) =
-    let m = in_place_of n n.value.0 in
-    ap is_filled_syntax (erased-typed-field m)
-    ∙ field_selection_filled (in_place_of n (erased_field n.value.0))
-    ∙ n.value.1
-    ∙ sym (typed_folds.fold-roll-Selection Bool Bool Bool Each selection_step field_step inline_step set_step (typed_layer.Selection-F.Field m))
-selection_same (typed_layer.Selection-F.FragmentSpread n) =
-    ap is_filled_syntax (erased-typed-spread n)
-    ∙ spread_filled (in_place_of n (e.erased_spread n.value))
-    ∙ sym (typed_folds.fold-roll-Selection Bool Bool Bool Each selection_step field_step inline_step set_step (typed_layer.Selection-F.FragmentSpread n))
-selection_same (typed_layer.Selection-F.InlineFragment n) =
-    let m = in_place_of n n.value.0 in
-    ap is_filled_syntax (erased-typed-fragment m)
-    ∙ inline_selection_filled (in_place_of n (erased_inline_fragment n.value.0))
-    ∙ n.value.1
-    ∙ sym (typed_folds.fold-roll-Selection Bool Bool Bool Each selection_step field_step inline_step set_step (typed_layer.Selection-F.InlineFragment m))
-
--- a set's selections, erased, are filled as they are
 pub set_as_filled : (x : SelectionSet) → map is_filled_syntax (erased_set x) ≡ each_filled x
-set_as_filled = typed_folds.ind-SelectionSet Same SameField SameInline SameSet
-    (λ x y is. subst (λ z. Same (roll-Selection z)) is (selection_same y))
-    (λ x y is. subst (λ z. SameField (roll-Field z)) is (field_same y))
-    (λ x y is. subst (λ z. SameInline (roll-InlineFragment z)) is (inline_same y))
-    (λ x y is. subst (λ z. SameSet (roll-SelectionSet z)) is (set_same y))
+set_as_filled x = set_same x (of_set Same refl (λ n others below rest i. field_same n below i ∷ rest i)
+    (λ n others rest i. spread_same n i ∷ rest i) (λ n others below rest i. inline_same n below i ∷ rest i) x)

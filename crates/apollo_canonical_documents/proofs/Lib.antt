@@ -1,12 +1,13 @@
-mod AlikeSyntax
+mod Prelude
+mod Induction
+mod TypedLevels
+mod PlainSyntax
 mod AlikeTypable
 mod PlainSelections
 mod PlainFaults
 mod Lists
 mod PlainKept
 mod PlainErasure
-mod PlainDefinitions
-mod EqualInOrder
 mod PlainDocuments
 mod PlainListFaults
 mod FromTexts

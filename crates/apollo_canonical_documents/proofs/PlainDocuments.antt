@@ -1,76 +1,146 @@
 -- Equal lists of definitions mean equal documents, with one text.
-use Rattle.std.proofs.Common.{◌≡◌, ◌∙◌, List, [], ◌∷◌, Option, None, Some, option_map, unwrap_or, map, ap, sym, refl}
-use Rattle.std.specs.List.{AllZip}
-use Rattle.std.proofs.lemmas.Simd.{map-map}
-use Rattle.graphql_nodes.specs.Comparing.{bare_name, bare_node}
-use Rattle.graphql_nodes.specs.NameView.{NameView, plain_name}
-use Rattle.graphql_nodes.specs.NodeView.{NodeView}
-use Rattle.graphql_ast.specs.BareDocuments.{bare_fragment_definition, bare_operation_definition}
-use Rattle.apollo_schema.specs.declared.schema.Schema.{Schema}
-use Rattle.apollo_executable.specs.BareDocuments.{bare_fragment, bare_operation}
-use Rattle.apollo_executable.specs.Erasure.{at_place, erased_definitions, erased_fragment, erased_operation}
-use Rattle.apollo_executable.specs.Listed.{listed}
-use Rattle.apollo_executable.specs.declared.document.ExecutableDocument.{ExecutableDocument}
-use Rattle.apollo_executable.specs.declared.operation.Fragment.{Fragment}
-use Rattle.apollo_executable.specs.declared.operation.Operation.{Operation}
-use Rattle.apollo_document.specs.Elaborated.{elaborated}
-use Rattle.apollo_document.specs.AddedDefinitions.{DocumentItem}
-use Rattle.apollo_document.specs.Documents.{IsDocumentOf, IsUnderName}
-use Rattle.apollo_document.specs.KeptDefinitions.{kept_anonymous, kept_fragments, kept_named}
-use Rattle.apollo_document.specs.Stands.{entries_by, operation_over, root_or_none, typed_fragment, typed_operation}
-use Rattle.apollo_document.specs.TypedDefinitions.{IsFragmentOf, IsOperationOf, stripped_fragment, stripped_operation}
-use Rattle.apollo_canonical_documents.specs.DocumentTextLaws.{ListLaws}
-use Rattle.apollo_canonical_documents.specs.EqualDocuments.{AreEqualDocuments, AreEqualInOrder, AreEqualItems, bare_entry}
-use Rattle.apollo_canonical_documents.specs.FromTexts.{document_text}
-use Rattle.apollo_canonical_documents.proofs.EqualInOrder.{equal, written}
-use Rattle.apollo_canonical_documents.proofs.Lists.{alike-map, alike-option, option-through}
-use Rattle.apollo_canonical_documents.proofs.PlainDefinitions.{fragments-typed, operations-typed}
-use Rattle.apollo_canonical_documents.proofs.PlainKept.{Frag, Op, anonymous-alike, fragments-alike, named-alike}
+use Rattle.apollo_canonical_documents.proofs.Prelude.{AllZip, AreEqualDocuments, AreEqualInOrder}
+use Rattle.apollo_canonical_documents.proofs.Prelude.{AreEqualItems, Definition, DocumentItem}
+use Rattle.apollo_canonical_documents.proofs.Prelude.{ExecutableDocument, Fragment, IsDocumentOf}
+use Rattle.apollo_canonical_documents.proofs.Prelude.{IsFragmentOf, IsOperationOf, IsUnderName, List}
+use Rattle.apollo_canonical_documents.proofs.Prelude.{ListLaws, NameView, NodeView, None, Operation, Option}
+use Rattle.apollo_canonical_documents.proofs.Prelude.{Schema, [], all_operations, ap, at_place}
+use Rattle.apollo_canonical_documents.proofs.Prelude.{bare_definition, bare_entry, bare_fragment}
+use Rattle.apollo_canonical_documents.proofs.Prelude.{bare_fragment_definition, bare_name, bare_node}
+use Rattle.apollo_canonical_documents.proofs.Prelude.{bare_operation, bare_operation_definition, by_text}
+use Rattle.apollo_canonical_documents.proofs.Prelude.{document_text, elaborated, entries_by_text}
+use Rattle.apollo_canonical_documents.proofs.Prelude.{erased_definitions, erased_fragment, erased_operation}
+use Rattle.apollo_canonical_documents.proofs.Prelude.{kept_anonymous, kept_fragments, kept_named, listed}
+use Rattle.apollo_canonical_documents.proofs.Prelude.{lookup, map, map-append, map-map, operation_over}
+use Rattle.apollo_canonical_documents.proofs.Prelude.{option_map, plain_name, root_or_none, stripped_fragment}
+use Rattle.apollo_canonical_documents.proofs.Prelude.{stripped_operation, sym, typed_fragment}
+use Rattle.apollo_canonical_documents.proofs.Prelude.{typed_operation, unwrap_or, values_of, ◌++◌, ◌∙◌, ◌≡◌}
+use Rattle.apollo_canonical_documents.proofs.Lists.{alike-made, alike-map, lookup-bare, map-listed}
+use Rattle.apollo_canonical_documents.proofs.Lists.{one-listed}
+use Rattle.apollo_canonical_documents.proofs.PlainErasure.{set-erased_alike, set-typed_alike}
+use Rattle.apollo_canonical_documents.proofs.PlainKept.{Frag, Op, bare_frag, bare_op, kept-anonymous}
+use Rattle.apollo_canonical_documents.proofs.PlainKept.{kept-fragments, kept-named}
+use Rattle.apollo_canonical_documents.proofs.PlainSelections.{alike_sets}
+use Rattle.graphql_ast.specs.declared.definition.Definition.TheVariants as d
 
--- where what stands for a kept definition is what a function makes of it, and makes alike of equal ones
+-- what equal tables have under a name, and their values
+module _ {V B : Type 0} (f : V → B) (es fs : List (NameView × NodeView V)) (same : map (bare_entry f) es
+    ≡ map (bare_entry f) fs) where
+  same_entries : entries_by_text (bare_node f) es ≡ entries_by_text (bare_node f) fs
+  same_entries = λ i text. (lookup-bare f text es ∙ ap (lookup (by_text text)) same
+      ∙ sym (lookup-bare f text fs)) i
+
+  same_values : map (bare_node f) (values_of es) ≡ map (bare_node f) (values_of fs)
+  same_values =
+      let values = λ (gs : List (NameView × NodeView V)). map-map (bare_node f) (λ e. e.1) gs
+      ∙ sym (map-map (λ e. e.1) (bare_entry f) gs) in
+      values es ∙ ap (λ l. values_of l) same ∙ sym (values fs)
+
+abbrev operation : NodeView Operation → Definition
+operation o = d.OperationDefinition (at_place erased_operation o)
+
+abbrev fragment : NodeView Fragment → Definition
+fragment f = d.FragmentDefinition (at_place erased_fragment f)
+
+-- the operations and the write-out of a document, by parts
+module _ (c : ExecutableDocument) where
+  all_bare : map (bare_node bare_operation) (all_operations c.operations)
+      ≡ listed (option_map (bare_node bare_operation) c.operations.anonymous)
+      ++ map (bare_node bare_operation) (values_of c.operations.named)
+  all_bare = map-append (bare_node bare_operation) (listed c.operations.anonymous)
+      (values_of c.operations.named) ∙ ap (λ l. l ++ map (bare_node bare_operation)
+      (values_of c.operations.named)) (map-listed (bare_node bare_operation) c.operations.anonymous)
+
+  written_bare : map bare_definition (erased_definitions c) ≡ map (λ o. bare_definition (operation o))
+      (all_operations c.operations) ++ map (λ f. bare_definition (fragment f)) (values_of c.fragments)
+  written_bare = map-append bare_definition (map operation (all_operations c.operations))
+      (map fragment (values_of c.fragments)) ∙ (λ i. map-map bare_definition operation
+      (all_operations c.operations) i ++ map-map bare_definition fragment (values_of c.fragments) i)
+
+-- what is made of alike operations and fragments is alike
+operations-typed : (s : Option Schema) (n m : Op) → bare_op n ≡ bare_op m
+    → bare_node bare_operation (typed_operation s n) ≡ bare_node bare_operation (typed_operation s m)
+operations-typed s n m e =
+    let sets = alike_sets s (root_or_none s n) (root_or_none s m) n.value.selection_set m.value.selection_set
+    (ap (λ z. bare_name (root_or_none s z)) e) (ap (λ z. z.value.selection_set) e) in
+    λ i. record { value = operation_over (e i).value (sets i); location = None }
+
+fragments-typed : (s : Option Schema) (n m : Frag) → bare_frag n ≡ bare_frag m
+    → bare_node bare_fragment (typed_fragment s n) ≡ bare_node bare_fragment (typed_fragment s m)
+fragments-typed s n m e =
+    let sets = alike_sets s n.value.type_condition m.value.type_condition n.value.selection_set
+    m.value.selection_set (ap (λ z. z.value.type_condition) e) (ap (λ z. z.value.selection_set) e) in
+    λ i. record {
+      value = record { name = (e i).value.name; directives = (e i).value.directives; selection_set = sets i };
+      location = None;
+    }
+
+operations-erased : (o p : NodeView Operation) → bare_node bare_operation o ≡ bare_node bare_operation p
+    → bare_definition (d.OperationDefinition (at_place erased_operation o))
+    ≡ bare_definition (d.OperationDefinition (at_place erased_operation p))
+operations-erased o p e =
+    let sets =
+    set-erased_alike o.value.selection_set p.value.selection_set (ap (λ z. z.value.selection_set) e) in
+    λ i. d.OperationDefinition (record {
+      value = record {
+        operation_type = (e i).value.operation_type;
+        name = (e i).value.name;
+        variables = (e i).value.variables;
+        directives = (e i).value.directives;
+        selection_set = sets i;
+      };
+      location = None;
+    })
+
+fragments-erased : (f g : NodeView Fragment) → bare_node bare_fragment f ≡ bare_node bare_fragment g
+    → bare_definition (d.FragmentDefinition (at_place erased_fragment f))
+    ≡ bare_definition (d.FragmentDefinition (at_place erased_fragment g))
+fragments-erased f g e =
+    let same = ap (λ z. z.value.selection_set) e in
+    let sets = set-erased_alike f.value.selection_set g.value.selection_set same in
+    let types = set-typed_alike f.value.selection_set g.value.selection_set same in
+    λ i. d.FragmentDefinition (record {
+      value = record {
+        name = (e i).value.name;
+        type_condition = types i;
+        directives = (e i).value.directives;
+        selection_set = sets i;
+      };
+      location = None;
+    })
+
+module _ (a b : ExecutableDocument) (same : AreEqualInOrder a b) where
+  pub equal : AreEqualDocuments a b
+  equal = λ i. record {
+    operations = record {
+      anonymous = same.anonymous i;
+      named = same_entries bare_operation a.operations.named b.operations.named same.named i;
+    };
+    fragments = same_entries bare_fragment a.fragments b.fragments same.fragments i;
+  }
+
+  operations : map (bare_node bare_operation) (all_operations a.operations) ≡ map (bare_node bare_operation)
+      (all_operations b.operations)
+  operations = all_bare a ∙ (λ i. listed (same.anonymous i) ++ same_values bare_operation a.operations.named
+      b.operations.named same.named i) ∙ sym (all_bare b)
+
+  pub written : map bare_definition (erased_definitions a) ≡ map bare_definition (erased_definitions b)
+  written = written_bare a ∙ (λ i. alike-map (bare_node bare_operation) (λ o. bare_definition (operation o))
+      operations-erased (all_operations a.operations) (all_operations b.operations) operations i
+      ++ alike-map (bare_node bare_fragment) (λ f. bare_definition (fragment f)) fragments-erased
+      (values_of a.fragments) (values_of b.fragments) (same_values bare_fragment a.fragments b.fragments
+      same.fragments) i) ∙ sym (written_bare b)
+
+-- tables of what is made of nodes, entry by entry
 module _ {V W X Y : Type 0} (R : NodeView V → NodeView W → Type 0) (made : NodeView V → NodeView W)
-    (is : (n : NodeView V) (o : NodeView W) → R n o → o ≡ made n) (f : V → X) (g : W → Y)
-    (sees : (n m : NodeView V) → bare_node f n ≡ bare_node f m → bare_node g (made n) ≡ bare_node g (made m)) where
-  made_option : (k : Option (NodeView V)) (o : Option (NodeView W)) → AllZip R (listed k) (listed o) → o ≡ option_map made k
-  made_option None None h = refl
-  made_option None (Some o) h = absurd h
-  made_option (Some n) None h = absurd h
-  made_option (Some n) (Some o) h = ap Some (is n o h.0)
-
-  made_table : (ks : List (NameView × NodeView V)) (es : List (NameView × NodeView W))
-      → AllZip (IsUnderName R) ks es → es ≡ entries_by made ks
-  made_table [] [] h = refl
-  made_table [] (e ∷ es) h = absurd h
-  made_table (k ∷ ks) [] h = absurd h
-  made_table (k ∷ ks) (e ∷ es) h = λ i. (h.0.0 i, is k.1 e.1 h.0.1 i) ∷ made_table ks es h.1 i
-
-  same_option : (k l : Option (NodeView V)) (o p : Option (NodeView W))
-      → AllZip R (listed k) (listed o) → AllZip R (listed l) (listed p)
-      → option_map (bare_node f) k ≡ option_map (bare_node f) l
-      → option_map (bare_node g) o ≡ option_map (bare_node g) p
-  same_option k l o p h j same = seen k o h ∙ alike-option (bare_node f) typed sees k l same ∙ sym (seen l p j)
-    where
-      typed : NodeView V → NodeView Y
-      typed n = bare_node g (made n)
-
-      seen : (k : Option (NodeView V)) (o : Option (NodeView W)) → AllZip R (listed k) (listed o)
-          → option_map (bare_node g) o ≡ option_map typed k
-      seen k o h = ap (option_map (bare_node g)) (made_option k o h) ∙ option-through (bare_node g) made k
-
-  same_table : (ks ls : List (NameView × NodeView V)) (es fs : List (NameView × NodeView W))
+    (is : (n : NodeView V) (o : NodeView W) → R n o → o ≡ made n) (f : V → X) (g : W
+    → Y) (sees : (n m : NodeView V) → bare_node f n ≡ bare_node f m → bare_node g (made n)
+    ≡ bare_node g (made m)) where
+  under_names : (ks ls : List (NameView × NodeView V)) (es fs : List (NameView × NodeView W))
       → AllZip (IsUnderName R) ks es → AllZip (IsUnderName R) ls fs
       → map (bare_entry f) ks ≡ map (bare_entry f) ls → map (bare_entry g) es ≡ map (bare_entry g) fs
-  same_table ks ls es fs h j same = seen ks es h ∙ alike-map (bare_entry f) typed alike ks ls same ∙ sym (seen ls fs j)
-    where
-      typed : NameView × NodeView V → NameView × NodeView Y
-      typed k = (bare_name k.0, bare_node g (made k.1))
-
-      alike : (k l : NameView × NodeView V) → bare_entry f k ≡ bare_entry f l → typed k ≡ typed l
-      alike k l e = λ i. ((e i).0, sees k.1 l.1 (ap (λ z. z.1) e) i)
-
-      seen : (ks : List (NameView × NodeView V)) (es : List (NameView × NodeView W)) → AllZip (IsUnderName R) ks es
-          → map (bare_entry g) es ≡ map typed ks
-      seen ks es h = ap (map (bare_entry g)) (made_table ks es h) ∙ map-map (bare_entry g) (λ k. (k.0, made k.1)) ks
+  under_names = alike-made (IsUnderName R) (λ k. (k.0, made k.1)) (λ k e h i. (h.0 i, is k.1 e.1 h.1 i))
+      (bare_entry f) (bare_entry g) (λ k l e i. ((e i).0, sees k.1 l.1 (ap (λ z. z.1) e) i))
 
 -- what a list means
 module _ (laws : ListLaws) (s : Option Schema) where
@@ -79,7 +149,8 @@ module _ (laws : ListLaws) (s : Option Schema) where
   is_operation n o h =
       let xs = n.value.selection_set in
       let same : at_place erased_operation o ≡ at_place (stripped_operation s h.0) n = h.1.1.0 in
-      let root : h.0 ≡ root_or_none s n = sym (ap (λ (r : Option NameView). unwrap_or r (plain_name [])) h.1.0) in
+      let root : h.0 ≡ root_or_none s n =
+      sym (ap (λ (r : Option NameView). unwrap_or r (plain_name [])) h.1.0) in
       let set : o.value.selection_set ≡ elaborated s (root_or_none s n) xs =
       laws.one_set s h.0 xs o.value.selection_set (ap (λ z. z.value.selection_set) same) h.1.1.1
       ∙ ap (λ r. elaborated s r xs) root in
@@ -90,9 +161,14 @@ module _ (laws : ListLaws) (s : Option Schema) where
       let xs = n.value.selection_set in
       let same : at_place erased_fragment f ≡ at_place (stripped_fragment s) n = h.0 in
       let set : f.value.selection_set ≡ elaborated s n.value.type_condition xs =
-      laws.one_set s n.value.type_condition xs f.value.selection_set (ap (λ z. z.value.selection_set) same) h.1 in
+      laws.one_set s n.value.type_condition xs f.value.selection_set (ap (λ z. z.value.selection_set) same)
+      h.1 in
       λ i. record {
-        value = record { name = (same i).value.name; directives = (same i).value.directives; selection_set = set i };
+        value = record {
+          name = (same i).value.name;
+          directives = (same i).value.directives;
+          selection_set = set i;
+        };
         location = (same i).location;
       }
 
@@ -100,18 +176,19 @@ module _ (laws : ListLaws) (s : Option Schema) where
       (h : IsDocumentOf s xs a) (g : IsDocumentOf s ys b) where
     pub in_order : AreEqualInOrder a b
     in_order = record {
-      anonymous =
-          same_option (IsOperationOf s) (typed_operation s) is_operation bare_operation_definition bare_operation
-          (operations-typed s) (kept_anonymous s xs) (kept_anonymous s ys) a.operations.anonymous
-          b.operations.anonymous h.anonymous g.anonymous (anonymous-alike s xs ys e);
-      named =
-          same_table (IsOperationOf s) (typed_operation s) is_operation bare_operation_definition bare_operation
-          (operations-typed s) (kept_named s xs) (kept_named s ys) a.operations.named b.operations.named
-          h.named g.named (named-alike s xs ys e);
-      fragments =
-          same_table (IsFragmentOf s) (typed_fragment s) is_fragment bare_fragment_definition bare_fragment
-          (fragments-typed s) (kept_fragments s xs) (kept_fragments s ys) a.fragments b.fragments
-          h.fragments g.fragments (fragments-alike s xs ys e);
+      anonymous = one-listed _ _ (sym (map-listed (bare_node bare_operation) a.operations.anonymous)
+          ∙ alike-made (IsOperationOf s) (typed_operation s) is_operation bare_op (bare_node bare_operation)
+          (operations-typed s) (listed (kept_anonymous s xs)) (listed (kept_anonymous s ys)) _ _
+          h.anonymous g.anonymous (map-listed bare_op (kept_anonymous s xs) ∙ ap (λ (o : Option Op). listed o)
+          (sym (kept-anonymous s xs) ∙ ap (kept_anonymous s) e ∙ kept-anonymous s ys)
+          ∙ sym (map-listed bare_op (kept_anonymous s ys)))
+          ∙ map-listed (bare_node bare_operation) b.operations.anonymous);
+      named = under_names (IsOperationOf s) (typed_operation s) is_operation bare_operation_definition
+          bare_operation (operations-typed s) (kept_named s xs) (kept_named s ys) _ _ h.named g.named
+          (sym (kept-named s xs) ∙ ap (kept_named s) e ∙ kept-named s ys);
+      fragments = under_names (IsFragmentOf s) (typed_fragment s) is_fragment bare_fragment_definition
+          bare_fragment (fragments-typed s) (kept_fragments s xs) (kept_fragments s ys) _ _ h.fragments
+          g.fragments (sym (kept-fragments s xs) ∙ ap (kept_fragments s) e ∙ kept-fragments s ys);
     }
 
     pub equal_documents : AreEqualDocuments a b

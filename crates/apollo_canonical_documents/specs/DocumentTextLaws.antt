@@ -1,19 +1,13 @@
 -- What the law of the texts of documents takes from the laws below: GraphQL specification of October 2021,
 -- sections 2.2 to 2.8.
-use Rattle.std.specs.Prelude.{◌≡◌, ◌≢◌, ◌≤◌, ℕ, Bool, List, [], Option, length, map}
+use Rattle.std.specs.Prelude.{◌≡◌, ◌≢◌, Bool, List, [], Option, map}
 use Rattle.graphql_nodes.specs.NameView.{NameView}
-use Rattle.graphql_nodes.specs.declared.source.FileId.{FileId}
 use Rattle.graphql_ast.specs.BareDocuments.{bare_definition}
 use Rattle.graphql_ast.specs.declared.definition.Definition.{Definition}
 use Rattle.graphql_ast.specs.declared.selection.Selection.{Selection}
-use Rattle.graphql_grammar.specs.Words.{WordView}
-use Rattle.graphql_grammar.specs.WordsOfText.{words_of}
 use Rattle.graphql_productions.specs.DefinitionTreeParts.{document_parts}
-use Rattle.graphql_productions.specs.Documents.{spells_document}
 use Rattle.graphql_productions.specs.WellFormed.{IsWellFormed}
 use Rattle.graphql_printing.specs.Documents.{definitions_text}
-use Rattle.graphql_round_trip.specs.Nesting.{document_nesting}
-use Rattle.graphql_round_trip.specs.ReadAgain.{SpellEqual}
 use Rattle.apollo_schema.specs.declared.schema.Schema.{Schema}
 use Rattle.apollo_executable.specs.Erasure.{erased_definitions, erased_set}
 use Rattle.apollo_executable.specs.declared.document.ExecutableDocument.{ExecutableDocument}
@@ -24,6 +18,7 @@ use Rattle.apollo_document.specs.TypedSelections.{IsTypedSet}
 use Rattle.apollo_document.specs.AddedDefinitions.{DocumentItem, document_list}
 use Rattle.apollo_document.specs.Documents.{IsDocumentOf}
 use Rattle.apollo_document.specs.WrittenAgain.{IsBuiltAgain, ambiguous_again, faults_again}
+use Rattle.apollo_canonical_text.specs.TextLaws.{ReadingLaws}
 use Rattle.apollo_canonical_documents.specs.FilledSets.{IsFilledDocument}
 use Rattle.apollo_canonical_documents.specs.HandedIn.{HasWellFormedExecutables}
 
@@ -41,18 +36,8 @@ pub record ListLaws : Type 0 where
 pub record DocumentTextLaws : Type 0 where
   -- what the law of equal lists takes
   pub lists : ListLaws
-  -- what is read is well-formed
-  pub formed : (file : FileId) (depth allowed : ℕ) (text : List ℕ) (x : List Definition)
-      → spells_document file depth x (words_of allowed text) → IsWellFormed (document_parts x)
-  -- words spell one document
-  pub one_tree : (file : FileId) (depth : ℕ) (words : List WordView) (a b : List Definition)
-      → spells_document file depth a words → spells_document file depth b words → a ≡ b
-  -- the text of a well-formed document is read as an equal one
-  pub read_again : (file : FileId) (depth allowed : ℕ) (x : List Definition)
-      → IsWellFormed (document_parts x) → document_nesting x ≤ depth
-      → length (definitions_text x) ≤ allowed
-      → SpellEqual (spells_document file depth) (map bare_definition) x
-      (words_of allowed (definitions_text x))
+  -- what is read, also of a text that was printed
+  pub reading : ReadingLaws
   -- the operations and fragments of a well-formed document are well-formed
   pub executables : (errors : Bool) (ds : List Definition) → IsWellFormed (document_parts ds)
       → HasWellFormedExecutables (document_list errors ds)

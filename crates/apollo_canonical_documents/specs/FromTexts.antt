@@ -1,10 +1,9 @@
 -- Typed documents that are built of texts, and their texts: GraphQL specification of October 2021, sections
 -- 2.2 to 2.8.
-use Rattle.std.specs.Prelude.{◌≡◌, ◌⊎◌, ◌≤◌, ℕ, Bool, List, [], Option, None, flat_map, length}
+use Rattle.std.specs.Prelude.{◌≡◌, ◌⊎◌, ℕ, Bool, List, [], Option, None, flat_map}
 use Rattle.std.specs.List.{AllByRecursion}
 use Rattle.graphql_ast.specs.declared.definition.Definition.{Definition}
 use Rattle.graphql_printing.specs.Documents.{definitions_text}
-use Rattle.graphql_round_trip.specs.Nesting.{document_nesting}
 use Rattle.apollo_schema.specs.declared.schema.Schema.{Schema}
 use Rattle.apollo_executable.specs.Erasure.{erased_definitions}
 use Rattle.apollo_executable.specs.declared.document.ExecutableDocument.{ExecutableDocument}
@@ -12,7 +11,7 @@ use Rattle.apollo_document.specs.AddedDefinitions.{DocumentItem, document_list}
 use Rattle.apollo_document.specs.DocumentFaults.{document_faults}
 use Rattle.apollo_document.specs.Documents.{IsDocumentOf}
 use Rattle.apollo_document.specs.WrittenAgain.{ambiguous_again}
-use Rattle.apollo_canonical_text.specs.FromTexts.{Reading, Reads}
+use Rattle.apollo_canonical_text.specs.FromTexts.{IsReadingOfDefinitions, Reading, Reads}
 use Rattle.apollo_canonical_documents.specs.EqualDocuments.{AreEqualDocuments, AreEqualInOrder, bare_faults}
 
 -- a text that is added to a document: how it is read and what it is read as. The flag says whether
@@ -41,12 +40,9 @@ pub record IsDocumentOfTexts (schema : Option Schema) (document : ExecutableDocu
 abbrev pub document_text : ExecutableDocument → List ℕ
 document_text document = definitions_text (erased_definitions document)
 
--- a reading of the document's text in which nothing is refused for its size. The text may nest as deep as the
--- write-out does, and have as many tokens as it has bytes
-pub record IsReadingOfDocument (document : ExecutableDocument) (r : Reading) : Type 0 where
-  pub text : r.text ≡ document_text document
-  pub deep : document_nesting (erased_definitions document) ≤ r.depth
-  pub long : length r.text ≤ r.allowed
+-- a reading of the document's text in which nothing is refused for its size
+abbrev pub IsReadingOfDocument : ExecutableDocument → Reading → Type 0
+IsReadingOfDocument document = IsReadingOfDefinitions (erased_definitions document)
 
 -- definitions that mean a document that is equal to this one and has its text. That is over the schema that
 -- this one was typed over, or without one if it was typed without. It is so whether or not definitions of the

@@ -1,26 +1,22 @@
 -- The built-in definitions are well-formed: their parts are tested, and the tests computed.
-use Rattle.std.proofs.Common.{◌≡◌, ◌≢◌, ℕ, Bool, true, false, not, ◌&&◌, ◌==◌, List, [], ◌∷◌, take, length, refl, sym, ap, ◌∙◌, true≢false, arith}
-use Rattle.std.specs.Prelude.{codes}
-use Rattle.std.specs.List.{AllByRecursion, list_all, prefix_len}
+use Rattle.apollo_canonical_text.proofs.Prelude.{AllByRecursion, Bool, Definition, Description, EnumName}
+use Rattle.apollo_canonical_text.proofs.Prelude.{IsName, IsWellFormedDefinition, IsWellFormedPart, List, Name}
+use Rattle.apollo_canonical_text.proofs.Prelude.{NameView, Node, TreePart, Wanted, [], and_parts, ap, arith}
+use Rattle.apollo_canonical_text.proofs.Prelude.{codes, definition_parts, false, length, list_all, name_parts}
+use Rattle.apollo_canonical_text.proofs.Prelude.{name_text, not, prefix_len, refl, same, same-is, sym, take}
+use Rattle.apollo_canonical_text.proofs.Prelude.{true, true≢false, type_step, value_step, ℕ, ◌&&◌, ◌==◌, ◌∙◌}
+use Rattle.apollo_canonical_text.proofs.Prelude.{◌≡◌, ◌≢◌}
 use Rattle.std.proofs.Math.Seq.{take-length}
-use Rattle.std.proofs.lemmas.Bool.{and_parts}
-use Rattle.graphql_nodes.specs.NameSyntax.{IsName}
-use Rattle.graphql_nodes.specs.NameView.{NameView}
-use Rattle.graphql_nodes.specs.SameText.{same}
-use Rattle.graphql_nodes.proofs.Texts.{same-is}
-use Rattle.graphql_ast.specs.declared.definition.Definition.{Definition}
-use Rattle.graphql_ast.specs.declared.type_reference.Type.{«Type» as TypeReference, NonNullList, NonNullNamed, fold-roll-Type, roll-Type}
+use Rattle.graphql_ast.specs.declared.type_reference.Type.{«Type» as TypeReference, NonNullList, NonNullNamed}
+use Rattle.graphql_ast.specs.declared.type_reference.Type.{fold-roll-Type, roll-Type}
 use Rattle.graphql_ast.specs.declared.type_reference.Type.TheOpen.{Type-F}
 use Rattle.graphql_ast.specs.declared.value.Value.{Boolean, «String» as Text, fold-roll-Value, roll-Value}
 use Rattle.graphql_ast.specs.declared.value.Value.TheOpen.{Value-F}
 use Rattle.graphql_tokens.specs.Bytes.{begins, is_name_byte, is_name_start}
-use Rattle.graphql_productions.specs.DefinitionTreeParts.{definition_parts}
-use Rattle.graphql_productions.specs.TreeParts.{Description, EnumName, Name, Node, TreePart, Wanted, name_parts, type_parts, type_step, value_parts, value_step}
-use Rattle.graphql_productions.specs.WellFormed.{IsWellFormedPart}
-use Rattle.graphql_productions.proofs.NameTexts.{name_text}
+use Rattle.graphql_productions.specs.TreeParts.{type_parts, value_parts}
 use Rattle.graphql_productions.proofs.RolledParts.{list_type_rolled, named_rolled}
 unfoldable use Rattle.apollo_meaning.specs.BuiltInTable.{built_in_definitions}
-use Rattle.apollo_canonical_text.specs.WellFormedLists.{IsWellFormedDefinition}
+use Rattle.apollo_canonical_text.proofs.WellFormedLists.{each-tested}
 
 -- whether a text is a name
 abbrev is_name : List ℕ → Bool
@@ -30,16 +26,22 @@ is_name text = begins is_name_start text && (prefix_len is_name_byte text == len
 abbrev is_well_formed : TreePart → Bool
 is_well_formed (Node at) = true
 is_well_formed (Name n) = is_name n.text
-is_well_formed (EnumName n) = is_name n.text && (not (same n.text (codes "true")) && (not (same n.text (codes "false")) && not (same n.text (codes "null"))))
+is_well_formed (EnumName n) = is_name n.text && (not (same n.text (codes "true"))
+    && (not (same n.text (codes "false")) && not (same n.text (codes "null"))))
 is_well_formed (Description n) = true
 is_well_formed (Wanted there) = there
 is_well_formed _ = false
 
-named : (text : List ℕ) → is_name text ≡ true → IsName text
+pub named : (text : List ℕ) → is_name text ≡ true → IsName text
 named text h =
     let both = and_parts (begins is_name_start text) (prefix_len is_name_byte text == length text) h in
     let long : prefix_len is_name_byte text ≡ length text = grind (arith, both.1) in
-    name_text text (record { bytes = text; size = prefix_len is_name_byte text; token = rw both.0 refl; taken = sym (take-length text) ∙ ap (λ (n : ℕ). take n text) (sym long) })
+    name_text text (record {
+      bytes = text;
+      size = prefix_len is_name_byte text;
+      token = rw both.0 refl;
+      taken = sym (take-length text) ∙ ap (λ (n : ℕ). take n text) (sym long);
+    })
 
 other : (text word : List ℕ) → not (same text word) ≡ true → text ≢ word
 other text word h = λ e. true≢false (sym h ∙ ap not (same-is text word e))
@@ -50,15 +52,15 @@ part (Name n) h = named n.text h
 part (EnumName n) h =
     let a = and_parts (is_name n.text) _ h in
     let b = and_parts (not (same n.text (codes "true"))) _ a.1 in
-    let c = and_parts (not (same n.text (codes "false"))) (not (same n.text (codes "null"))) b.1 in
-    (named n.text a.0, other n.text (codes "true") b.0, other n.text (codes "false") c.0, other n.text (codes "null") c.1)
+    let c = and_parts (not (same n.text (codes "false"))) (not (same n.text (codes "null"))) b.1 in (
+      named n.text a.0,
+      other n.text (codes "true") b.0,
+      other n.text (codes "false") c.0,
+      other n.text (codes "null") c.1,
+    )
 part (Description n) h = tt
 part (Wanted there) h = h
 part _ h = absurd (true≢false (sym h))
-
-all : {X : Type 0} (test : X → Bool) (P : X → Type 0) → ((x : X) → test x ≡ true → P x) → (xs : List X) → list_all test xs ≡ true → AllByRecursion P xs
-all test P sound [] h = tt
-all test P sound (x ∷ xs) h = let both = and_parts (test x) (list_all test xs) h in (sound x both.0, all test P sound xs both.1)
 
 -- ---- the parts of types and default values
 
@@ -86,4 +88,5 @@ unfolding built_in_definitions
 computed = simp (named_rolled, list_type_rolled, required, required_list, boolean, string)
 
 pub built_in : AllByRecursion IsWellFormedDefinition built_in_definitions
-built_in = all passes IsWellFormedDefinition (λ d h. all is_well_formed IsWellFormedPart part (definition_parts d) h) built_in_definitions computed
+built_in = each-tested IsWellFormedDefinition passes (λ d. each-tested IsWellFormedPart is_well_formed part
+    (definition_parts d)) built_in_definitions computed

@@ -1,21 +1,21 @@
 -- What well-formed definitions say of types and of the schema, sort by sort.
-use Rattle.std.proofs.Common.{Bool, true, false, List, [], ◌∷◌, ◌++◌}
-use Rattle.std.specs.List.{AllByRecursion, flat_map}
-use Rattle.std.specs.Option.{IfSome}
-use Rattle.graphql_nodes.specs.NameSyntax.{IsName}
-use Rattle.graphql_nodes.specs.declared.type_kind.TypeKind.{TypeKind}
+use Rattle.apollo_canonical_text.proofs.Prelude.{Added, AllByRecursion, AreWellFormed, Bool, Declaration}
+use Rattle.apollo_canonical_text.proofs.Prelude.{Defined, Directives, Extended, Fields, IfSome, InputFields}
+use Rattle.apollo_canonical_text.proofs.Prelude.{IsName, IsWellFormed, IsWellFormedDefinition}
+use Rattle.apollo_canonical_text.proofs.Prelude.{IsWellFormedPart, Item, List, ListItem, Name, Names}
+use Rattle.apollo_canonical_text.proofs.Prelude.{OfDirective, OfFragment, OfOperation, Other, Parts, Roots}
+use Rattle.apollo_canonical_text.proofs.Prelude.{SchemaDefined, SchemaExtended, SchemaPart, Sort, TreePart}
+use Rattle.apollo_canonical_text.proofs.Prelude.{TypeKind, TypePart, Values, [], added_items, body_parts}
+use Rattle.apollo_canonical_text.proofs.Prelude.{declaration_of, declaration_parts, directive_definitions}
+use Rattle.apollo_canonical_text.proofs.Prelude.{directive_list, directive_part, directive_parts}
+use Rattle.apollo_canonical_text.proofs.Prelude.{directives_parts, enum_value_parts, false, field_parts}
+use Rattle.apollo_canonical_text.proofs.Prelude.{flat_map, front_parts, held_parts, input_value_parts}
+use Rattle.apollo_canonical_text.proofs.Prelude.{item_of, listed, name_parts, names_parts, node_parts}
+use Rattle.apollo_canonical_text.proofs.Prelude.{of_type, root_parts, roots_parts, true, ◌++◌, ◌∷◌}
 use Rattle.graphql_nodes.specs.declared.type_kind.TypeKind.TheVariants as k
-use Rattle.graphql_ast.specs.Declarations.{Declaration, OfDirective, OfFragment, OfOperation, OfSchema, OfType, declaration_of}
-use Rattle.graphql_ast.specs.Parts.{Sort, Directives, Names, Fields, Values, InputFields, Roots, Item, directive_list, listed, of_type}
+use Rattle.graphql_ast.specs.Declarations.{OfSchema, OfType}
 use Rattle.graphql_ast.specs.declared.definition.Definition.TheVariants as d
-use Rattle.graphql_ast.specs.declared.parts.Parts.{Parts}
-use Rattle.graphql_productions.specs.DefinitionTreeParts.{body_parts, declaration_parts, enum_value_parts, field_parts, front_parts, input_value_parts, names_parts, root_parts, roots_parts}
-use Rattle.graphql_productions.specs.TreeParts.{Name, TreePart, directive_parts, directives_parts, name_parts, node_parts}
-use Rattle.graphql_productions.specs.WellFormed.{IsWellFormed, IsWellFormedPart}
-use Rattle.apollo_meaning.specs.Directives.{directive_definitions, directive_part}
-use Rattle.apollo_meaning.specs.Items.ListItems.{Added, Defined, Extended, ListItem, Other, SchemaDefined, SchemaExtended, added_items, ignorable_if, item_from, item_of}
-use Rattle.apollo_meaning.specs.Items.Parts.{SchemaPart, TypePart, held_parts}
-use Rattle.apollo_canonical_text.specs.WellFormedLists.{AreWellFormed, IsWellFormedDefinition}
+use Rattle.apollo_meaning.specs.Items.ListItems.{ignorable_if, item_from}
 use Rattle.apollo_canonical_text.proofs.WellFormedLists.{each-chosen, each-from_flat_map, each-split}
 
 -- each of these could have come of a text
@@ -56,14 +56,15 @@ IsWellFormedItem (Other x) = IsWellFormedDefinition x
 split : (xs ys : List TreePart) → IsWellFormed (xs ++ ys) → IsWellFormed xs × IsWellFormed ys
 split = each-split IsWellFormedPart
 
-each : {A : Type 0} (parts : A → List TreePart) (xs : List A) → IsWellFormed (flat_map parts xs) → EachWellFormed parts xs
+each : {A : Type 0} (parts : A → List TreePart) (xs : List A) → IsWellFormed (flat_map parts xs)
+    → EachWellFormed parts xs
 each parts xs = each-from_flat_map IsWellFormedPart parts xs
 
 -- what stands behind the name of a type of a kind is well-formed, sort by sort
 module _ (ps : Parts) where
   -- directives, and the parts of a sort behind them
-  directed : (s : Sort) → IsWellFormed
-      (directives_parts true (directive_list ps) ++ flat_map (trees s) (listed ps s))
+  directed : (s : Sort)
+      → IsWellFormed (directives_parts true (directive_list ps) ++ flat_map (trees s) (listed ps s))
       → EachWellFormed (trees Directives) ps.directives × EachWellFormed (trees s) (listed ps s)
   directed s h =
       let both = split (directives_parts true (directive_list ps)) (flat_map (trees s) (listed ps s)) h in
@@ -103,8 +104,8 @@ declared (OfType t) h = by t.is_extension (split (front_parts t.is_extension t.d
     by false g = record { name = g.0; parts = behind_name t.parts t.kind g.1 }
 declared (OfSchema s) h = by s.is_extension (split (front_parts s.is_extension s.description _) _ h.1).1
   where
-    by : (b : Bool) → IsWellFormed
-        (directives_parts true (directive_list s.parts) ++ roots_parts b s.parts.roots)
+    by : (b : Bool)
+        → IsWellFormed (directives_parts true (directive_list s.parts) ++ roots_parts b s.parts.roots)
         → IsWellFormedItem (item_from (OfSchema (record s { is_extension = b })))
     by true g = let both = directed s.parts Roots g in record { directives = both.0; roots = both.1 }
     by false g =
@@ -126,8 +127,8 @@ each-added (x ∷ xs) a = (ignorable x.0 (item_of x.1) (declared (declaration_of
 -- the directive definitions of well-formed entries
 pub each-directive : (xs : List ListItem) → AllByRecursion IsWellFormedItem xs
     → AllByRecursion (λ n. IsWellFormedDefinition (d.DirectiveDefinition n)) (directive_definitions xs)
-each-directive =
-    each-chosen (λ n. IsWellFormedDefinition (d.DirectiveDefinition n)) IsWellFormedItem directive_part chosen
+each-directive = each-chosen (λ n. IsWellFormedDefinition (d.DirectiveDefinition n)) IsWellFormedItem
+    directive_part chosen
   where
     chosen : (x : ListItem) → IsWellFormedItem x
         → IfSome (directive_part x) (λ n. IsWellFormedDefinition (d.DirectiveDefinition n))

@@ -1,22 +1,21 @@
+mod Prelude
+pub mod Carried
 mod Plain
-mod PlainFolding
 mod PlainTypes
 mod PlainParts
 mod PlainSchema
-mod PlainComponents
 mod PlainFaults
 mod PlainWriteOut
 mod Alike
 mod Unmarked
 mod Read
+pub mod ReadAgain
 mod FromTexts
 pub mod WellFormedLists
 mod Whole
 mod Items
 mod Components
 mod Written
-mod Meant
 mod WholeList
 mod WriteOut
 mod BuiltIn
-mod Documents

@@ -1,115 +1,137 @@
--- The schema that a plain list means is plain, and is written out without locations as the schema is.
-use Rattle.apollo_meaning.proofs.Prelude.{◌++◌, ◌∙◌, ◌∷◌, ◌≡◌, DirectiveDefinition, Directives, ExtendedType, List, ListItem, NameView, NodeView, [], ap, by_text, defined_part, directive_definitions, filter, filter_map, first_of_each, flat_map, folding_order, keys_of, map, map-append, map-map, not, option_map, refl, same_text, subst, sym, type_names, ℕ, true}
-use Rattle.std.specs.List.{IsDistinct}
-use Rattle.graphql_nodes.specs.Comparing.{bare_name}
-use Rattle.graphql_nodes.specs.Tables.{HasUniqueKeys, values_of}
-use Rattle.graphql_ast.specs.BareDocuments.{bare_definition}
+-- Schemas that lists mean which are one when plain are written out alike, without locations.
+use Rattle.apollo_canonical_text.proofs.Prelude.{AreOf, IsDistinct, List, ListItem, NameView, OperationType}
+use Rattle.apollo_canonical_text.proofs.Prelude.{Schema, TypePart, [], ap, arith, bare_definition}
+use Rattle.apollo_canonical_text.proofs.Prelude.{bare_directive_node, bare_name, by_text, default_name}
+use Rattle.apollo_canonical_text.proofs.Prelude.{defined-unplaced, defined_part, directive_definitions}
+use Rattle.apollo_canonical_text.proofs.Prelude.{directive_of, directive_of-bare, directives-unplaced}
+use Rattle.apollo_canonical_text.proofs.Prelude.{entries_from_lookups, filter, filter-map, filter_map}
+use Rattle.apollo_canonical_text.proofs.Prelude.{first_of_each, first_of_each-distinct, first_of_each-map}
+use Rattle.apollo_canonical_text.proofs.Prelude.{flat_map, flat_map-map, folding_order, is_handed_in}
+use Rattle.apollo_canonical_text.proofs.Prelude.{is_some_object, lookup, map, map-append, map-flat_map}
+use Rattle.apollo_canonical_text.proofs.Prelude.{map-map, mark-kept, name_laws, no_schema, not, option_map}
+use Rattle.apollo_canonical_text.proofs.Prelude.{refl, same_text, schema_of, subst, sym, true}
+use Rattle.apollo_canonical_text.proofs.Prelude.{type_names-first, type_of, unwrap_or, values_of}
+use Rattle.apollo_canonical_text.proofs.Prelude.{write_directives, write_held_schema_definition}
+use Rattle.apollo_canonical_text.proofs.Prelude.{write_held_type, write_schema, write_schema_definition, ℕ}
+use Rattle.apollo_canonical_text.proofs.Prelude.{◌++◌, ◌∙◌, ◌∷◌, ◌≡◌}
+use Rattle.apollo_meaning.proofs.Prelude.{Directives, keys_of}
 use Rattle.graphql_ast.specs.declared.definition.Definition.TheVariants as ast
-use Rattle.apollo_component.proofs.FirstOfEachLemmas.{first_of_each-map, name_laws}
-use Rattle.apollo_component.proofs.Lists.Each.{filter-map}
-use Rattle.apollo_component.proofs.Tabled.{entries_from_lookups, first_of_each-distinct}
-use Rattle.apollo_meaning.specs.Directives.{directive_names, directive_of, is_handed_in}
-use Rattle.apollo_meaning.proofs.Types.NameLemmas.{type_names-first}
-use Rattle.apollo_schema.specs.MeantSchema.{AreOf}
-use Rattle.apollo_schema.specs.SchemaWriteOut.{write_directives, write_held_schema_definition, write_held_type, write_schema}
-use Rattle.apollo_schema.specs.declared.schema.Schema.{Schema}
-use Rattle.apollo_schema_laws.proofs.Rearranged.Bare.{bare_directive_node, directive_of-bare, defined-unplaced, directives-unplaced, mark-kept}
-use Rattle.apollo_canonical_text.proofs.Plain.{plain_list, plain_part}
-use Rattle.apollo_canonical_text.proofs.PlainParts.{held-plain, nowhere}
-use Rattle.apollo_canonical_text.proofs.PlainSchema.{definition-plain, lookup-plain, plain_node, plain_table, schema_of-plain}
-use Rattle.apollo_canonical_text.proofs.PlainTypes.{plain_type, type_of-plain}
+use Rattle.apollo_canonical_text.proofs.Plain.{plain_list}
+use Rattle.apollo_canonical_text.proofs.PlainParts.{nowhere}
+use Rattle.apollo_canonical_text.proofs.PlainSchema.{definition-plain, plain_node, schema_of-plain}
+use Rattle.apollo_canonical_text.proofs.PlainTypes.{seen, seen_plain, type_of-plain}
 
--- a schema
-abbrev pub plain_schema : Schema → Schema
-plain_schema s = record s {
-  schema_definition = plain_node s.schema_definition;
-  directive_definitions = plain_table bare_directive_node s.directive_definitions;
-  types = plain_table plain_type s.types;
-}
+-- ---- tables of which a function sees the same under each name
 
-keys-plain : {V : Type 0} (plain : V → V) (es : List (NameView × V)) → keys_of (plain_table plain es) ≡ map bare_name (keys_of es)
-keys-plain plain es = simp map-map
+module _ {V W : Type 0} (f : V → W) where
+  abbrev through : List (NameView × V) → List (NameView × W)
+  through = map (λ e. (bare_name e.0, f e.1))
 
-names-plain : (xs : List ListItem) → type_names (plain_list xs) ≡ map bare_name (type_names xs)
-names-plain xs =
-    type_names-first (plain_list xs)
-    ∙ ap (first_of_each same_text)
-    (ap (map (λ p. p.name)) (defined-unplaced true xs)
-    ∙ map-map (λ p. p.name) plain_part (filter_map defined_part xs)
-    ∙ sym (map-map bare_name (λ p. p.name) (filter_map defined_part xs)))
-    ∙ sym (first_of_each-map same_text bare_name (map (λ p. p.name) (filter_map defined_part xs)))
-    ∙ ap (map bare_name) (sym (type_names-first xs))
+  -- a table whose keys are the first of each of these names
+  keys-through : (es : List (NameView × V)) (names : List NameView)
+      → keys_of es ≡ first_of_each same_text names
+      → keys_of (through es) ≡ first_of_each same_text (map bare_name names)
+  keys-through es names e =
+      let bare : keys_of (through es) ≡ map bare_name (keys_of es) = simp map-map in
+      bare ∙ ap (map bare_name) e ∙ first_of_each-map same_text bare_name names
 
--- directive definitions
-directive_names-plain : (ds : Directives) → directive_names (map bare_directive_node ds)
-    ≡ map bare_name (directive_names ds)
-directive_names-plain ds =
-    ap (map (λ d. d.value.name))
-    (sym (first_of_each-map (λ a b. same_text a.value.name b.value.name) bare_directive_node ds))
-    ∙ map-map (λ d. d.value.name) bare_directive_node
-    (first_of_each (λ a b. same_text a.value.name b.value.name) ds)
-    ∙ sym (map-map bare_name (λ d. d.value.name) (first_of_each (λ a b. same_text a.value.name b.value.name) ds))
+  lookup-through : (k : NameView) (es : List (NameView × V))
+      → lookup (same_text k) (through es) ≡ option_map f (lookup (by_text k.text) es)
+  lookup-through k [] = refl
+  lookup-through k (e ∷ es) = grind (arith, lookup-through k es)
 
--- what a plain list means
-pub are-plain : (start : ℕ) (xs : List ListItem) (s : Schema) → AreOf start (folding_order xs) xs s → AreOf start (folding_order (plain_list xs)) (plain_list xs) (plain_schema s)
-are-plain start xs s are = record {
-  definition = ap plain_node are.definition ∙ sym (schema_of-plain start xs);
-  types = record {
-    names = keys-plain plain_type s.types ∙ ap (map bare_name) are.types.names ∙ sym (names-plain xs);
-    each = λ n. lookup-plain plain_type (by_text n) (λ k. refl) s.types ∙ ap (option_map plain_type) (are.types.each n) ∙ sym (type_of-plain start xs n);
-  };
-  directives = record {
-    names = keys-plain bare_directive_node s.directive_definitions ∙ ap (map bare_name) are.directives.names
-        ∙ sym (ap directive_names (directives-unplaced true xs)
-        ∙ directive_names-plain (directive_definitions xs));
-    each = λ n. lookup-plain bare_directive_node (by_text n) (λ k. refl) s.directive_definitions
-        ∙ ap (option_map bare_directive_node) (are.directives.each n)
-        ∙ sym (ap (λ ds. directive_of ds n) (directives-unplaced true xs)
-        ∙ directive_of-bare n (directive_definitions xs));
-  };
-}
-
--- a list means one schema definition, one table of types and one of directive definitions, so one write-out
-module _ (start : ℕ) (xs : List ListItem) (s t : Schema) (are : AreOf start (folding_order xs) xs s) (other : AreOf start (folding_order xs) xs t) where
-  types-once : s.types ≡ t.types
-  types-once = entries_from_lookups name_laws t.types s.types unique (are.types.names ∙ sym other.types.names) (λ k. are.types.each k.text ∙ sym (other.types.each k.text))
+  values-alike : (es fs : List (NameView × V)) (us vs : List NameView)
+      → keys_of es ≡ first_of_each same_text us → keys_of fs ≡ first_of_each same_text vs
+      → map bare_name us ≡ map bare_name vs
+      → ((n : List ℕ) → option_map f (lookup (by_text n) es) ≡ option_map f (lookup (by_text n) fs))
+      → map f (values_of es) ≡ map f (values_of fs)
+  values-alike es fs us vs keys others names each = values es ∙ ap (λ gs. values_of gs) same ∙ sym (values fs)
     where
-      unique : HasUniqueKeys same_text t.types
-      unique = subst (IsDistinct same_text) (sym (other.types.names ∙ type_names-first xs)) (first_of_each-distinct same_text (map (λ p. p.name) (filter_map defined_part xs)))
+      values : (gs : List (NameView × V)) → map f (values_of gs) ≡ values_of (through gs)
+      values gs = simp map-map
 
-  directives-once : s.directive_definitions ≡ t.directive_definitions
-  directives-once = entries_from_lookups name_laws t.directive_definitions s.directive_definitions unique (are.directives.names ∙ sym other.directives.names) (λ k. are.directives.each k.text ∙ sym (other.directives.each k.text))
+      same : through es ≡ through fs
+      same = entries_from_lookups name_laws (through fs) (through es) (subst (IsDistinct same_text)
+          (sym (keys-through fs vs others)) (first_of_each-distinct same_text (map bare_name vs)))
+          (keys-through es us keys ∙ ap (first_of_each same_text) names ∙ sym (keys-through fs vs others))
+          (λ k. lookup-through k es ∙ each k.text ∙ sym (lookup-through k fs))
+
+-- ---- what is written out
+
+directives-written : (ds : Directives)
+    → map nowhere (write_directives (map bare_directive_node ds)) ≡ map bare_definition (write_directives ds)
+directives-written ds = ap (λ l. map nowhere (map ast.DirectiveDefinition l))
+    (filter-map is_handed_in bare_directive_node ds
+    ∙ (λ i. map bare_directive_node (filter (λ d. not (mark-kept d.location i)) ds))) ∙ simp map-map
+
+-- a write-out by its parts
+parts-written : (s : Schema)
+    → map bare_definition (write_schema s) ≡ (map bare_definition (write_held_schema_definition s)
+    ++ map nowhere (write_directives (map bare_directive_node (values_of s.directive_definitions))))
+    ++ flat_map (λ w. w.1) (map seen (values_of s.types))
+parts-written s = map-append bare_definition (write_held_schema_definition s
+    ++ write_directives (values_of s.directive_definitions)) (flat_map write_held_type (values_of s.types))
+    ∙ (λ i. (map-append bare_definition (write_held_schema_definition s)
+    (write_directives (values_of s.directive_definitions))
+    ∙ (λ j. map bare_definition (write_held_schema_definition s)
+    ++ sym (directives-written (values_of s.directive_definitions)) j)) i ++ (map-flat_map bare_definition
+    write_held_type (values_of s.types) ∙ sym (flat_map-map (λ w. w.1) seen (values_of s.types))) i)
+
+-- the names of types, without locations
+defined-plain : (xs : List ListItem)
+    → map (λ p. p.name) (filter_map defined_part (plain_list xs))
+    ≡ map bare_name (map (λ p. p.name) (filter_map defined_part xs))
+defined-plain xs = ap (map (λ (p : TypePart). p.name)) (defined-unplaced true xs) ∙ simp map-map
+
+named-plain : (ds : Directives)
+    → map (λ d. d.value.name) (map bare_directive_node ds) ≡ map bare_name (map (λ d. d.value.name) ds)
+named-plain ds = simp map-map
+
+module _ (start : ℕ) (xs ys : List ListItem) (alike : plain_list xs ≡ plain_list ys) (s t : Schema)
+    (are : AreOf start (folding_order xs) xs s) (other : AreOf start (folding_order ys) ys t) where
+  type-alike : (n : List ℕ)
+      → option_map seen (lookup (by_text n) s.types) ≡ option_map seen (lookup (by_text n) t.types)
+  type-alike n = ap (option_map seen) (are.types.each n) ∙ sym (type_of-plain start xs n)
+      ∙ (λ i. option_map seen_plain (type_of start (folding_order (alike i)) (alike i) n))
+      ∙ type_of-plain start ys n ∙ sym (ap (option_map seen) (other.types.each n))
+
+  types-alike : map seen (values_of s.types) ≡ map seen (values_of t.types)
+  types-alike = values-alike seen s.types t.types _ _ (are.types.names ∙ type_names-first xs)
+      (other.types.names ∙ type_names-first ys) (sym (defined-plain xs)
+      ∙ ap (λ l. map (λ p. p.name) (filter_map defined_part l)) alike ∙ defined-plain ys) type-alike
+
+  directives-alike : map bare_directive_node (values_of s.directive_definitions)
+      ≡ map bare_directive_node (values_of t.directive_definitions)
+  directives-alike = values-alike bare_directive_node s.directive_definitions t.directive_definitions _ _
+      (are.directives.names ∙ first_of_each-map same_text (λ d. d.value.name) (directive_definitions xs))
+      (other.directives.names ∙ first_of_each-map same_text (λ d. d.value.name) (directive_definitions ys))
+      (sym (named-plain (directive_definitions xs)) ∙ ap (map (λ d. d.value.name)) bare
+      ∙ named-plain (directive_definitions ys)) (λ n. ap (option_map bare_directive_node)
+      (are.directives.each n) ∙ sym (directive_of-bare n (directive_definitions xs))
+      ∙ ap (λ l. directive_of l n) bare ∙ directive_of-bare n (directive_definitions ys)
+      ∙ sym (ap (option_map bare_directive_node) (other.directives.each n)))
     where
-      unique : HasUniqueKeys same_text t.directive_definitions
-      unique = subst (IsDistinct same_text) (sym (other.directives.names ∙ first_of_each-map same_text (λ d. d.value.name) (directive_definitions xs))) (first_of_each-distinct same_text (map (λ d. d.value.name) (directive_definitions xs)))
+      bare : map bare_directive_node (directive_definitions xs)
+          ≡ map bare_directive_node (directive_definitions ys)
+      bare = sym (directives-unplaced true xs) ∙ ap directive_definitions alike ∙ directives-unplaced true ys
 
-  pub written-once : write_schema s ≡ write_schema t
-  written-once = λ i. write_schema (record s { schema_definition = (are.definition ∙ sym other.definition) i; directive_definitions = directives-once i; types = types-once i })
+  definition-alike : map bare_definition (write_held_schema_definition s)
+      ≡ map bare_definition (write_held_schema_definition t)
+  definition-alike = sym (definition-plain s.types s.types (λ op. refl) s.schema_definition)
+      ∙ (λ i. map nowhere (write_schema_definition (same i).value (same i).location s.types))
+      ∙ definition-plain s.types t.types objects t.schema_definition
+    where
+      same : plain_node s.schema_definition ≡ plain_node t.schema_definition
+      same = ap plain_node are.definition ∙ sym (schema_of-plain start xs)
+          ∙ (λ i. unwrap_or (schema_of start (folding_order (alike i)) (alike i)) no_schema)
+          ∙ schema_of-plain start ys ∙ sym (ap plain_node other.definition)
 
--- the write-out of a plain schema
-directives-written : (es : List (NameView × NodeView DirectiveDefinition))
-    → map nowhere (write_directives (values_of (plain_table bare_directive_node es)))
-    ≡ map bare_definition (write_directives (values_of es))
-directives-written es =
-    ap (λ ds. map nowhere (write_directives ds))
-    (map-map (λ e. e.1) (λ e. (bare_name e.0, bare_directive_node e.1)) es
-    ∙ sym (map-map bare_directive_node (λ e. e.1) es))
-    ∙ ap (λ ds. map nowhere (map ast.DirectiveDefinition ds))
-    (filter-map is_handed_in bare_directive_node (values_of es)
-    ∙ (λ i. map bare_directive_node (filter (λ d. not (mark-kept d.location i)) (values_of es))))
-    ∙ simp map-map
+      objects : (op : OperationType)
+          → is_some_object (lookup (same_text (default_name op)) s.types)
+          ≡ is_some_object (lookup (same_text (default_name op)) t.types)
+      objects op = grind (arith, type-alike (default_name op).text)
 
-types-written : (es : List (NameView × ExtendedType)) → map nowhere (flat_map write_held_type (values_of (plain_table plain_type es))) ≡ map bare_definition (flat_map write_held_type (values_of es))
-types-written [] = refl
-types-written (e ∷ es) =
-    map-append nowhere (write_held_type (plain_type e.1)) (flat_map write_held_type (values_of (plain_table plain_type es)))
-    ∙ (λ i. held-plain e.1 i ++ types-written es i)
-    ∙ sym (map-append bare_definition (write_held_type e.1) (flat_map write_held_type (values_of es)))
-
-pub written-plain : (s : Schema) → map nowhere (write_schema (plain_schema s)) ≡ map bare_definition (write_schema s)
-written-plain s =
-    map-append nowhere (write_held_schema_definition (plain_schema s) ++ write_directives (values_of (plain_schema s).directive_definitions)) (flat_map write_held_type (values_of (plain_schema s).types))
-    ∙ (λ i. (map-append nowhere (write_held_schema_definition (plain_schema s)) (write_directives (values_of (plain_schema s).directive_definitions))
-    ∙ (λ j. definition-plain s.types s.schema_definition j ++ directives-written s.directive_definitions j)
-    ∙ sym (map-append bare_definition (write_held_schema_definition s) (write_directives (values_of s.directive_definitions)))) i ++ types-written s.types i)
-    ∙ sym (map-append bare_definition (write_held_schema_definition s ++ write_directives (values_of s.directive_definitions)) (flat_map write_held_type (values_of s.types)))
+  pub written-alike : map bare_definition (write_schema s) ≡ map bare_definition (write_schema t)
+  written-alike = parts-written s
+      ∙ (λ i. (definition-alike i ++ map nowhere (write_directives (directives-alike i)))
+      ++ flat_map (λ w. w.1) (types-alike i)) ∙ sym (parts-written t)

@@ -1,34 +1,48 @@
 -- What holds of each element of a list, where the list is joined, chosen from or looked up.
-use Rattle.std.proofs.Common.{◌≡◌, ◌||◌, ℕ, Bool, true, false, cond, List, [], ◌∷◌, Option, None, Some, filter, sym, subst, slice_get, true≢false}
-use Rattle.std.specs.List.{AllByRecursion, cons_option, filter_map, flat_map, last_or, list_any}
-use Rattle.std.specs.Option.{IfSome, option_or}
-use Rattle.graphql_nodes.specs.NameView.{NameView}
-use Rattle.graphql_nodes.specs.SameText.{by_text, same_text}
-use Rattle.graphql_nodes.specs.Tables.{HasUniqueKeys, keys_of, lookup, values_of}
-use Rattle.apollo_component.proofs.FirstOfEachLemmas.{name_laws}
-use Rattle.apollo_component.proofs.Lists.Each.{each-filter, each-weaken}
-use Rattle.apollo_component.proofs.Tabled.{given-by_keys}
-pub use Rattle.apollo_schema_laws.proofs.Lists.Kept.{each-flat_map, each-flat_map_back as each-from_flat_map, each-from_map, each-map, each-of, each-split, if-found}
+use Rattle.apollo_canonical_text.proofs.Prelude.{AllByRecursion, Bool, IfSome, IsDistinct, List, NameView}
+use Rattle.apollo_canonical_text.proofs.Prelude.{None, Option, Some, [], and_parts, arith, by_text, cond}
+use Rattle.apollo_canonical_text.proofs.Prelude.{cons_option, each-filter, each-weaken, false, filter}
+use Rattle.apollo_canonical_text.proofs.Prelude.{filter_map, first_of_each, first_of_each-distinct, flat_map}
+use Rattle.apollo_canonical_text.proofs.Prelude.{given-by_keys, keys_of, last_or, list_all, list_any}
+use Rattle.apollo_canonical_text.proofs.Prelude.{name_laws, option_or, same_text, slice_get, subst, sym, true}
+use Rattle.apollo_canonical_text.proofs.Prelude.{true≢false, values_of, ℕ, ◌∷◌, ◌≡◌}
+use Rattle.graphql_nodes.specs.Tables.{lookup}
+pub use Rattle.apollo_schema_laws.proofs.Lists.Kept.{each-flat_map, each-flat_map_back as each-from_flat_map}
+pub use Rattle.apollo_schema_laws.proofs.Lists.Kept.{each-from_map, each-map, each-of, each-split}
+pub use Rattle.apollo_schema_laws.proofs.Lists.Kept.{flat_map-none, if-found, map-empty, passes}
 
 module _ {X : Type 0} (P : X → Type 0) where
   -- what passes a test is among all
   pub each-passing : (p : X → Bool) (xs : List X) → AllByRecursion P xs → AllByRecursion P (filter p xs)
-  each-passing p xs a = each-weaken (λ x. P x × (p x ≡ true)) P (λ x h. h.0) (filter p xs) (each-filter P p xs a)
+  each-passing p xs a = each-weaken (λ x. P x × (p x ≡ true)) P (λ x h. h.0) (filter p xs)
+      (each-filter P p xs a)
 
   module _ {Y : Type 0} where
     -- what is chosen
-    pub each-chosen : (Q : Y → Type 0) (which : Y → Option X) → ((y : Y) → Q y → IfSome (which y) P) → (ys : List Y) → AllByRecursion Q ys → AllByRecursion P (filter_map which ys)
+    pub each-chosen : (Q : Y → Type 0) (which : Y → Option X) → ((y : Y) → Q y → IfSome (which y) P)
+        → (ys : List Y) → AllByRecursion Q ys → AllByRecursion P (filter_map which ys)
     each-chosen Q which chosen [] a = tt
     each-chosen Q which chosen (y ∷ ys) a = by (which y) (chosen y a.0) (each-chosen Q which chosen ys a.1)
       where
-        by : (o : Option X) → IfSome o P → AllByRecursion P (filter_map which ys) → AllByRecursion P (cons_option o (filter_map which ys))
+        by : (o : Option X) → IfSome o P → AllByRecursion P (filter_map which ys)
+            → AllByRecursion P (cons_option o (filter_map which ys))
         by None h rest = rest
         by (Some x) h rest = (h, rest)
 
     -- what is looked up
-    pub if-looked_up : (test : Y → Bool) (es : List (Y × X)) → AllByRecursion (λ e. P e.1) es → IfSome (lookup test es) P
+    pub if-looked_up : (test : Y → Bool) (es : List (Y × X)) → AllByRecursion (λ e. P e.1) es
+        → IfSome (lookup test es) P
     if-looked_up test [] a = tt
-    if-looked_up test (e ∷ es) a = elim (test e.0) as (λ b. IfSome (cond b (Some e.1) (lookup test es)) P) [ true ↦ a.0 | false ↦ if-looked_up test es a.1 ]
+    if-looked_up test (e ∷ es) a = elim (test e.0) as (λ b. IfSome (cond b (Some e.1) (lookup test es)) P)
+        [ true ↦ a.0 | false ↦ if-looked_up test es a.1 ]
+
+  -- what a test that passes shows, where it passes at all
+  pub each-tested : (test : X → Bool) → ((x : X) → test x ≡ true → P x) → (xs : List X)
+      → list_all test xs ≡ true → AllByRecursion P xs
+  each-tested test sound [] h = tt
+  each-tested test sound (x ∷ xs) h =
+      let both = and_parts (test x) (list_all test xs) h in
+      (sound x both.0, each-tested test sound xs both.1)
 
   pub if-first : (xs : List X) → AllByRecursion P xs → IfSome (slice_get xs 0) P
   if-first [] a = tt
@@ -42,11 +56,15 @@ module _ {X : Type 0} (P : X → Type 0) where
   if-either None other h g = g
   if-either (Some x) other h g = h
 
-  -- what holds of all that a table of names has under its keys
-  pub each-value : (es : List (NameView × X)) → HasUniqueKeys same_text es → ((n : List ℕ) → IfSome (lookup (by_text n) es) P) → AllByRecursion P (values_of es)
-  each-value es unique under =
-      alone es (subst (AllByRecursion P) (sym (given-by_keys name_laws give es unique))
-      (each-flat_map P (λ k. give k (lookup (same_text k) es)) (keys_of es) (each-of-keys (keys_of es))))
+  -- what holds of all that a table has under its keys, where these are the first of each of some names
+  pub each-value : (es : List (NameView × X)) (names : List NameView)
+      → keys_of es ≡ first_of_each same_text names → ((n : List ℕ) → IfSome (lookup (by_text n) es) P)
+      → AllByRecursion P (values_of es)
+  each-value es names keys under =
+      alone es (subst (AllByRecursion P)
+      (sym (given-by_keys name_laws give es (subst (IsDistinct same_text) (sym keys)
+      (first_of_each-distinct same_text names)))) (each-flat_map P _ _
+      (each-of _ (λ k. given k (lookup (same_text k) es) (under k.text)) (keys_of es))))
     where
       give : NameView → Option X → List X
       give k None = []
@@ -56,19 +74,12 @@ module _ {X : Type 0} (P : X → Type 0) where
       given k None h = tt
       given k (Some x) h = (h, tt)
 
-      each-of-keys : (ks : List NameView) → AllByRecursion (λ k. AllByRecursion P (give k (lookup (same_text k) es))) ks
-      each-of-keys [] = tt
-      each-of-keys (k ∷ ks) = (given k (lookup (same_text k) es) (under k.text), each-of-keys ks)
-
-      alone : (fs : List (NameView × X)) → AllByRecursion P (flat_map (λ f. give f.0 (Some f.1)) fs) → AllByRecursion P (values_of fs)
+      alone : (fs : List (NameView × X)) → AllByRecursion P (flat_map (λ f. give f.0 (Some f.1)) fs)
+          → AllByRecursion P (values_of fs)
       alone [] a = tt
       alone (f ∷ fs) a = (a.0, alone fs a.1)
 
 -- where a test passes at some element, it keeps something
 pub some-passes : {X : Type 0} (p : X → Bool) (xs : List X) → list_any p xs ≡ true → filter p xs ≡ [] → ⊥
 some-passes p [] h none = true≢false (sym h)
-some-passes {X} p (x ∷ xs) h none = by (p x) h none (some-passes p xs)
-  where
-    by : (b : Bool) → (b || list_any p xs) ≡ true → cond b (x ∷ filter p xs) (filter p xs) ≡ [] → (list_any p xs ≡ true → filter p xs ≡ [] → ⊥) → ⊥
-    by true h none rest = absurd cc
-    by false h none rest = rest h none
+some-passes p (x ∷ xs) h none = grind (arith, h, none, some-passes p xs)

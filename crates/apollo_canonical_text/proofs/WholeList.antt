@@ -1,22 +1,15 @@
 -- A list of well-formed entries is completed with well-formed entries.
-use Rattle.std.proofs.Common.{Bool, true, false, cond, List, [], ◌∷◌, refl}
-use Rattle.std.specs.Prelude.{codes}
-use Rattle.std.specs.List.{AllByRecursion}
-use Rattle.graphql_nodes.specs.NameSyntax.{IsName}
+use Rattle.apollo_canonical_text.proofs.Prelude.{Added, AllByRecursion, AreWellFormed, Bool, Directives}
+use Rattle.apollo_canonical_text.proofs.Prelude.{IsName, List, ListItem, Mutation, OperationType, Query}
+use Rattle.apollo_canonical_text.proofs.Prelude.{Roots, Sort, Subscription, TypePart, [], added_items}
+use Rattle.apollo_canonical_text.proofs.Prelude.{adopted_part, codes, cond, default_root, false, has}
+use Rattle.apollo_canonical_text.proofs.Prelude.{held_parts, implicit_root, implicit_roots, is_object_name}
+use Rattle.apollo_canonical_text.proofs.Prelude.{listed, no_parts, refl, true, whole, ◌∷◌}
+use Rattle.apollo_canonical_text.proofs.BuiltIn.{named}
 use Rattle.graphql_nodes.specs.OperationTexts.{default_type_text}
-use Rattle.graphql_nodes.specs.declared.operation_type.OperationType.{OperationType}
-use Rattle.graphql_nodes.specs.declared.operation_type.OperationType.TheVariants.{Mutation, Query, Subscription}
-use Rattle.graphql_ast.specs.Parts.{Sort, Directives, Roots, has, listed, no_parts}
-use Rattle.graphql_productions.specs.WellFormed.{IsWellFormed}
-use Rattle.graphql_productions.proofs.NameTexts.{name_text}
-use Rattle.apollo_meaning.specs.Completion.Adoption.{adopted_part}
-use Rattle.apollo_meaning.specs.Completion.ImpliedSchema.{default_root, implicit_root, implicit_roots, is_object_name}
-use Rattle.apollo_meaning.specs.Items.ListItems.{Added, ListItem, added_items}
-use Rattle.apollo_meaning.specs.Items.Parts.{TypePart, held_parts}
-use Rattle.apollo_meaning.specs.Schema.Whole.{whole}
-use Rattle.apollo_canonical_text.specs.WellFormedLists.{AreWellFormed}
 use Rattle.apollo_canonical_text.proofs.WellFormedLists.{each-flat_map}
-use Rattle.apollo_canonical_text.proofs.Items.{EachWellFormed, IsWellFormedItem, IsWellFormedType, each-added, trees}
+use Rattle.apollo_canonical_text.proofs.Items.{EachWellFormed, IsWellFormedItem, IsWellFormedType, each-added}
+use Rattle.apollo_canonical_text.proofs.Items.{trees}
 use Rattle.apollo_canonical_text.proofs.Whole.{each-completed}
 
 -- an adopted definition has the name of an extension, and holds nothing
@@ -34,15 +27,14 @@ adopted_one e h = record { name = h.name; parts = none }
 
 -- the default names of roots are names
 default_named : (op : OperationType) → IsName (default_type_text op)
-default_named Query = name_text (codes "Query") (record { bytes = codes "Query"; size = 5; token = refl; taken = refl })
-default_named Mutation = name_text (codes "Mutation") (record { bytes = codes "Mutation"; size = 8; token = refl; taken = refl })
-default_named Subscription = name_text (codes "Subscription") (record { bytes = codes "Subscription"; size = 12; token = refl; taken = refl })
+default_named Query = named (codes "Query") refl
+default_named Mutation = named (codes "Mutation") refl
+default_named Subscription = named (codes "Subscription") refl
 
 -- so implicit roots are well-formed
 implicit : (xs : List ListItem) → EachWellFormed (trees Roots) (implicit_roots xs)
-implicit xs =
-    each-flat_map (λ r. IsWellFormed (trees Roots r)) (implicit_root xs)
-    (Query ∷ Mutation ∷ Subscription ∷ []) (one Query, (one Mutation, (one Subscription, tt)))
+implicit xs = each-flat_map _ (implicit_root xs) (Query ∷ Mutation ∷ Subscription ∷ [])
+    (one Query, (one Mutation, (one Subscription, tt)))
   where
     one : (op : OperationType) → EachWellFormed (trees Roots) (implicit_root xs op)
     one op = by (is_object_name xs (default_type_text op))
@@ -51,7 +43,7 @@ implicit xs =
         by true = ((tt, (default_named op, tt)), tt)
         by false = tt
 
-pub each-whole : (adopts : Bool) (xs : List Added) → AreWellFormed xs → AllByRecursion IsWellFormedItem (whole adopts xs)
-each-whole adopts xs a =
-    each-completed IsWellFormedItem adopted_one (λ ys. record { directives = tt; roots = implicit ys }) adopts
-    (added_items xs) (each-added xs a)
+pub each-whole : (adopts : Bool) (xs : List Added) → AreWellFormed xs
+    → AllByRecursion IsWellFormedItem (whole adopts xs)
+each-whole adopts xs a = each-completed IsWellFormedItem adopted_one
+    (λ ys. record { directives = tt; roots = implicit ys }) adopts (added_items xs) (each-added xs a)

@@ -1,48 +1,111 @@
 -- What the schema of a well-formed list is written out as: the schema's definition, directive definitions and
 -- types.
-use Rattle.std.proofs.Common.{◌≡◌, ℕ, Bool, true, false, cond, ◌&&◌, List, ◌∷◌, None, map, filter, sym, subst, ◌∙◌, drop}
-use Rattle.std.specs.List.{AllByRecursion, IsDistinct, find, last_or}
-use Rattle.std.specs.Option.{IfSome, unwrap_or}
-use Rattle.std.proofs.lemmas.Bool.{and_parts, or_right}
-use Rattle.std.proofs.lemmas.List.Folds.{list_any-append}
-use Rattle.graphql_nodes.specs.BuiltIn.{is_built_in}
-use Rattle.graphql_nodes.specs.NameView.{NameView}
-use Rattle.graphql_nodes.specs.NodeView.{NodeView}
-use Rattle.graphql_nodes.specs.SameText.{same_text}
-use Rattle.graphql_nodes.specs.Tables.{HasUniqueKeys, values_of}
-use Rattle.graphql_ast.specs.Parts.{schema_has}
-use Rattle.graphql_ast.specs.declared.definition.Definition.TheVariants as ast
-use Rattle.graphql_ast.specs.declared.type_system.DirectiveDefinition.{DirectiveDefinition}
-use Rattle.apollo_component.specs.Extensions.{same_origin}
-use Rattle.apollo_component.specs.declared.extension.ComponentOrigin.TheVariants.{Definition}
-use Rattle.apollo_component.proofs.FirstOfEachLemmas.{first_of_each-map}
-use Rattle.apollo_component.proofs.Lists.Cases.{list_any-map}
-use Rattle.apollo_component.proofs.Lists.Each.{each-weaken}
-use Rattle.apollo_component.proofs.Tabled.{first_of_each-distinct}
-use Rattle.apollo_types.specs.Components.{of_directive, of_root}
-use Rattle.apollo_types.specs.SchemaDefinitionWriteOut.{has_own_root, is_written, schema_components}
-use Rattle.apollo_types.specs.SchemaRoots.{named_roots}
-use Rattle.apollo_types.specs.TypeWriteOut.{type_components, type_description, type_kind, type_location, type_name, write_type}
-use Rattle.apollo_types.specs.declared.extended_type.ExtendedType.{ExtendedType}
-use Rattle.apollo_types.specs.declared.schema_definition.SchemaDefinition.{SchemaDefinition}
-use Rattle.apollo_meaning.specs.Directives.{AreDirectivesOf, Directives, directive_definitions, directive_of, has_text, is_handed_in}
-use Rattle.apollo_meaning.specs.Items.ListItems.{Added, ListItem}
-use Rattle.apollo_meaning.specs.Order.Places.{folding_order}
-use Rattle.apollo_meaning.specs.Schema.Definition.{SourcedSchema, no_schema, schema_extension_source, schema_of}
-use Rattle.apollo_meaning.specs.Schema.Whole.{whole}
-use Rattle.apollo_meaning.specs.Types.Components.{Sourced}
-use Rattle.apollo_meaning.specs.Types.Meaning.{AreTypesOf, extension_part}
-use Rattle.apollo_schema.specs.MeantSchema.{MeansSchema}
-use Rattle.apollo_schema.specs.SchemaWriteOut.{write_directives, write_held_type, write_schema}
-use Rattle.apollo_schema.specs.declared.schema.Schema.{Schema}
-use Rattle.apollo_canonical_text.specs.WellFormedLists.{AreWellFormed, IsWellFormedDefinition}
-use Rattle.apollo_canonical_text.proofs.WellFormedLists.{each-map, each-passing, each-value, if-either, if-found, if-last}
-use Rattle.apollo_canonical_text.proofs.Items.{IsWellFormedItem, IsWellFormedSchema, IsWellFormedType, each-directive}
+use Rattle.apollo_canonical_text.proofs.Prelude.{Added, AllByRecursion, AreDirectivesOf, AreTypesOf}
+use Rattle.apollo_canonical_text.proofs.Prelude.{AreWellFormed, Bool, Definition, DirectiveDefinition}
+use Rattle.apollo_canonical_text.proofs.Prelude.{Directives, ExtendedType, Fields, FoldsAll, FoldsByKind}
+use Rattle.apollo_canonical_text.proofs.Prelude.{IfSome, InputFields, IsName, IsWellFormed}
+use Rattle.apollo_canonical_text.proofs.Prelude.{IsWellFormedDefinition, IsWellFormedPart, Item, List}
+use Rattle.apollo_canonical_text.proofs.Prelude.{ListItem, MeansSchema, NameView, Names, NodeView, None}
+use Rattle.apollo_canonical_text.proofs.Prelude.{Roots, Schema, SchemaDefinition, SchemaPart, Sort, Sourced}
+use Rattle.apollo_canonical_text.proofs.Prelude.{SourcedSchema, TypeKind, TypePart, Values, [], added}
+use Rattle.apollo_canonical_text.proofs.Prelude.{and_parts, cond, definition_parts, directive_definitions}
+use Rattle.apollo_canonical_text.proofs.Prelude.{directive_of, document_parts, drop, each-append, each-weaken}
+use Rattle.apollo_canonical_text.proofs.Prelude.{extension_part, false, filter, find, first_of_each-map}
+use Rattle.apollo_canonical_text.proofs.Prelude.{folding_order, has, has_own_root, has_text, held_parts}
+use Rattle.apollo_canonical_text.proofs.Prelude.{is_built_in, is_handed_in, is_written, last_or}
+use Rattle.apollo_canonical_text.proofs.Prelude.{list_any-append, list_any-map, listed, map, named_roots}
+use Rattle.apollo_canonical_text.proofs.Prelude.{no_schema, of_sort, or_right, part_of, refl, same_text}
+use Rattle.apollo_canonical_text.proofs.Prelude.{schema-made, schema_components, schema_definition_of}
+use Rattle.apollo_canonical_text.proofs.Prelude.{schema_extension_source, schema_has, schema_of, subst, sym}
+use Rattle.apollo_canonical_text.proofs.Prelude.{true, type-made, type_components, type_description}
+use Rattle.apollo_canonical_text.proofs.Prelude.{type_kind, type_location, type_name, type_of_kind, unwrap_or}
+use Rattle.apollo_canonical_text.proofs.Prelude.{values_of, whole, with_built_ins, write_directives}
+use Rattle.apollo_canonical_text.proofs.Prelude.{write_held_type, write_schema, write_type, ℕ, ◌&&◌, ◌∙◌, ◌∷◌}
+use Rattle.apollo_canonical_text.proofs.Prelude.{◌≡◌, ◌≢◌}
+use Rattle.apollo_meaning.specs.BuiltInTable.{built_in_definitions}
+use Rattle.apollo_canonical_text.proofs.WellFormedLists.{each-flat_map, each-from_flat_map, each-map}
+use Rattle.apollo_canonical_text.proofs.WellFormedLists.{each-passing, each-value, if-either, if-found}
+use Rattle.apollo_canonical_text.proofs.WellFormedLists.{if-last}
+use Rattle.apollo_canonical_text.proofs.BuiltIn.{built_in}
+use Rattle.apollo_canonical_text.proofs.Items.{EachWellFormed, IsWellFormedItem, IsWellFormedSchema}
+use Rattle.apollo_canonical_text.proofs.Items.{IsWellFormedType, each-directive, trees}
 use Rattle.apollo_canonical_text.proofs.Components.{Suits}
-use Rattle.apollo_canonical_text.proofs.Meant.{IsWellFormedMeaning, schema_made, type_made}
-use Rattle.apollo_canonical_text.proofs.Whole.{FoldsExtensions, FoldsSchemaExtensions, each-type, each-written, schema-meant}
+use Rattle.apollo_component.specs.declared.extension.ComponentOrigin.TheVariants as origins
+use Rattle.apollo_types.specs.Components.{of_directive, of_root}
+use Rattle.apollo_canonical_text.proofs.Whole.{each-type, each-written, schema-meant}
 use Rattle.apollo_canonical_text.proofs.WholeList.{each-whole}
-use Rattle.apollo_canonical_text.proofs.Written.{has_root, is_root, schema_written, type_written}
+use Rattle.apollo_canonical_text.proofs.Written.{has_root, schema_written, type_written}
+use Rattle.graphql_nodes.specs.declared.type_kind.TypeKind.TheVariants as k
+use Rattle.graphql_ast.specs.declared.definition.Definition.TheVariants as ast
+
+-- ---- documents, and lists of their definitions
+
+all-added : (ignores : Bool) (ds : List Definition) → AllByRecursion IsWellFormedDefinition ds
+    → AreWellFormed (added ignores ds)
+all-added ignores ds = each-map (λ a. IsWellFormedDefinition a.1) (λ d. (ignores, d)) ds
+
+pub document-added : (ignores : Bool) (ds : List Definition) → IsWellFormed (document_parts ds)
+    → AreWellFormed (added ignores ds)
+document-added ignores ds h = all-added ignores ds (each-from_flat_map IsWellFormedPart definition_parts ds
+    h.1)
+
+pub document-joined : (ds : List Definition) → ds ≢ [] → AllByRecursion IsWellFormedDefinition ds
+    → IsWellFormed (document_parts ds)
+document-joined [] some a = absurd (some refl)
+document-joined (d ∷ ds) some a = (refl, each-flat_map IsWellFormedPart definition_parts (d ∷ ds) a)
+
+-- with the built-in definitions before them
+pub after_built_ins : (more : List Added) → AreWellFormed more → AreWellFormed (with_built_ins more)
+after_built_ins more a = each-append (λ a. IsWellFormedDefinition a.1) (added false built_in_definitions) more
+    (all-added false built_in_definitions built_in) a
+
+-- ---- the components that well-formed parts make
+
+well : (s t : Sort) (x : Item s) → IsWellFormed (trees s x)
+    → IfSome (of_sort t (part_of s x)) (λ n. IsWellFormed (trees t n))
+well Directives Directives x h = h
+well Names Names x h = h
+well Fields Fields x h = h
+well Values Values x h = h
+well InputFields InputFields x h = h
+well Roots Roots x h = h
+well _ _ x h = tt
+
+-- a well-formed one of a sort that may be there suits
+suits : (is_there : Sort → Bool) (s : Sort) → is_there s ≡ true → (x : Item s) → IsWellFormed (trees s x)
+    → Suits is_there (part_of s x)
+suits is_there Directives there x h = (λ t. well Directives t x h, there)
+suits is_there s there x h = (λ t. well s t x h, there)
+
+each-suits : (is_there : Sort → Bool) (s : Sort) → is_there s ≡ true → (xs : List (Item s))
+    → EachWellFormed (trees s) xs → AllByRecursion (λ x. Suits is_there (part_of s x)) xs
+each-suits is_there s there = each-weaken _ _ (suits is_there s there)
+
+-- a type with a name, of which each component is well-formed and of its kind
+pub record IsWellFormedMeaning (t : ExtendedType) : Type 0 where
+  pub name : IsName (type_name t).text
+  pub components : AllByRecursion (λ c. Suits (has (type_kind t)) c.1) (type_components t)
+
+-- the type that parts make
+module _ (ps : List Sourced) (a : AllByRecursion (λ s. IsWellFormedType s.1) ps) where
+  components : (kind : TypeKind) (head : TypePart)
+      → AllByRecursion (λ c. Suits (has kind) c.1) (type_components (type_of_kind kind head ps))
+  components kind head = type-made (λ c. Suits (has kind) c.1) ps kind head (λ s there. each-weaken _ _
+      (λ q h. each-suits (has kind) s there (listed (held_parts q.1) s) (h.parts s)) ps a)
+
+  pub type_made : (kind : TypeKind) (head : TypePart) → IsName head.name.text
+      → IsWellFormedMeaning (type_of_kind kind head ps)
+  type_made k.Scalar head n = record { name = n; components = components k.Scalar head }
+  type_made kind head n = record { name = n; components = components kind head }
+
+-- and the schema's definition
+pub schema_made : (ps : List SourcedSchema) → AllByRecursion (λ s. IsWellFormedSchema s.1) ps
+    → (head : SchemaPart)
+    → AllByRecursion (λ c. Suits schema_has c.1) (schema_components (schema_definition_of head ps))
+schema_made ps a = schema-made (λ c. Suits schema_has c.1) ps
+    (each-weaken _ _ (λ q h. each-suits schema_has Directives refl q.1.directives h.directives) ps a)
+    (each-weaken _ _ (λ q h. each-weaken _ _ (λ r g op. (λ t. well Roots t _ g, refl)) q.1.roots h.roots) ps
+    a)
 
 -- the components of the schema's definition are well-formed
 abbrev IsSchema : NodeView SchemaDefinition → Type 0
@@ -51,27 +114,25 @@ IsSchema n = AllByRecursion (λ c. Suits schema_has c.1) (schema_components n.va
 -- ---- types
 
 -- a well-formed type is written out well-formed, also without its definition
-held_type : (t : ExtendedType) → IsWellFormedMeaning t → AllByRecursion IsWellFormedDefinition (write_held_type t)
+held_type : (t : ExtendedType) → IsWellFormedMeaning t
+    → AllByRecursion IsWellFormedDefinition (write_held_type t)
 held_type t h = by (is_built_in (type_location t))
   where
     all : AllByRecursion IsWellFormedDefinition (write_type t)
-    all = type_written (type_name t) h.name (type_kind t) (type_description t) (type_components t) (type_location t) h.components
+    all = type_written (type_name t) h.name (type_kind t) (type_description t) (type_components t)
+        (type_location t) h.components
 
     by : (b : Bool) → AllByRecursion IsWellFormedDefinition (cond b (drop 1 (write_type t)) (write_type t))
     by true = all.1
     by false = all
 
 module _ (start : ℕ) (xs : List ListItem) (a : AllByRecursion IsWellFormedItem xs) where
-  types : FoldsExtensions → (table : List (NameView × ExtendedType))
+  types : FoldsByKind → (table : List (NameView × ExtendedType))
       → AreTypesOf start (folding_order xs) xs table
       → AllByRecursion (λ t. AllByRecursion IsWellFormedDefinition (write_held_type t)) (values_of table)
-  types folds table are =
-      each-weaken IsWellFormedMeaning
-      (λ t. AllByRecursion IsWellFormedDefinition (write_held_type t)) held_type (values_of table)
-      (each-type IsWellFormedItem IsWellFormedMeaning
-      (λ d es h g. type_made ((Definition, d) ∷ map extension_part es)
-      (h, each-map (λ (s : Sourced). IsWellFormedType s.1) extension_part es g) d.kind d h.name)
-      folds start xs a table are)
+  types folds table are = each-weaken _ _ held_type _ (each-type IsWellFormedItem IsWellFormedMeaning
+      (λ d es h g. type_made ((origins.Definition, d) ∷ map extension_part es) (h, each-map _ _ _ g) d.kind d
+      h.name) folds start xs a table are)
 
   -- ---- directive definitions
 
@@ -80,43 +141,44 @@ module _ (start : ℕ) (xs : List ListItem) (a : AllByRecursion IsWellFormedItem
 
   one_directive : (n : List ℕ) → IfSome (directive_of (directive_definitions xs) n) IsDirective
   one_directive n =
-      let ds : Directives = directive_definitions xs in
+      let ds = directive_definitions xs in
       let all : AllByRecursion IsDirective ds = each-directive xs a in
-      if-either IsDirective (find (λ d. has_text n d && is_handed_in d) ds) (last_or None (filter (has_text n) ds))
-      (if-found IsDirective (λ d. has_text n d && is_handed_in d) ds all) (if-last IsDirective None (filter (has_text n) ds) tt (each-passing IsDirective (has_text n) ds all))
+      if-either IsDirective (find (λ d. has_text n d && is_handed_in d) ds)
+      (last_or None (filter (has_text n) ds)) (if-found _ _ ds all)
+      (if-last IsDirective None (filter (has_text n) ds) tt (each-passing _ _ _ all))
 
-  directives : (table : List (NameView × NodeView DirectiveDefinition)) → AreDirectivesOf (directive_definitions xs) table → AllByRecursion IsWellFormedDefinition (write_directives (values_of table))
+  directives : (table : List (NameView × NodeView DirectiveDefinition))
+      → AreDirectivesOf (directive_definitions xs) table
+      → AllByRecursion IsWellFormedDefinition (write_directives (values_of table))
   directives table are =
-      let unique : HasUniqueKeys same_text table =
-      subst (IsDistinct same_text) (sym (are.names ∙ first_of_each-map same_text (λ d. d.value.name) (directive_definitions xs))) (first_of_each-distinct same_text (map (λ d. d.value.name) (directive_definitions xs))) in
-      each-map IsWellFormedDefinition ast.DirectiveDefinition (filter is_handed_in (values_of table))
-      (each-passing IsDirective is_handed_in (values_of table) (each-value IsDirective table unique (λ n. subst (λ o. IfSome o IsDirective) (sym (are.each n)) (one_directive n))))
+      each-map _ _ _ (each-passing _ _ _ (each-value IsDirective table _ (are.names
+      ∙ first_of_each-map same_text (λ d. d.value.name) (directive_definitions xs))
+      (λ n. subst (λ o. IfSome o IsDirective) (sym (are.each n)) (one_directive n))))
 
   -- ---- the schema's definition
 
-  one_schema : FoldsSchemaExtensions → IsSchema (unwrap_or (schema_of start (folding_order xs) xs) no_schema)
-  one_schema folds =
-      schema-meant IsWellFormedItem IsSchema tt
-      (λ s es h g. schema_made ((Definition, s) ∷ map schema_extension_source es)
-      (h, each-map (λ (q : SourcedSchema). IsWellFormedSchema q.1) schema_extension_source es g) s)
-      folds start xs a
+  one_schema : FoldsAll → IsSchema (unwrap_or (schema_of start (folding_order xs) xs) no_schema)
+  one_schema folds = schema-meant IsWellFormedItem IsSchema tt (λ s es h g. schema_made
+      ((origins.Definition, s) ∷ map schema_extension_source es) (h, each-map _ _ _ g) s) folds start xs a
 
 -- a root of its own is a root of the definition among the components
-own_root : (s : SchemaDefinition) → has_own_root s ≡ true → has_root Definition (schema_components s) ≡ true
-own_root s h =
-    list_any-append (λ c. is_root c.1 && same_origin Definition c.0) (map of_directive s.directives.0) (map of_root (named_roots s))
-    ∙ or_right (has_root Definition (map of_directive s.directives.0)) (has_root Definition (map of_root (named_roots s))) (list_any-map (λ c. is_root c.1 && same_origin Definition c.0) of_root (named_roots s) ∙ h)
+own_root : (s : SchemaDefinition) → has_own_root s ≡ true
+    → has_root origins.Definition (schema_components s) ≡ true
+own_root s h = list_any-append _ (map of_directive s.directives.0) (map of_root (named_roots s))
+    ∙ or_right (has_root origins.Definition (map of_directive s.directives.0)) (has_root origins.Definition
+    (map of_root (named_roots s))) (list_any-map _ of_root (named_roots s) ∙ h)
 
 -- ---- the whole write-out
 
-pub written : FoldsExtensions → FoldsSchemaExtensions → (start : ℕ) (adopts : Bool) (xs : List Added) (schema : Schema) → MeansSchema start adopts xs schema → AreWellFormed xs
+pub written : FoldsByKind → FoldsAll → (start : ℕ) (adopts : Bool) (xs : List Added) (schema : Schema)
+    → MeansSchema start adopts xs schema → AreWellFormed xs
     → AllByRecursion IsWellFormedDefinition (write_schema schema)
 written folded schema_folded start adopts xs schema means a =
     let all : AllByRecursion IsWellFormedItem (whole adopts xs) = each-whole adopts xs a in
     let s : NodeView SchemaDefinition = schema.schema_definition in
-    each-written IsWellFormedDefinition schema
-    (schema_written (is_written schema.types s.value) s.value.description (schema_components s.value) s.location
-    (subst IsSchema (sym means.definition) (one_schema start (whole adopts xs) all schema_folded))
-    (λ h. own_root s.value (and_parts (has_own_root s.value) _ h).0))
-    (directives start (whole adopts xs) all schema.directive_definitions means.directives)
-    (types start (whole adopts xs) all folded schema.types means.types)
+    each-written IsWellFormedDefinition schema (schema_written (is_written schema.types s.value)
+    s.value.description (schema_components s.value) s.location (subst IsSchema (sym means.definition)
+    (one_schema start (whole adopts xs) all schema_folded))
+    (λ h. own_root s.value (and_parts (has_own_root s.value) _ h).0)) (directives start (whole adopts xs)
+    all schema.directive_definitions means.directives) (types start (whole adopts xs) all folded
+    schema.types means.types)

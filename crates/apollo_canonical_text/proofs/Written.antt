@@ -1,84 +1,75 @@
 -- What components are written out as, under their origins: well-formed definitions and extensions.
-use Rattle.std.proofs.Common.{◌≡◌, Bool, true, false, cond, not, is_some, ◌&&◌, ◌||◌, List, [], ◌∷◌, ◌++◌, Option, None, Some, map, filter, refl, sym, ap, arith, true≢false}
-use Rattle.std.specs.Prelude.{if◌then◌else◌}
-use Rattle.std.specs.List.{AllByRecursion, cons_option, filter_map, flat_map, list_any}
-use Rattle.std.proofs.lemmas.Bool.{or_right}
-use Rattle.graphql_nodes.specs.NameSyntax.{IsName}
-use Rattle.graphql_nodes.specs.NameView.{NameView}
-use Rattle.graphql_nodes.specs.NodeView.{NodeView}
-use Rattle.graphql_nodes.specs.declared.operation_type.OperationType.{OperationType}
-use Rattle.graphql_nodes.specs.declared.source.SourceSpan.{SourceSpan}
-use Rattle.graphql_nodes.specs.declared.type_kind.TypeKind.{TypeKind}
+use Rattle.apollo_canonical_text.proofs.Prelude.{AllByRecursion, Bool, ComponentOrigin, Directives}
+use Rattle.apollo_canonical_text.proofs.Prelude.{ExtensionId, Fields, InputFields, IsName, IsWellFormed}
+use Rattle.apollo_canonical_text.proofs.Prelude.{IsWellFormedDefinition, IsWellFormedPart, List, NameView}
+use Rattle.apollo_canonical_text.proofs.Prelude.{Names, None, Option, Part, Parts, Roots, Some, Sort}
+use Rattle.apollo_canonical_text.proofs.Prelude.{SourceSpan, SourcedPart, TreePart, TypeKind, Values, [], ap}
+use Rattle.apollo_canonical_text.proofs.Prelude.{arith, body_parts, by_origin, cons_option, description_parts}
+use Rattle.apollo_canonical_text.proofs.Prelude.{directive_list, directives_parts, each-append, each-first}
+use Rattle.apollo_canonical_text.proofs.Prelude.{each-weaken, extension_location, false, filter, filter_map}
+use Rattle.apollo_canonical_text.proofs.Prelude.{flat_map, has, id_of, identities, if◌then◌else◌, is_none}
+use Rattle.apollo_canonical_text.proofs.Prelude.{is_some, list_any, listed, map, name_parts, names_parts, not}
+use Rattle.apollo_canonical_text.proofs.Prelude.{of_extensions, of_origin, of_sort, or_right, origins_in}
+use Rattle.apollo_canonical_text.proofs.Prelude.{parts_of, refl, same_id, same_origin, schema_definition}
+use Rattle.apollo_canonical_text.proofs.Prelude.{schema_has, sym, true, type_definition, type_extension}
+use Rattle.apollo_canonical_text.proofs.Prelude.{written_schema, written_type, ◌&&◌, ◌++◌, ◌||◌, ◌∙◌, ◌∷◌}
+use Rattle.apollo_canonical_text.proofs.Prelude.{◌≡◌}
 use Rattle.graphql_nodes.specs.declared.type_kind.TypeKind.TheVariants as k
-use Rattle.graphql_ast.specs.Declarations.{schema_definition, schema_extension, type_definition, type_extension}
-use Rattle.graphql_ast.specs.Parts.{Sort, Directives, Names, Fields, Values, InputFields, Roots, directive_list, has, listed, of_sort, parts_of, schema_has}
-use Rattle.graphql_ast.specs.declared.parts.Part.{Part}
-use Rattle.graphql_ast.specs.declared.parts.Parts.{Parts}
-use Rattle.graphql_productions.specs.DefinitionTreeParts.{body_parts, description_parts, names_parts}
-use Rattle.graphql_productions.specs.TreeParts.{TreePart, directives_parts, name_parts}
-use Rattle.graphql_productions.specs.TypeSystem.{is_none}
-use Rattle.graphql_productions.specs.WellFormed.{IsWellFormed, IsWellFormedPart}
-use Rattle.apollo_component.specs.Extensions.{extension_location, id_of, same_id, same_origin}
-use Rattle.apollo_component.specs.WriteOut.{SourcedPart, by_origin, identities, of_extensions, of_origin, origins_in, written_schema, written_type}
-use Rattle.apollo_component.specs.declared.extension.ComponentOrigin.{ComponentOrigin}
 use Rattle.apollo_component.specs.declared.extension.ComponentOrigin.TheVariants.{Definition, Extension}
-use Rattle.apollo_component.specs.declared.extension.ExtensionId.{ExtensionId}
-use Rattle.apollo_component.proofs.FirstOfEachLemmas.{each-first}
-use Rattle.apollo_component.proofs.Lists.Each.{each-append, each-weaken}
-use Rattle.apollo_canonical_text.specs.WellFormedLists.{IsWellFormedDefinition}
 use Rattle.apollo_canonical_text.proofs.WellFormedLists.{each-flat_map, each-map, each-passing, some-passes}
 use Rattle.apollo_canonical_text.proofs.Items.{AreWellFormedParts, EachWellFormed, trees}
-use Rattle.apollo_canonical_text.proofs.Components.{IsWellFormedComponent, Suits, made_of, one_says, one_says_of_schema, says_of_kind, says_of_schema, part_sort}
+use Rattle.apollo_canonical_text.proofs.Components.{Suits, made_of, one_says, one_says_of_schema}
+use Rattle.apollo_canonical_text.proofs.Components.{says_of_kind, says_of_schema, part_sort}
 
 -- whether some component comes from the extension of an identity
 abbrev is_source : List SourcedPart → ExtensionId → Bool
 is_source cs e = list_any (λ c. same_origin (Extension e) c.0) cs
 
-same_id-itself : (e : ExtensionId) → same_id e e ≡ true
-same_id-itself e = grind arith
-
 -- each identity that is written is such a one
 sources : (cs : List SourcedPart) → AllByRecursion (λ e. is_source cs e ≡ true) (identities (origins_in cs))
 sources cs = each-first (λ e. is_source cs e ≡ true) same_id (filter_map id_of (origins_in cs)) (all cs)
   where
-    more : (c : SourcedPart) (ds : List SourcedPart) → AllByRecursion (λ e. is_source ds e ≡ true) (filter_map id_of (origins_in ds)) → AllByRecursion (λ e. is_source (c ∷ ds) e ≡ true) (filter_map id_of (origins_in ds))
-    more c ds = each-weaken (λ e. is_source ds e ≡ true) (λ e. is_source (c ∷ ds) e ≡ true) (λ e h. or_right (same_origin (Extension e) c.0) (is_source ds e) h) (filter_map id_of (origins_in ds))
-
-    one : (o : ComponentOrigin) (part : Part) (ds : List SourcedPart) → AllByRecursion (λ e. is_source ((o, part) ∷ ds) e ≡ true) (filter_map id_of (origins_in ds))
-        → AllByRecursion (λ e. is_source ((o, part) ∷ ds) e ≡ true) (cons_option (id_of o) (filter_map id_of (origins_in ds)))
-    one Definition part ds rest = rest
-    one (Extension e) part ds rest = (ap (λ b. b || is_source ds e) (same_id-itself e), rest)
-
-    all : (ds : List SourcedPart) → AllByRecursion (λ e. is_source ds e ≡ true) (filter_map id_of (origins_in ds))
+    all : (ds : List SourcedPart)
+        → AllByRecursion (λ e. is_source ds e ≡ true) (filter_map id_of (origins_in ds))
     all [] = tt
-    all (c ∷ ds) = one c.0 c.1 ds (more c ds (all ds))
+    all (c ∷ ds) = by c.0 c.1 (each-weaken (λ e. is_source ds e ≡ true) (λ e. is_source (c ∷ ds) e
+        ≡ true) (λ e. or_right (same_origin (Extension e) c.0) (is_source ds e))
+        (filter_map id_of (origins_in ds)) (all ds))
+      where
+        by : (o : ComponentOrigin) (part : Part)
+            → AllByRecursion (λ e. is_source ((o, part) ∷ ds) e ≡ true) (filter_map id_of (origins_in ds))
+            → AllByRecursion (λ e. is_source ((o, part) ∷ ds) e ≡ true) (cons_option (id_of o)
+            (filter_map id_of (origins_in ds)))
+        by Definition part rest = rest
+        by (Extension e) part rest =
+            let same : same_id e e ≡ true = grind arith in (ap (λ b. b || is_source ds e) same, rest)
 
-module _ (is_there : Sort → Bool) (cs : List SourcedPart)
-    (a : AllByRecursion (λ c. Suits is_there c.1) cs) where
+module _ (is_there : Sort → Bool) (cs : List SourcedPart) (a : AllByRecursion (λ c. Suits is_there c.1)
+    cs) where
   -- the components of one origin
-  alike : (origin : ComponentOrigin) → AllByRecursion (Suits is_there) (map (λ c. c.1) (filter (λ c. same_origin origin c.0) cs))
-  alike origin = each-map (Suits is_there) (λ c. c.1) (filter (λ c. same_origin origin c.0) cs) (each-passing (λ c. Suits is_there c.1) (λ c. same_origin origin c.0) cs a)
+  alike : (origin : ComponentOrigin)
+      → AllByRecursion (Suits is_there) (map (λ c. c.1) (filter (λ c. same_origin origin c.0) cs))
+  alike origin = each-map _ _ _ (each-passing _ _ cs a)
 
   -- make well-formed parts
   of_one : (origin : ComponentOrigin) → AreWellFormedParts (of_origin origin cs)
-  of_one origin =
-      let parts : List Part = map (λ c. c.1) (filter (λ c. same_origin origin c.0) cs) in
-      made_of parts (each-weaken (Suits is_there) IsWellFormedComponent (λ c h. h.0) parts (alike origin))
+  of_one origin = made_of _ (each-weaken _ _ (λ c h. h.0) _ (alike origin))
 
   -- and those of an extension that is written say something
   each_says : (says : Parts → Bool)
       → ((c : Part) (rest : List Part) → is_there (part_sort c) ≡ true → says (parts_of (c ∷ rest)) ≡ true)
       → AllByRecursion (λ e. AreWellFormedParts e.1 × (says e.1 ≡ true)) (of_extensions cs)
-  each_says says one =
-      each-map (λ e. AreWellFormedParts e.1 × (says e.1 ≡ true)) (λ e. (e, of_origin (Extension e) cs)) (identities (origins_in cs))
-      (each-weaken (λ e. is_source cs e ≡ true) (λ e. AreWellFormedParts (of_origin (Extension e) cs) × (says (of_origin (Extension e) cs) ≡ true))
-      (λ e h. (of_one (Extension e), there (filter (λ c. same_origin (Extension e) c.0) cs) (some-passes (λ c. same_origin (Extension e) c.0) cs h) (alike (Extension e)))) (identities (origins_in cs)) (sources cs))
+  each_says says one = each-map _ _ _ (each-weaken _ _ (λ e h.
+      let some = some-passes (λ c. same_origin (Extension e) c.0) cs h in
+      (of_one (Extension e), there _ some (alike (Extension e)))) _ (sources cs))
     where
-      there : (ds : List SourcedPart) → (ds ≡ [] → ⊥) → AllByRecursion (Suits is_there) (map (λ c. c.1) ds) → says (parts_of (map (λ c. c.1) ds)) ≡ true
+      there : (ds : List SourcedPart) → (ds ≡ [] → ⊥) → AllByRecursion (Suits is_there) (map (λ c. c.1) ds)
+          → says (parts_of (map (λ c. c.1) ds)) ≡ true
       there [] some b = absurd (some refl)
       there (c ∷ ds) some b = one c.1 (map (λ c. c.1) ds) b.0.1
 
-all : {A : Type 0} (parts : A → List TreePart) (xs : List A) → EachWellFormed parts xs → IsWellFormed (flat_map parts xs)
+all : {A : Type 0} (parts : A → List TreePart) (xs : List A) → EachWellFormed parts xs
+    → IsWellFormed (flat_map parts xs)
 all parts xs = each-flat_map IsWellFormedPart parts xs
 
 join : (xs ys : List TreePart) → IsWellFormed xs → IsWellFormed ys → IsWellFormed (xs ++ ys)
@@ -91,11 +82,10 @@ description (Some t) = (tt, tt)
 
 -- directives, and the parts of a sort behind them
 module _ (ps : Parts) (w : AreWellFormedParts ps) where
-  directed : (s : Sort) → IsWellFormed
-      (directives_parts true (directive_list ps) ++ flat_map (trees s) (listed ps s))
-  directed s =
-      join (directives_parts true (directive_list ps)) _ (all (trees Directives) ps.directives (w Directives))
-      (all (trees s) (listed ps s) (w s))
+  directed : (s : Sort)
+      → IsWellFormed (directives_parts true (directive_list ps) ++ flat_map (trees s) (listed ps s))
+  directed s = join (directives_parts true (directive_list ps)) _ (all (trees Directives) ps.directives
+      (w Directives)) (all (trees s) (listed ps s) (w s))
 
   -- what stands behind the name of a type
   behind_name : (kind : TypeKind) → IsWellFormed (body_parts kind ps)
@@ -107,16 +97,14 @@ module _ (ps : Parts) (w : AreWellFormedParts ps) where
 
 module _ (name : NameView) (named : IsName name.text) where
   definition : (kind : TypeKind) (text : Option NameView) (ps : Parts) (location : Option SourceSpan)
-      → AreWellFormedParts ps
-      → IsWellFormedDefinition (type_definition kind text name ps location)
+      → AreWellFormedParts ps → IsWellFormedDefinition (type_definition kind text name ps location)
   definition k.Scalar text ps location w =
       (tt, join (description_parts text) _ (description text) (named, behind_name ps w k.Scalar))
   definition kind text ps location w =
       (tt, join (description_parts text) _ (description text) (named, behind_name ps w kind))
 
   extension : (kind : TypeKind) (ps : Parts) (location : Option SourceSpan) → AreWellFormedParts ps
-      → says_of_kind kind ps ≡ true
-      → IsWellFormedDefinition (type_extension kind name ps location)
+      → says_of_kind kind ps ≡ true → IsWellFormedDefinition (type_extension kind name ps location)
   extension k.Scalar ps location w says = (tt, (says, (named, behind_name ps w k.Scalar)))
   extension kind ps location w says = (tt, (says, (named, behind_name ps w kind)))
 
@@ -126,9 +114,7 @@ module _ (name : NameView) (named : IsName name.text) where
       → AllByRecursion IsWellFormedDefinition (written_type kind text name (by_origin cs) location)
   type_written kind text cs location a = (
     definition kind text (of_origin Definition cs) location (of_one (has kind) cs a Definition),
-    each-map IsWellFormedDefinition (λ e. type_extension kind name e.1 (extension_location e.0)) (of_extensions cs)
-        (each-weaken (λ e. AreWellFormedParts e.1 × (says_of_kind kind e.1 ≡ true)) (λ e. IsWellFormedDefinition (type_extension kind name e.1 (extension_location e.0)))
-        (λ e h. extension kind e.1 (extension_location e.0) h.0 h.1) (of_extensions cs)
+    each-map _ _ _ (each-weaken _ _ (λ e h. extension kind e.1 (extension_location e.0) h.0 h.1) _
         (each_says (has kind) cs a (says_of_kind kind) (one_says kind))),
   )
 
@@ -141,23 +127,10 @@ abbrev pub has_root : ComponentOrigin → List SourcedPart → Bool
 has_root origin cs = list_any (λ c. is_root c.1 && same_origin origin c.0) cs
 
 -- it is among the roots of that origin's parts
-root_among : (origin : ComponentOrigin) (cs : List SourcedPart) → has_root origin cs ≡ true → not (is_none (of_origin origin cs).roots) ≡ true
-root_among origin [] h = absurd (true≢false (sym h))
-root_among origin (c ∷ cs) h = by (same_origin origin c.0) h (root_among origin cs)
-  where
-    among : (o : Option (NodeView (OperationType × NameView))) → ((is_some o && true) || has_root origin cs) ≡ true
-        → (has_root origin cs ≡ true → not (is_none (of_origin origin cs).roots) ≡ true) → not (is_none (cons_option o (of_origin origin cs).roots)) ≡ true
-    among None h rest = rest h
-    among (Some r) h rest = refl
-
-    later : (b : Bool) → ((b && false) || has_root origin cs) ≡ true → has_root origin cs ≡ true
-    later true h = h
-    later false h = h
-
-    by : (b : Bool) → ((is_root c.1 && b) || has_root origin cs) ≡ true → (has_root origin cs ≡ true → not (is_none (of_origin origin cs).roots) ≡ true)
-        → not (is_none (filter_map (of_sort Roots) (map (λ d. d.1) (cond b (c ∷ filter (λ d. same_origin origin d.0) cs) (filter (λ d. same_origin origin d.0) cs))))) ≡ true
-    by true h rest = among (of_sort Roots c.1) h rest
-    by false h rest = rest (later (is_root c.1) h)
+root_among : (origin : ComponentOrigin) (cs : List SourcedPart)
+    → has_root origin cs ≡ not (is_none (of_origin origin cs).roots)
+root_among origin [] = refl
+root_among origin (c ∷ cs) = grind (arith, root_among origin cs)
 
 -- the schema's definition, where it is written, and its extensions
 pub schema_written : (is_written : Bool) (text : Option NameView) (cs : List SourcedPart)
@@ -165,12 +138,9 @@ pub schema_written : (is_written : Bool) (text : Option NameView) (cs : List Sou
     → (is_written ≡ true → has_root Definition cs ≡ true)
     → AllByRecursion IsWellFormedDefinition (written_schema is_written text (by_origin cs) location)
 schema_written is_written text cs location a rooted =
-    each-append IsWellFormedDefinition (if is_written then schema_definition text (of_origin Definition cs) location ∷ [] else []) _ (by is_written rooted)
-    (each-map IsWellFormedDefinition (λ e. schema_extension e.1 (extension_location e.0)) (of_extensions cs)
-    (each-weaken (λ e. AreWellFormedParts e.1 × (says_of_schema e.1 ≡ true))
-    (λ e. IsWellFormedDefinition (schema_extension e.1 (extension_location e.0)))
-    (λ e h. (tt, (h.1, directed e.1 h.0 Roots)))
-    (of_extensions cs) (each_says schema_has cs a says_of_schema one_says_of_schema)))
+    each-append _ _ _ (by is_written rooted)
+    (each-map _ _ _ (each-weaken _ _ (λ e h. (tt, (h.1, directed e.1 h.0 Roots))) _
+    (each_says schema_has cs a says_of_schema one_says_of_schema)))
   where
     ps : Parts
     ps = of_origin Definition cs
@@ -178,15 +148,15 @@ schema_written is_written text cs location a rooted =
     own : AreWellFormedParts ps
     own = of_one schema_has cs a Definition
 
-    by : (b : Bool) → (b ≡ true → has_root Definition cs ≡ true) → AllByRecursion IsWellFormedDefinition (if b then schema_definition text ps location ∷ [] else [])
+    by : (b : Bool) → (b ≡ true → has_root Definition cs ≡ true)
+        → AllByRecursion IsWellFormedDefinition (if b then schema_definition text ps location ∷ [] else [])
     by false rooted = tt
     by true rooted = (
       (
         tt,
-        join (description_parts text) _ (description text)
-            (join (directives_parts true (directive_list ps)) _
+        join (description_parts text) _ (description text) (join (directives_parts true (directive_list ps)) _
             (all (trees Directives) ps.directives (own Directives))
-            (root_among Definition cs (rooted refl), all (trees Roots) ps.roots (own Roots))),
+            (sym (root_among Definition cs) ∙ rooted refl, all (trees Roots) ps.roots (own Roots))),
       ),
       tt,
     )

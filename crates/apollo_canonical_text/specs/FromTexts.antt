@@ -57,12 +57,16 @@ pub record IsBuiltOfTexts (schema : Schema) : Type 0 where
 abbrev pub schema_text : Schema → List ℕ
 schema_text schema = definitions_text (write_schema schema)
 
--- a reading of the schema's text in which nothing is refused for its size. The text may nest as deep as the
--- write-out does, and have as many tokens as it has bytes
-pub record IsReadingOf (schema : Schema) (r : Reading) : Type 0 where
-  pub text : r.text ≡ schema_text schema
-  pub deep : document_nesting (write_schema schema) ≤ r.depth
+-- a reading of the text of definitions in which nothing is refused for its size. The text may nest as deep as
+-- they do, and have as many tokens as it has bytes
+pub record IsReadingOfDefinitions (ds : List Definition) (r : Reading) : Type 0 where
+  pub text : r.text ≡ definitions_text ds
+  pub deep : document_nesting ds ≤ r.depth
   pub long : length r.text ≤ r.allowed
+
+-- such a reading of the schema's text
+abbrev pub IsReadingOf : Schema → Reading → Type 0
+IsReadingOf schema = IsReadingOfDefinitions (write_schema schema)
 
 -- definitions that are added after the built-in ones, with adoption. They have no fault and mean a schema
 -- that is equal to this one and has its text, however extensions are numbered

@@ -29,11 +29,8 @@ use Rattle.apollo_schema.specs.declared.schema.Schema.{Schema}
 use Rattle.apollo_schema_laws.specs.WrittenAgain.{IsMeantByList, with_built_ins, written_again}
 use Rattle.apollo_canonical_text.specs.WellFormedLists.{AreWellFormed, IsWellFormedDefinition}
 
--- the laws below: of reading, of printing, and of what schemas are written out as
-pub record TextLaws : Type 0 where
-  -- a location in a file whose number isn't 0 is not marked built-in
-  pub nowhere : (file : FileId) (depth : ℕ) (words : List WordView) (x : List Definition) → file.0 ≢ 0
-      → spells_document file depth x words → IsNowhereBuiltIn (document_parts x)
+-- the laws of what is read, and of what is read of a text that was printed
+pub record ReadingLaws : Type 0 where
   -- what is read is well-formed
   pub formed : (file : FileId) (depth allowed : ℕ) (text : List ℕ) (x : List Definition)
       → spells_document file depth x (words_of allowed text) → IsWellFormed (document_parts x)
@@ -45,6 +42,13 @@ pub record TextLaws : Type 0 where
       → document_nesting x ≤ depth → length (definitions_text x) ≤ allowed
       → SpellEqual (spells_document file depth) (map bare_definition) x
       (words_of allowed (definitions_text x))
+
+-- the laws below: of reading, of printing, and of what schemas are written out as
+pub record TextLaws : Type 0 where
+  pub reading : ReadingLaws
+  -- a location in a file whose number isn't 0 is not marked built-in
+  pub nowhere : (file : FileId) (depth : ℕ) (words : List WordView) (x : List Definition) → file.0 ≢ 0
+      → spells_document file depth x words → IsNowhereBuiltIn (document_parts x)
   -- equal documents have one text
   pub one_text : (x y : List Definition) → map bare_definition x ≡ map bare_definition y
       → definitions_text x ≡ definitions_text y

@@ -3,7 +3,8 @@ use Rattle.apollo_canonical_documents.proofs.PlainListFaults.{list_faults}
 use Rattle.apollo_canonical_documents.proofs.laws.equal_definitions_mean_equal_documents.Goals as goal
 
 pub returns-clause-equal : goal.returns-clause-equal
-returns-clause-equal c = λ schema xs ys e a b h g. equal_documents c.lists_below.ensures schema xs ys e a b h g
+returns-clause-equal c =
+    λ schema xs ys e a b h g. equal_documents c.lists_below.ensures schema xs ys e a b h g
 
 pub returns-clause-ordered : goal.returns-clause-ordered
 returns-clause-ordered c = λ schema xs ys e a b h g. in_order c.lists_below.ensures schema xs ys e a b h g

@@ -8,7 +8,8 @@ returns-clause-each c = document_erased
 
 pub returns-clause-whole : goal.returns-clause-whole
 returns-clause-whole c = λ schema xs document means executables filled some.
-    c.documents_are_well_formed_by_their_definitions.ensures.joined (erased_definitions document) some (document_erased schema xs document means executables filled)
+    c.documents_are_well_formed_by_their_definitions.ensures.joined (erased_definitions document) some
+    (document_erased schema xs document means executables filled)
 
 pub returns-clause-needed : goal.returns-clause-needed
 returns-clause-needed c = document_fills

@@ -1,4 +1,4 @@
-use Rattle.apollo_canonical_text.proofs.Documents.{document-added, document-joined}
+use Rattle.apollo_canonical_text.proofs.WriteOut.{document-added, document-joined}
 use Rattle.apollo_canonical_text.proofs.well_formed.documents_are_well_formed_by_their_definitions.Goals as goal
 
 pub returns-clause-added : goal.returns-clause-added
