@@ -1,5 +1,6 @@
 -- What the headline says of the schema that a list means.
-use Rattle.std.proofs.Common.{◌≡◌, ◌∙◌, ap, sym, ℕ, Bool, true, false, List, map, Option, None, Some, is_some, refl, option_map, unwrap_or, filter_map}
+use Rattle.std.proofs.Common.{◌≡◌, ◌∙◌, ap, sym, ℕ, Bool, true, false, List, map, Option, None, Some, is_some}
+use Rattle.std.proofs.Common.{refl, option_map, unwrap_or, filter_map}
 use Rattle.std.specs.List.{enumerate_from}
 use Rattle.std.specs.Prelude.{nat_eq}
 use Rattle.graphql_nodes.specs.SameText.{same_text}
@@ -28,20 +29,28 @@ use Rattle.apollo_compiler.specs.declared.compiled.Compiled.{Compiled}
 -- schema's for that. The names of types are the first of each text, and no two extensions have one number
 pub record ListLaws : Type 0 where
   pub folded : (start : ℕ) (xs : List ListItem) (n : List ℕ) (d : TypePart) → first xs n ≡ Some d
-      → map (λ s. s.1) (extensions_with_origin n start (folding_order xs)) ≡ of_kind (kind_of d) (extensions_of xs n)
-  pub schema_folded : (start : ℕ) (xs : List ListItem) (s : SchemaPart) → first_schema xs ≡ Some s → map (λ e. e.1) (schema_sourced start (folding_order xs)) ≡ schema_extensions xs
-  pub numbers : (start : ℕ) (xs : List ListItem) → HasUniqueKeys nat_eq (enumerate_from start (folding_order xs))
-  pub names : (xs : List ListItem) → type_names xs ≡ first_of_each same_text (map (λ p. p.name) (filter_map defined_part xs))
+      → map (λ s. s.1) (extensions_with_origin n start (folding_order xs))
+      ≡ of_kind (kind_of d) (extensions_of xs n)
+  pub schema_folded : (start : ℕ) (xs : List ListItem) (s : SchemaPart) → first_schema xs ≡ Some s
+      → map (λ e. e.1) (schema_sourced start (folding_order xs)) ≡ schema_extensions xs
+  pub numbers : (start : ℕ) (xs : List ListItem)
+      → HasUniqueKeys nat_eq (enumerate_from start (folding_order xs))
+  pub names : (xs : List ListItem) → type_names xs
+      ≡ first_of_each same_text (map (λ p. p.name) (filter_map defined_part xs))
 
-module _ (laws : ListLaws) (start : ℕ) (adopts : Bool) (list : List Added) (schema : Schema) (means : MeansSchema start adopts list schema) where
+module _ (laws : ListLaws) (start : ℕ) (adopts : Bool) (list : List Added) (schema : Schema)
+    (means : MeansSchema start adopts list schema) where
   abbrev xs : List ListItem
   xs = whole adopts list
 
   -- a type of a list is folded of its name's first definition
-  folds : (n : List ℕ) (t : ExtendedType) → type_of start (folding_order xs) xs n ≡ Some t → IsFolded start xs n t
+  folds : (n : List ℕ) (t : ExtendedType) → type_of start (folding_order xs) xs n ≡ Some t
+      → IsFolded start xs n t
   folds n t is = by (first xs n) refl is
     where
-      by : (o : Option TypePart) → first xs n ≡ o → option_map (λ d. type_from d (parts start (folding_order xs) n d)) o ≡ Some t → IsFolded start xs n t
+      by : (o : Option TypePart) → first xs n ≡ o
+          → option_map (λ d. type_from d (parts start (folding_order xs) n d)) o ≡ Some t
+          → IsFolded start xs n t
       by None e h = cc
       by (Some d) e h = record {
         definition = d;
@@ -51,7 +60,8 @@ module _ (laws : ListLaws) (start : ℕ) (adopts : Bool) (list : List Added) (sc
       }
 
   same_names : (n : List ℕ) → is_some (type_named schema n) ≡ is_some (first xs n)
-  same_names n = ap (λ (o : Option ExtendedType). is_some o) (means.types.each n) ∙ is_some-map (λ (d : TypePart). type_from d (parts start (folding_order xs) n d)) (first xs n)
+  same_names n = ap (λ (o : Option ExtendedType). is_some o) (means.types.each n)
+      ∙ is_some-map (λ (d : TypePart). type_from d (parts start (folding_order xs) n d)) (first xs n)
 
   pub is-schema : IsSchemaOf start xs schema
   is-schema = record {
@@ -61,17 +71,31 @@ module _ (laws : ListLaws) (start : ℕ) (adopts : Bool) (list : List Added) (sc
     numbers = laws.numbers start xs;
     directives = means.directives.each;
     directive_order = means.directives.names;
-    definition = λ s is. means.definition ∙ ap (λ (o : Option SchemaPart). unwrap_or (option_map (λ p. schema_from p (schema_parts start (folding_order xs) p)) o) no_schema) is;
+    definition = λ s is. means.definition ∙ ap (λ (o : Option SchemaPart). unwrap_or
+        (option_map (λ p. schema_from p (schema_parts start (folding_order xs) p)) o) no_schema) is;
     extended = laws.schema_folded start xs;
-    without_definition = λ none. means.definition ∙ ap (λ (o : Option SchemaPart). unwrap_or (option_map (λ p. schema_from p (schema_parts start (folding_order xs) p)) o) no_schema) none;
+    without_definition = λ none. means.definition ∙ ap (λ (o : Option SchemaPart). unwrap_or
+        (option_map (λ p. schema_from p (schema_parts start (folding_order xs) p)) o) no_schema) none;
   }
 
 -- so the rebuild of what is compiled is as it was
-pub rebuilt-as_it_was : ((schema rebuilt : Schema) → IsMeantByList schema → (ignores : Bool) (start : ℕ) → MeansSchema start true (written_again ignores schema) rebuilt → IsRebuiltEqual ignores schema rebuilt)
-    → (options : CompileOptions) (schema_documents executable_documents : List Document) (errors : Bool) (compiled : Compiled) → IsCompiled options schema_documents executable_documents errors compiled
+pub rebuilt-as_it_was : ((schema rebuilt : Schema) → IsMeantByList schema → (ignores : Bool) (start : ℕ)
+    → MeansSchema start true (written_again ignores schema) rebuilt → IsRebuiltEqual ignores schema rebuilt)
+    → (options : CompileOptions) (schema_documents executable_documents : List Document) (errors : Bool)
+    (compiled : Compiled) → IsCompiled options schema_documents executable_documents errors compiled
     → IsUnmarkedAndRooted (handed_in options schema_documents) → IsRebuiltAsItWas compiled
 unfolding schema_list
 rebuilt-as_it_was rebuilds options schema_documents executable_documents errors compiled is within =
-    let meant : IsMeantByList compiled.schema = record { start = 0; adopts = options.adopt_orphan_extensions; more = handed_in options schema_documents; within = within; means = is.schema } in
+    let meant : IsMeantByList compiled.schema = record {
+      start = 0;
+      adopts = options.adopt_orphan_extensions;
+      more = handed_in options schema_documents;
+      within = within;
+      means = is.schema;
+    } in
     let again = rebuilds compiled.schema compiled.rebuilt meant false 0 is.rebuilt in
-    record { faultless = is.rebuilt_faults ∙ again.faultless; equal = again.equal; same = is.rebuilt_ast ∙ again.same ∙ sym is.ast }
+    record {
+      faultless = is.rebuilt_faults ∙ again.faultless;
+      equal = again.equal;
+      same = is.rebuilt_ast ∙ again.same ∙ sym is.ast;
+    }

@@ -1,5 +1,6 @@
 -- The fragments of a document, under their names.
-use Rattle.std.proofs.Common.{◌≡◌, ℕ, Bool, true, false, cond, List, [], ◌∷◌, map, Option, Some, None, refl, ap, ◌∙◌, option_map}
+use Rattle.std.proofs.Common.{◌≡◌, ℕ, Bool, true, false, cond, List, [], ◌∷◌, map, Option, Some, None, refl}
+use Rattle.std.proofs.Common.{ap, ◌∙◌, option_map}
 use Rattle.graphql_nodes.specs.NameView.{NameView}
 use Rattle.graphql_nodes.specs.NodeView.{NodeView}
 use Rattle.graphql_nodes.specs.SameText.{same, by_text}
@@ -23,19 +24,18 @@ of-entries : (es : List (NameView × NodeView Fragment)) (n : List ℕ)
     → fragment_of (map (λ e. (e.0.text, seen_fragment e.1)) es) n
     ≡ option_map seen_fragment (lookup (by_text n) es)
 of-entries [] n = refl
-of-entries (e ∷ es) n =
-    ap (cond (same n e.0.text) (Some (seen_fragment e.1))) (of-entries es n)
+of-entries (e ∷ es) n = ap (cond (same n e.0.text) (Some (seen_fragment e.1))) (of-entries es n)
     ∙ either (same n e.0.text) e.1 (lookup (by_text n) es)
 
 -- the fragment that a walk finds is that of the document
-pub fragment-of : (d : ExecutableDocument) (n : List ℕ) → fragment_of (placed_fragments d) n
-    ≡ option_map seen_fragment (lookup (by_text n) d.fragments)
+pub fragment-of : (d : ExecutableDocument) (n : List ℕ)
+    → fragment_of (placed_fragments d) n ≡ option_map seen_fragment (lookup (by_text n) d.fragments)
 unfolding placed_fragments
 fragment-of d n = of-entries d.fragments n
 
 pub fragment-found : (d : ExecutableDocument) (n : List ℕ) (f : NodeView Fragment)
-    → lookup (by_text n) d.fragments ≡ Some f → fragment_of (placed_fragments d) n
-    ≡ Some (placed_set f.value.selection_set)
+    → lookup (by_text n) d.fragments ≡ Some f
+    → fragment_of (placed_fragments d) n ≡ Some (placed_set f.value.selection_set)
 fragment-found d n f is = fragment-of d n ∙ ap (option_map seen_fragment) is
 
 pub fragment-missing : (d : ExecutableDocument) (n : List ℕ) → lookup (by_text n) d.fragments ≡ None

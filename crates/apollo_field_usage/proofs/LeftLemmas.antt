@@ -23,7 +23,8 @@ use Rattle.apollo_field_usage.specs.Occurrences.{Occurrence}
 use Rattle.apollo_field_usage.specs.Placed.{Placed, placed, placed_set, placed_fragments}
 use Rattle.apollo_field_usage.specs.Reached.{reached}
 use Rattle.apollo_field_usage.proofs.FragmentLemmas.{fragment-found, fragment-missing}
-use Rattle.apollo_field_usage.proofs.PlacedLemmas.{placed-none, placed-field, placed-spread, placed-inline, over-some, over-none}
+use Rattle.apollo_field_usage.proofs.PlacedLemmas.{placed-none, placed-field, placed-spread, placed-inline}
+use Rattle.apollo_field_usage.proofs.PlacedLemmas.{over-some, over-none}
 
 abbrev seen_open : List Open → List Placed
 seen_open = map (λ l. placed l.0 l.1)
@@ -36,8 +37,7 @@ module _ (d : ExecutableDocument) (names : Names) where
 
   is : (lists : List Open) (x : ToCome Occurrence) → IsToCome (placed_fragments d) names (seen_open lists) x
       → left_in d names lists ≡ x
-  is lists x left =
-      one-to-come (placed_fragments d) names (seen_open lists) (left_in d names lists) x
+  is lists x left = one-to-come (placed_fragments d) names (seen_open lists) (left_in d names lists) x
       (is_left lists) left
 
   -- where no set is open, nothing is left
@@ -46,18 +46,15 @@ module _ (d : ExecutableDocument) (names : Names) where
 
   -- there is a turn left while one is open
   pub left-goes_on : (l : Open) (lists : List Open) → 0 < (left_in d names (l ∷ lists)).turns
-  left-goes_on l lists =
-      (turn-by-turn (placed_fragments d) names).goes_on (placed l.0 l.1) (seen_open lists)
+  left-goes_on l lists = (turn-by-turn (placed_fragments d) names).goes_on (placed l.0 l.1) (seen_open lists)
       (left_in d names (l ∷ lists)) (is_left (l ∷ lists))
 
   module _ (ty : NameView) (lists : List Open) where
     -- an empty set is closed
     pub left-closes : left_in d names ((ty, []) ∷ lists) ≡ a_turn_before (left_in d names lists)
-    left-closes =
-        is ((ty, []) ∷ lists) _
-        (rw (placed-none ty)
-        ((turn-by-turn (placed_fragments d) names).closes (seen_open lists) (left_in d names lists)
-        (is_left lists)))
+    left-closes = is ((ty, []) ∷ lists) _
+        (rw (placed-none ty) ((turn-by-turn (placed_fragments d) names).closes (seen_open lists)
+        (left_in d names lists) (is_left lists)))
 
     module _ (rest : List Selection) where
       -- a field is given, and its set is opened where there is something in it
@@ -66,8 +63,7 @@ module _ (d : ExecutableDocument) (names : Names) where
           ≡ a_field_before (record { ty = ty; field = n }) (left_in d names ((ty, rest) ∷ lists))
       left-leaf n empty =
           let set = n.value.selection_set in
-          let none_over =
-          ap (λ ss. over (placed set.ty ss) (seen_open ((ty, rest) ∷ lists))) empty
+          let none_over = ap (λ ss. over (placed set.ty ss) (seen_open ((ty, rest) ∷ lists))) empty
           ∙ over-none set.ty (seen_open ((ty, rest) ∷ lists)) in
           is ((ty, variant.Field n ∷ rest) ∷ lists) _ (rw (placed-field ty n rest)
           ((turn-by-turn (placed_fragments d) names).gives _ (placed_set set) (placed ty rest)
@@ -76,8 +72,7 @@ module _ (d : ExecutableDocument) (names : Names) where
       pub left-field : (n : NodeView Field) (s : Selection) (ss : List Selection)
           → n.value.selection_set.selections ≡ s ∷ ss
           → left_in d names ((ty, variant.Field n ∷ rest) ∷ lists)
-          ≡ a_field_before (record { ty = ty; field = n })
-          (left_in d names
+          ≡ a_field_before (record { ty = ty; field = n }) (left_in d names
           ((n.value.selection_set.ty, n.value.selection_set.selections) ∷ (ty, rest) ∷ lists))
       left-field n s ss filled =
           let set = n.value.selection_set in
@@ -85,14 +80,12 @@ module _ (d : ExecutableDocument) (names : Names) where
           let all_over : over (placed_set set) others ≡ placed_set set ∷ others =
           rw filled (over-some set.ty s ss others) in
           is ((ty, variant.Field n ∷ rest) ∷ lists) _ (rw (placed-field ty n rest)
-          ((turn-by-turn (placed_fragments d) names).gives _ (placed_set set) (placed ty rest)
-          (seen_open lists) _ (rw all_over (is_left ((set.ty, set.selections) ∷ (ty, rest) ∷ lists)))))
+          ((turn-by-turn (placed_fragments d) names).gives _ (placed_set set) (placed ty rest) (seen_open
+          lists) _ (rw all_over (is_left ((set.ty, set.selections) ∷ (ty, rest) ∷ lists)))))
 
       -- the set of an inline fragment is opened
       pub left-inline : (n : NodeView InlineFragment)
-          → left_in d names ((ty, variant.InlineFragment n ∷ rest) ∷ lists)
-          ≡ a_turn_before
-          (left_in d names
+          → left_in d names ((ty, variant.InlineFragment n ∷ rest) ∷ lists) ≡ a_turn_before (left_in d names
           ((n.value.selection_set.ty, n.value.selection_set.selections) ∷ (ty, rest) ∷ lists))
       left-inline n =
           let set = n.value.selection_set in
@@ -102,19 +95,15 @@ module _ (d : ExecutableDocument) (names : Names) where
 
       module _ (n : NodeView FragmentSpread) where
         -- a spread of a name that is opened, or that has no fragment, is passed over
-        passes : (names n.value.fragment_name.text ≡ true) ⊎
-            (lookup (by_text n.value.fragment_name.text) d.fragments ≡ None)
+        passes : (names n.value.fragment_name.text ≡ true) ⊎ (lookup (by_text n.value.fragment_name.text)
+            d.fragments ≡ None)
             → left_in d names ((ty, variant.FragmentSpread n ∷ rest) ∷ lists)
             ≡ a_turn_before (left_in d names ((ty, rest) ∷ lists))
-        passes why =
-            is ((ty, variant.FragmentSpread n ∷ rest) ∷ lists) _
-            (rw (placed-spread ty n rest)
+        passes why = is ((ty, variant.FragmentSpread n ∷ rest) ∷ lists) _ (rw (placed-spread ty n rest)
             ((turn-by-turn (placed_fragments d) names).passes n.value.fragment_name.text
-            (placed ty rest) (seen_open lists) _
-            (elim why [
+            (placed ty rest) (seen_open lists) _ (elim why [
               | inl opened ↦ inl opened
-              | inr missing ↦ inr
-                  (fragment-missing d n.value.fragment_name.text missing)
+              | inr missing ↦ inr (fragment-missing d n.value.fragment_name.text missing)
             ]) (is_left ((ty, rest) ∷ lists))))
 
         pub left-opened : names n.value.fragment_name.text ≡ true
@@ -131,18 +120,15 @@ module _ (d : ExecutableDocument) (names : Names) where
         pub left-opens : (f : NodeView Fragment) → names n.value.fragment_name.text ≡ false
             → lookup (by_text n.value.fragment_name.text) d.fragments ≡ Some f
             → left_in d names ((ty, variant.FragmentSpread n ∷ rest) ∷ lists)
-            ≡ a_turn_before
-            (left_in d (with_name n.value.fragment_name.text names)
+            ≡ a_turn_before (left_in d (with_name n.value.fragment_name.text names)
             ((f.value.selection_set.ty, f.value.selection_set.selections) ∷ (ty, rest) ∷ lists))
         unfolding left_in
         left-opens f closed found =
             let set = f.value.selection_set in
-            is ((ty, variant.FragmentSpread n ∷ rest) ∷ lists) _
-            (rw (placed-spread ty n rest)
+            is ((ty, variant.FragmentSpread n ∷ rest) ∷ lists) _ (rw (placed-spread ty n rest)
             ((turn-by-turn (placed_fragments d) names).opens n.value.fragment_name.text (placed_set set)
-            (placed ty rest) (seen_open lists) _
-            closed (fragment-found d n.value.fragment_name.text f found)
-            (what_is_to_come (placed_fragments d) (with_name n.value.fragment_name.text names)
+            (placed ty rest) (seen_open lists) _ closed (fragment-found d n.value.fragment_name.text f
+            found) (what_is_to_come (placed_fragments d) (with_name n.value.fragment_name.text names)
             (seen_open ((set.ty, set.selections) ∷ (ty, rest) ∷ lists))).1))
 
 -- all that is to come at first is what is reached
@@ -151,7 +137,6 @@ unfolding reached
 all-reached d set =
     let fragments = placed_fragments d in
     let s = placed_set set in
-    let walk =
-    (begins fragments s (all_to_come d set)
-    (is_left d no_names ((set.ty, set.selections) ∷ []))).walk in
+    let walk = (begins fragments s (all_to_come d set) (is_left d no_names ((set.ty, set.selections)
+    ∷ []))).walk in
     (order-determined fragments walk.order (ordered fragments no_names s).order).0

@@ -1,5 +1,6 @@
 -- The sets that a walk has open.
-use Rattle.std.proofs.Common.{◌≡◌, ◌<◌, ℕ, Bool, false, List, [], ◌∷◌, ◌++◌, map, reverse, Option, None, Some, IfNone, IfSome, MatchOption, length, get_or, arith, refl, sym, ap, ◌∙◌}
+use Rattle.std.proofs.Common.{◌≡◌, ◌<◌, ℕ, Bool, false, List, [], ◌∷◌, ◌++◌, map, reverse, Option, None, Some}
+use Rattle.std.proofs.Common.{IfNone, IfSome, MatchOption, length, get_or, arith, refl, sym, ap, ◌∙◌}
 use Rattle.std.proofs.lemmas.List.{reverse-append, map-append, nil_from_length, get_or_read_under, length-map}
 use Rattle.std.proofs.lemmas.List.Quantifiers.{position-Some}
 use Rattle.std.specs.Option.{option_to_list}
@@ -15,11 +16,11 @@ use Rattle.apollo_field_usage.specs.Left.{innermost_first}
 use Rattle.apollo_field_usage.specs.Seen.{seen_set}
 use Rattle.apollo_field_usage.specs.declared.open_sets.OpenSet.{OpenSet}
 
-pub innermost-push : (sets : List OpenSet) (s : OpenSet) → innermost_first (sets ++ s ∷ [])
-    ≡ seen_set s ∷ innermost_first sets
+pub innermost-push : (sets : List OpenSet) (s : OpenSet)
+    → innermost_first (sets ++ s ∷ []) ≡ seen_set s ∷ innermost_first sets
 unfolding innermost_first
-innermost-push sets s =
-    ap reverse (map-append seen_set sets (s ∷ [])) ∙ reverse-append (map seen_set sets) (seen_set s ∷ [])
+innermost-push sets s = ap reverse (map-append seen_set sets (s ∷ [])) ∙ reverse-append (map seen_set sets)
+    (seen_set s ∷ [])
 
 pub innermost-empty : innermost_first [] ≡ []
 unfolding innermost_first
@@ -28,8 +29,8 @@ innermost-empty = refl
 pub popped-none : (r : Option OpenSet) (old : List OpenSet) (n : ℕ) → n ≡ length old
     → (P : OpenSet → Type 0) (m : ℕ) → MatchOption r ((n ≡ 0) × (m ≡ 0)) P
     → IfNone r (innermost_first old ≡ [])
-popped-none None old n long P m is =
-    ap innermost_first (nil_from_length old (sym long ∙ is.0)) ∙ innermost-empty
+popped-none None old n long P m is = ap innermost_first (nil_from_length old (sym long ∙ is.0))
+    ∙ innermost-empty
 popped-none (Some s) old n long P m is = tt
 
 pub popped-some : (r : Option OpenSet) (old new : List OpenSet) → old ≡ new ++ option_to_list r
@@ -52,12 +53,11 @@ mark-at marks place found is there b same =
 pub key-there : {V : Type 0} (es : List (NameView × V)) (n : List ℕ) (place : ℕ)
     → position (by_text n) (keys_of es) ≡ Some place → place < length es
 key-there es n place is =
-    let below =
-    (position-Some (by_text n) (keys_of es) place (record { text = []; location = None }) is).0 in
+    let below = (position-Some (by_text n) (keys_of es) place (record { text = []; location = None }) is).0 in
     omega (arith, below, length-map es (λ e. e.0))
 
 -- a list that is not empty has a first element
-pub filled : {A : Type 0} (xs : List A) → (nat_eq (length xs) 0) ≡ false → (x : A) × (ys : List A)
-    × (xs ≡ x ∷ ys)
+pub filled : {A : Type 0} (xs : List A) → (nat_eq (length xs) 0) ≡ false
+    → (x : A) × (ys : List A) × (xs ≡ x ∷ ys)
 filled [] is = absurd (cc)
 filled (x ∷ xs) is = (x, xs, refl)

@@ -1,8 +1,10 @@
 -- A walk over fields that carry more is the walk over the fields: what is added to them changes nothing.
-use Rattle.std.proofs.Common.{◌≡◌, inl, inr, ℕ, true, false, Bool, cond, List, [], ◌∷◌, map, option_map, Option, Some, refl, ap, ◌∙◌}
+use Rattle.std.proofs.Common.{◌≡◌, inl, inr, ℕ, true, false, Bool, cond, List, [], ◌∷◌, map, option_map}
+use Rattle.std.proofs.Common.{Option, Some, refl, ap, ◌∙◌}
 use Rattle.std.proofs.lemmas.List.{map-append}
 use Rattle.graphql_nodes.specs.SameText.{same}
-use Rattle.apollo_walks.specs.Selections.{Selections, none, field, spread, inline, Fragments, Names, fragment_of}
+use Rattle.apollo_walks.specs.Selections.{Selections, none, field, spread, inline, Fragments, Names}
+use Rattle.apollo_walks.specs.Selections.{fragment_of}
 use Rattle.apollo_walks.specs.WalkOrder.{Order, of_none, of_inline, of_field, of_passed, of_fragment}
 
 module _ {F G : Type 0} (f : F → G) where
@@ -23,21 +25,18 @@ module _ {F G : Type 0} (f : F → G) where
   either-relabelled true set found = refl
   either-relabelled false set found = refl
 
-  fragment-relabelled : (fragments : Fragments F) (n : List ℕ) → fragment_of (all_relabelled fragments) n
-      ≡ option_map relabelled (fragment_of fragments n)
+  fragment-relabelled : (fragments : Fragments F) (n : List ℕ)
+      → fragment_of (all_relabelled fragments) n ≡ option_map relabelled (fragment_of fragments n)
   fragment-relabelled [] n = refl
-  fragment-relabelled (e ∷ es) n =
-      ap (cond (same n e.0) (Some (relabelled e.1))) (fragment-relabelled es n)
+  fragment-relabelled (e ∷ es) n = ap (cond (same n e.0) (Some (relabelled e.1))) (fragment-relabelled es n)
       ∙ either-relabelled (same n e.0) e.1 (fragment_of es n)
 
-  pub order-relabelled :
-      (fragments : Fragments F) {before : Names} {s : Selections F} {fs : List F} {ns : List (List ℕ)}
-      → Order fragments before s fs ns
+  pub order-relabelled : (fragments : Fragments F) {before : Names} {s : Selections F} {fs : List F}
+      {ns : List (List ℕ)} → Order fragments before s fs ns
       → Order (all_relabelled fragments) before (relabelled s) (map f fs) ns
   order-relabelled fragments of_none = of_none
   order-relabelled fragments (of_inline {first = first} {others = others} a b) =
-      rw (map-append f first others)
-      (of_inline (order-relabelled fragments a) (order-relabelled fragments b))
+      rw (map-append f first others) (of_inline (order-relabelled fragments a) (order-relabelled fragments b))
   order-relabelled fragments (of_field a) = of_field (order-relabelled fragments a)
   order-relabelled fragments (of_passed (inl opened) a) =
       of_passed (inl opened) (order-relabelled fragments a)

@@ -1,5 +1,6 @@
 -- A tally of a list that grows at its end.
-use Rattle.std.proofs.Common.{◌≡◌, ◌≤◌, ◌+◌, ℕ, Bool, true, false, ◌||◌, cond, is_some, List, [], ◌∷◌, ◌++◌, map, Option, Some, None, length, refl, sym, ap, ◌∙◌, subst, arith, true≢false}
+use Rattle.std.proofs.Common.{◌≡◌, ◌≤◌, ◌+◌, ℕ, Bool, true, false, ◌||◌, cond, is_some, List, [], ◌∷◌, ◌++◌}
+use Rattle.std.proofs.Common.{map, Option, Some, None, length, refl, sym, ap, ◌∙◌, subst, arith, true≢false}
 use Rattle.std.proofs.lemmas.List.{map-append}
 use Rattle.std.proofs.lemmas.List.Sums.{sum_by-append, sum_by-cons, count_by-le-length}
 use Rattle.std.proofs.lemmas.Map.Keys.{IsDistinct-head, IsDistinct-tail, IsDistinct-push}
@@ -7,7 +8,9 @@ use Rattle.std.specs.Cmp.{IsEquivalence}
 use Rattle.std.specs.List.{list_any, IsDistinct, AllByRecursion}
 use Rattle.graphql_nodes.specs.Tables.{lookup, set_value, insert_entry}
 use Rattle.apollo_component.specs.FirstOfEach.{first_of_each}
-use Rattle.apollo_component.proofs.FirstOfEachLemmas.{list_any-first_of_each, first_of_each-push_new, first_of_each-push_old, is_some-lookup, insert_entry-last}
+use Rattle.apollo_component.proofs.FirstOfEachLemmas.{list_any-first_of_each, first_of_each-push_new}
+use Rattle.apollo_component.proofs.FirstOfEachLemmas.{first_of_each-push_old, is_some-lookup}
+use Rattle.apollo_component.proofs.FirstOfEachLemmas.{insert_entry-last}
 use Rattle.apollo_component.proofs.Lists.Cases.{bool_cases, list_any-map}
 use Rattle.apollo_component.proofs.Lists.Ends.{snoc_ind}
 use Rattle.apollo_field_usage.specs.Counted.{raised, counted}
@@ -20,12 +23,10 @@ module _ {K : Type 0} {eq : K → K → Bool} (laws : IsEquivalence eq) where
 
   -- each one comes once among the first ones
   pub first-distinct : (ks : List K) → IsDistinct eq (first_of_each eq ks)
-  first-distinct =
-      snoc_ind (λ ks. IsDistinct eq (first_of_each eq ks)) none-distinct
-      (λ ks k apart. bool_cases (list_any (eq k) ks)
-      (λ there. subst (IsDistinct eq) (sym (first_of_each-push_old eq laws ks k there)) apart)
-      (λ none. subst (IsDistinct eq) (sym (first_of_each-push_new eq laws ks k none))
-      (IsDistinct-push laws (first_of_each eq ks) k apart
+  first-distinct = snoc_ind (λ ks. IsDistinct eq (first_of_each eq ks)) none-distinct
+      (λ ks k apart. bool_cases (list_any (eq k) ks) (λ there. subst (IsDistinct eq)
+      (sym (first_of_each-push_old eq laws ks k there)) apart) (λ none. subst (IsDistinct eq)
+      (sym (first_of_each-push_new eq laws ks k none)) (IsDistinct-push laws (first_of_each eq ks) k apart
       (list_any-first_of_each eq laws k ks ∙ none))))
 
   -- with one more at the end
@@ -34,13 +35,8 @@ module _ {K : Type 0} {eq : K → K → Bool} (laws : IsEquivalence eq) where
 
   none-times : (ks : List K) (k : K) → list_any (eq k) ks ≡ false → times eq ks k ≡ 0
   none-times [] k none = refl
-  none-times (x ∷ xs) k none =
-      sum_by-cons (λ q. cond (eq k q) 1 0) x xs ∙ by (eq k x) none (none-times xs k)
-    where
-      by : (b : Bool) → (b || list_any (eq k) xs) ≡ false → (list_any (eq k) xs ≡ false → times eq xs k ≡ 0)
-          → cond b 1 0 + times eq xs k ≡ 0
-      by true none rest = absurd (true≢false none)
-      by false none rest = omega (arith, rest none)
+  none-times (x ∷ xs) k none = sum_by-cons (λ q. cond (eq k q) 1 0) x xs
+      ∙ grind (arith, none, none-times xs k)
 
 -- entries with a number each
 module _ {K : Type 0} (eq : K → K → Bool) (c : K → ℕ) (k : K) where
@@ -63,8 +59,8 @@ module _ {K : Type 0} (eq : K → K → Bool) (c : K → ℕ) (k : K) where
       λ i. (q, here i) ∷ others-same fs apart.1 i
 
   -- what is found is the number of one of them
-  found-value : (bound : ℕ) → ((q : K) → c q ≤ bound) → (fs : List K) (v : ℕ) → lookup (eq k) (map entry fs)
-      ≡ Some v → v ≤ bound
+  found-value : (bound : ℕ) → ((q : K) → c q ≤ bound) → (fs : List K) (v : ℕ)
+      → lookup (eq k) (map entry fs) ≡ Some v → v ≤ bound
   found-value bound small [] v is = absurd (cc)
   found-value bound small (q ∷ fs) v is = by (eq k q) is (found-value bound small fs v)
     where
@@ -95,45 +91,27 @@ module _ {K : Type 0} (eq : K → K → Bool) (c : K → ℕ) (k : K) where
         → set_value (eq k) (map entry fs) (v + 1) ≡ map entry_more fs
     found-more [] v apart is = refl
     found-more (q ∷ fs) v apart is =
-        by (eq k q) (laws.symm q k) is (found-more fs v (IsDistinct-tail eq q fs apart))
-        (λ same. others-apart q same fs (IsDistinct-head eq q fs apart))
-      where
-        by : (b : Bool) → eq q k ≡ b → cond b (Some (c q)) (lookup (eq k) (map entry fs)) ≡ Some v
-            → (lookup (eq k) (map entry fs) ≡ Some v → set_value (eq k) (map entry fs) (v + 1)
-            ≡ map entry_more fs)
-            → (eq k q ≡ true → AllByRecursion (λ r. eq r k ≡ false) fs)
-            → cond b ((q, v + 1) ∷ map entry fs) ((q, c q) ∷ set_value (eq k) (map entry fs) (v + 1))
-            ≡ entry_more q ∷ map entry_more fs
-        by true same is rest apart =
-            let value : c q ≡ v = cc in
-            let here : v + 1 ≡ c q + cond (eq q k) 1 0 =
-            ap (λ n. n + 1) (sym value) ∙ ap (λ b. c q + cond b 1 0) (sym same) in
-            let others = sym (others-same fs (apart (laws.symm k q ∙ same))) in
-            λ i. (q, here i) ∷ others i
-        by false other is rest apart =
-            let here : c q ≡ c q + cond (eq q k) 1 0 =
-            omega arith ∙ ap (λ b. c q + cond b 1 0) (sym other) in
-            let others = rest is in
-            λ i. (q, here i) ∷ others i
+        let rest = found-more fs v (IsDistinct-tail eq q fs apart) in
+        let others : eq k q ≡ true → map entry_more fs ≡ map entry fs =
+        λ same. others-same fs (others-apart q same fs (IsDistinct-head eq q fs apart)) in
+        grind (arith, is, laws.symm q k, rest, others)
 
 module _ {K : Type 0} {eq : K → K → Bool} (laws : IsEquivalence eq) (ks : List K) (k : K) where
   pushed : map (λ q. (q, times eq (ks ++ k ∷ []) q)) ≡ map (entry_more eq (times eq ks) k)
   pushed = λ i. map (λ q. (q, times-push laws ks k q i))
 
   -- one that was there comes once more
-  tally-more : (v : ℕ) → lookup (eq k) (tally eq ks) ≡ Some v → set_value (eq k) (tally eq ks) (v + 1)
-      ≡ tally eq (ks ++ k ∷ [])
+  tally-more : (v : ℕ) → lookup (eq k) (tally eq ks) ≡ Some v
+      → set_value (eq k) (tally eq ks) (v + 1) ≡ tally eq (ks ++ k ∷ [])
   tally-more v is =
       let fs = first_of_each eq ks in
-      let there : list_any (eq k) ks ≡ true =
-      sym (list_any-first_of_each eq laws k ks) ∙ sym (found eq (times eq ks) k fs) ∙ ap is_some is in
-      found-more eq (times eq ks) k laws fs v (first-distinct laws ks) is
-      ∙ sym (λ i. pushed i fs)
+      let there : list_any (eq k) ks ≡ true = sym (list_any-first_of_each eq laws k ks)
+      ∙ sym (found eq (times eq ks) k fs) ∙ ap is_some is in
+      found-more eq (times eq ks) k laws fs v (first-distinct laws ks) is ∙ sym (λ i. pushed i fs)
       ∙ ap (map (λ q. (q, times eq (ks ++ k ∷ []) q))) (sym (first_of_each-push_old eq laws ks k there))
 
   -- and another one once
-  tally-new : lookup (eq k) (tally eq ks) ≡ None → insert_entry eq (tally eq ks) k 1
-      ≡ tally eq (ks ++ k ∷ [])
+  tally-new : lookup (eq k) (tally eq ks) ≡ None → insert_entry eq (tally eq ks) k 1 ≡ tally eq (ks ++ k ∷ [])
   tally-new is =
       let fs = first_of_each eq ks in
       let first : list_any (eq k) fs ≡ false = sym (found eq (times eq ks) k fs) ∙ ap is_some is in
@@ -142,30 +120,27 @@ module _ {K : Type 0} {eq : K → K → Bool} (laws : IsEquivalence eq) (ks : Li
       let once : 1 ≡ times eq ks k + cond (eq k k) 1 0 =
       sym (ap (λ b. times eq ks k + cond b 1 0) (laws.refl k)
       ∙ ap (λ n. n + 1) (none-times laws ks k absent)) in
-      let put =
-      insert_entry-last eq (tally eq ks) k 1
-      (list_any-map (λ e. eq k e.0) (λ q. (q, times eq ks q)) fs ∙ first) in
+      let put = insert_entry-last eq (tally eq ks) k 1 (list_any-map (λ e. eq k e.0) (λ q. (q, times eq ks q))
+      fs ∙ first) in
       let entries : tally eq ks ++ (k, 1) ∷ [] ≡ map (entry_more eq (times eq ks) k) fs
-      ++ entry_more eq (times eq ks) k k ∷ [] =
-      λ i. same i ++ (k, once i) ∷ [] in
+      ++ entry_more eq (times eq ks) k k ∷ [] = λ i. same i ++ (k, once i) ∷ [] in
       let grown : tally eq ks ++ (k, 1) ∷ [] ≡ map (entry_more eq (times eq ks) k) (fs ++ k ∷ []) =
       entries ∙ sym (map-append (entry_more eq (times eq ks) k) fs (k ∷ [])) in
       let shown : map (entry_more eq (times eq ks) k) (fs ++ k ∷ []) ≡ tally eq (ks ++ k ∷ []) =
-      sym (λ i. pushed i (fs ++ k ∷ []))
-      ∙ ap (map (λ q. (q, times eq (ks ++ k ∷ []) q))) (sym (first_of_each-push_new eq laws ks k absent)) in
+      sym (λ i. pushed i (fs ++ k ∷ [])) ∙ ap (map (λ q. (q, times eq (ks ++ k ∷ []) q)))
+      (sym (first_of_each-push_new eq laws ks k absent)) in
       put ∙ (grown ∙ shown)
 
   -- a number of a tally is at most the length of the list
   pub tally-small : (v : ℕ) → lookup (eq k) (tally eq ks) ≡ Some v → v ≤ length ks
-  tally-small v is =
-      found-value eq (times eq ks) k (length ks) (λ q. count_by-le-length (eq q) ks)
+  tally-small v is = found-value eq (times eq ks) k (length ks) (λ q. count_by-le-length (eq q) ks)
       (first_of_each eq ks) v is
 
   -- counted once more
   pub tally-push : counted eq (tally eq ks) k ≡ tally eq (ks ++ k ∷ [])
   tally-push = by (lookup (eq k) (tally eq ks)) refl
     where
-      by : (now : Option ℕ) → lookup (eq k) (tally eq ks) ≡ now → raised eq (tally eq ks) k now
-          ≡ tally eq (ks ++ k ∷ [])
+      by : (now : Option ℕ) → lookup (eq k) (tally eq ks) ≡ now
+          → raised eq (tally eq ks) k now ≡ tally eq (ks ++ k ∷ [])
       by None is = tally-new is
       by (Some v) is = tally-more v is

@@ -1,5 +1,6 @@
 -- The usages of a list of fields.
-use Rattle.std.proofs.Common.{◌≡◌, ◌<◌, ◌+◌, ℕ, Bool, true, false, cond, List, [], ◌∷◌, map, Option, None, Some, length, sum_by, refl, sym, ap, ◌∙◌, subst, arith}
+use Rattle.std.proofs.Common.{◌≡◌, ◌<◌, ◌+◌, ℕ, Bool, true, false, cond, List, [], ◌∷◌, map, Option, None}
+use Rattle.std.proofs.Common.{Some, length, sum_by, refl, sym, ap, ◌∙◌, subst, arith}
 use Rattle.std.proofs.lemmas.List.{length-map, length-append}
 use Rattle.std.proofs.lemmas.List.Sums.{sum_by-cons}
 use Rattle.std.specs.Cmp.{IsEquivalence}
@@ -27,58 +28,28 @@ pub usages-apart : (fields : List Occurrence)
     → IsDistinct same_coordinate (map (λ u. u.coordinate) (usage fields))
 usages-apart fields =
     let ks = map coordinate fields in
-    subst (IsDistinct same_coordinate)
-    (sym (coordinates-back (times same_coordinate ks) (first_of_each same_coordinate ks)))
-    (first-distinct same-equivalence ks)
+    subst (IsDistinct same_coordinate) (sym (coordinates-back (times same_coordinate ks)
+    (first_of_each same_coordinate ks))) (first-distinct same-equivalence ks)
 
 module _ {K : Type 0} (eq : K → K → Bool) where
   -- how often there is something
   abbrev whole : List (K × ℕ) → ℕ
   whole es = sum_by (λ e. e.1) es
 
-  whole-put : (es : List (K × ℕ)) (k : K) → lookup (eq k) es ≡ None → whole (insert_entry eq es k 1)
-      ≡ whole es + 1
+  whole-put : (es : List (K × ℕ)) (k : K) → lookup (eq k) es ≡ None
+      → whole (insert_entry eq es k 1) ≡ whole es + 1
   whole-put [] k missing = refl
-  whole-put (e ∷ es) k missing = by (eq k e.0) missing (whole-put es k)
-    where
-      by : (b : Bool) → cond b (Some e.1) (lookup (eq k) es) ≡ None
-          → (lookup (eq k) es ≡ None → whole (insert_entry eq es k 1) ≡ whole es + 1)
-          → whole (cond b ((e.0, 1) ∷ es) (e ∷ insert_entry eq es k 1)) ≡ whole (e ∷ es) + 1
-      by true missing rest = absurd (cc)
-      by false missing rest =
-          omega (
-            arith,
-            rest missing,
-            sum_by-cons (λ (x : K × ℕ). x.1) e
-                (insert_entry eq es k 1),
-            sum_by-cons (λ (x : K × ℕ). x.1) e es,
-          )
+  whole-put (e ∷ es) k missing =
+      let of_cons = sum_by-cons (λ (x : K × ℕ). x.1) e in
+      grind (arith, missing, whole-put es k, of_cons (insert_entry eq es k 1), of_cons es)
 
   whole-set : (es : List (K × ℕ)) (k : K) (v : ℕ) → lookup (eq k) es ≡ Some v
       → whole (set_value (eq k) es (v + 1)) ≡ whole es + 1
   whole-set [] k v found = absurd (cc)
-  whole-set (e ∷ es) k v found = by (eq k e.0) found (whole-set es k v)
-    where
-      by : (b : Bool) → cond b (Some e.1) (lookup (eq k) es) ≡ Some v
-          → (lookup (eq k) es ≡ Some v → whole (set_value (eq k) es (v + 1)) ≡ whole es + 1)
-          → whole (cond b ((e.0, v + 1) ∷ es) (e ∷ set_value (eq k) es (v + 1))) ≡ whole (e ∷ es) + 1
-      by true found rest =
-          let value : e.1 ≡ v = cc in
-          omega (
-            arith,
-            value,
-            sum_by-cons (λ (x : K × ℕ). x.1) (e.0, v + 1) es,
-            sum_by-cons
-                (λ (x : K × ℕ). x.1) e es,
-          )
-      by false found rest =
-          omega (
-            arith,
-            rest found,
-            sum_by-cons (λ (x : K × ℕ). x.1) e
-                (set_value (eq k) es (v + 1)),
-            sum_by-cons (λ (x : K × ℕ). x.1) e es,
-          )
+  whole-set (e ∷ es) k v found =
+      let of_cons = sum_by-cons (λ (x : K × ℕ). x.1) in
+      let set = set_value (eq k) es (v + 1) in
+      grind (arith, found, whole-set es k v, of_cons (e.0, v + 1) es, of_cons e set, of_cons e es)
 
   -- one more
   whole-counted : (es : List (K × ℕ)) (k : K) → whole (counted eq es k) ≡ whole es + 1
@@ -95,17 +66,15 @@ tally-whole {eq = eq} laws = snoc_ind (λ ks. whole eq (tally eq ks) ≡ length 
     (λ ks k so_far. ap (whole eq) (sym (tally-push laws ks k)) ∙ whole-counted eq (tally eq ks) k
     ∙ omega (arith, so_far, length-append ks (k ∷ [])))
 
-counts-whole : (es : List (TypeAttributeCoordinate × ℕ)) → sum_by (λ u. u.count) (map usage_of es)
-    ≡ whole same_coordinate es
+counts-whole : (es : List (TypeAttributeCoordinate × ℕ))
+    → sum_by (λ u. u.count) (map usage_of es) ≡ whole same_coordinate es
 counts-whole [] = refl
-counts-whole (e ∷ es) =
-    omega (
-      arith,
-      counts-whole es,
-      sum_by-cons (λ (u : FieldUsage). u.count) (usage_of e)
-          (map usage_of es),
-      sum_by-cons (λ (x : TypeAttributeCoordinate × ℕ). x.1) e es,
-    )
+counts-whole (e ∷ es) = omega (
+  arith,
+  counts-whole es,
+  sum_by-cons (λ (u : FieldUsage). u.count) (usage_of e) (map usage_of es),
+  sum_by-cons (λ (x : TypeAttributeCoordinate × ℕ). x.1) e es,
+)
 
 pub usages-whole : (fields : List Occurrence) → sum_by (λ u. u.count) (usage fields) ≡ length fields
 usages-whole fields =
@@ -141,10 +110,8 @@ module _ {K : Type 0} (eq : K → K → Bool) where
 
 tally-some : {K : Type 0} {eq : K → K → Bool} (laws : IsEquivalence eq) (ks : List K)
     → AreSome eq (tally eq ks)
-tally-some {eq = eq} laws =
-    snoc_ind (λ ks. AreSome eq (tally eq ks)) tt
-    (λ ks k so_far. subst (AreSome eq) (tally-push laws ks k)
-    (some-raised eq (tally eq ks) k (lookup (eq k) (tally eq ks)) so_far))
+tally-some {eq = eq} laws = snoc_ind (λ ks. AreSome eq (tally eq ks)) tt (λ ks k so_far. subst (AreSome eq)
+    (tally-push laws ks k) (some-raised eq (tally eq ks) k (lookup (eq k) (tally eq ks)) so_far))
 
 counts-some : (es : List (TypeAttributeCoordinate × ℕ)) → AreSome same_coordinate es
     → AllByRecursion (λ (u : FieldUsage). 0 < u.count) (map usage_of es)
@@ -153,5 +120,4 @@ counts-some (e ∷ es) some = (some.0, counts-some es some.1)
 
 pub usages-some : (fields : List Occurrence) → AllByRecursion (λ u. 0 < u.count) (usage fields)
 usages-some fields =
-    let ks =
-    map coordinate fields in counts-some (tally same_coordinate ks) (tally-some same-equivalence ks)
+    let ks = map coordinate fields in counts-some (tally same_coordinate ks) (tally-some same-equivalence ks)

@@ -9,58 +9,62 @@ use Rattle.apollo_reporting.specs.MemberTexts.{data_text, items_behind, key_text
 items_end : (ds : List Data) → items_text true (items_of ds) ≡ items_behind ds ++ codes "]"
 unfolding data_text
 items_end [] = refl
-items_end (d ∷ ds) =
-    ap (λ (rest : List ℕ). 44 ∷ (compact_text d ++ rest)) (items_end ds) ∙ ap (λ (rest : List ℕ). 44 ∷ rest) (sym (append_assoc (compact_text d) (items_behind ds) (codes "]")))
+items_end (d ∷ ds) = ap (λ (rest : List ℕ). 44 ∷ (compact_text d ++ rest)) (items_end ds)
+    ∙ ap (λ (rest : List ℕ). 44 ∷ rest) (sym (append_assoc (compact_text d) (items_behind ds) (codes "]")))
 
-array_text : (d : Data) (ds : List Data) → codes "[" ++ (data_text d ++ (items_behind ds ++ codes "]")) ≡ data_text (array (items_of (d ∷ ds)))
+array_text : (d : Data) (ds : List Data)
+    → codes "[" ++ (data_text d ++ (items_behind ds ++ codes "]")) ≡ data_text (array (items_of (d ∷ ds)))
 unfolding data_text
 array_text d ds = ap (λ (rest : List ℕ). 91 ∷ (compact_text d ++ rest)) (sym (items_end ds))
 
 -- an array, its bracket, its first value, the others and its other bracket
 pub array_written : (old : List ℕ) (d : Data) (ds : List Data)
-    → old ++ codes "[" ++ data_text d ++ items_behind ds ++ codes "]" ≡ old ++ data_text (array (items_of (d ∷ ds)))
+    → old ++ codes "[" ++ data_text d ++ items_behind ds ++ codes "]"
+    ≡ old ++ data_text (array (items_of (d ∷ ds)))
 array_written old d ds = simp append_assoc (ap (λ (t : List ℕ). old ++ t) (array_text d ds))
 
 -- a name, its colon, a value and what stands behind
-joined : (sign key value rest : List ℕ) → sign ++ (key ++ 58 ∷ (value ++ rest)) ≡ sign ++ (key ++ codes ":") ++ value ++ rest
+joined : (sign key value rest : List ℕ)
+    → sign ++ (key ++ 58 ∷ (value ++ rest)) ≡ sign ++ (key ++ codes ":") ++ value ++ rest
 joined sign key value rest = sym (simp append_assoc)
 
 members_end : (ms : List Member) → members_text true (members_from ms) ≡ members_behind ms ++ codes "}"
 unfolding data_text key_text
 members_end [] = refl
 members_end (m ∷ ms) =
-    ap (λ (rest : List ℕ). 44 ∷ (compact_text (string m.0) ++ 58 ∷ (compact_text m.1 ++ rest))) (members_end ms)
-    ∙ joined (codes ",") (compact_text (string m.0)) (compact_text m.1) (members_behind ms ++ codes "}")
+    ap (λ (rest : List ℕ). 44 ∷ (compact_text (string m.0) ++ 58 ∷ (compact_text m.1 ++ rest))) (members_end
+    ms) ∙ joined (codes ",") (compact_text (string m.0)) (compact_text m.1) (members_behind ms ++ codes "}")
     ∙ sym (append_assoc (member_text (codes ",") m) (members_behind ms) (codes "}"))
 
-object_text : (m : Member) (ms : List Member) → member_text (codes "{") m ++ (members_behind ms ++ codes "}") ≡ data_text (object_of (m ∷ ms))
+object_text : (m : Member) (ms : List Member)
+    → member_text (codes "{") m ++ (members_behind ms ++ codes "}") ≡ data_text (object_of (m ∷ ms))
 unfolding data_text key_text
-object_text m ms =
-    sym
-    (ap (λ (rest : List ℕ). 123 ∷ (compact_text (string m.0) ++ 58 ∷ (compact_text m.1 ++ rest))) (members_end ms)
-    ∙ joined (codes "{") (compact_text (string m.0)) (compact_text m.1) (members_behind ms ++ codes "}"))
+object_text m ms = sym
+    (ap (λ (rest : List ℕ). 123 ∷ (compact_text (string m.0) ++ 58 ∷ (compact_text m.1 ++ rest))) (members_end
+    ms) ∙ joined (codes "{") (compact_text (string m.0)) (compact_text m.1) (members_behind ms ++ codes "}"))
 
 -- an object, its first member, the others and its other brace
 pub object_written : (old : List ℕ) (m : Member) (ms : List Member)
-    → old ++ member_text (codes "{") m ++ members_behind ms ++ codes "}" ≡ old ++ data_text (object_of (m ∷ ms))
-object_written old m ms = append_assoc (old ++ member_text (codes "{") m) (members_behind ms) (codes "}") ∙ append_assoc old (member_text (codes "{") m) (members_behind ms ++ codes "}") ∙ ap (λ (t : List ℕ). old ++ t) (object_text m ms)
+    → old ++ member_text (codes "{") m ++ members_behind ms ++ codes "}"
+    ≡ old ++ data_text (object_of (m ∷ ms))
+object_written old m ms = append_assoc (old ++ member_text (codes "{") m) (members_behind ms) (codes "}")
+    ∙ append_assoc old (member_text (codes "{") m) (members_behind ms ++ codes "}")
+    ∙ ap (λ (t : List ℕ). old ++ t) (object_text m ms)
 
 behind-append : (xs ys : List Member) → members_behind (xs ++ ys) ≡ members_behind xs ++ members_behind ys
 behind-append [] ys = refl
-behind-append (x ∷ xs) ys =
-    ap (λ (r : List ℕ). member_text (codes ",") x ++ r) (behind-append xs ys) ∙ sym (append_assoc (member_text (codes ",") x) (members_behind xs) (members_behind ys))
+behind-append (x ∷ xs) ys = ap (λ (r : List ℕ). member_text (codes ",") x ++ r) (behind-append xs ys)
+    ∙ sym (append_assoc (member_text (codes ",") x) (members_behind xs) (members_behind ys))
 
-regroup : (old k m f s p d e : List ℕ) → old ++ k ++ m ++ f ++ s ++ p ++ d ++ e ≡ old ++ (k ++ ((m ++ (f ++ (s ++ (p ++ d)))) ++ e))
+regroup : (old k m f s p d e : List ℕ)
+    → old ++ k ++ m ++ f ++ s ++ p ++ d ++ e ≡ old ++ (k ++ ((m ++ (f ++ (s ++ (p ++ d)))) ++ e))
 regroup old k m f s p d e = simp append_assoc
 
 -- an object of these members, which were written in this order
-pub fault_written : (kind message file : Member) (span path details : List Member) (old t₁ t₂ t₃ t₄ t₅ t₆ t₇ : List ℕ)
-    → t₁ ≡ old ++ member_text (codes "{") kind
-    → t₂ ≡ t₁ ++ member_text (codes ",") message
-    → t₃ ≡ t₂ ++ member_text (codes ",") file
-    → t₄ ≡ t₃ ++ members_behind span
-    → t₅ ≡ t₄ ++ members_behind path
-    → t₆ ≡ t₅ ++ members_behind details
+pub fault_written : (kind message file : Member) (span path details : List Member)
+    (old t₁ t₂ t₃ t₄ t₅ t₆ t₇ : List ℕ) → t₁ ≡ old ++ member_text (codes "{") kind
+    → t₂ ≡ t₁ ++ member_text (codes ",") message → t₃ ≡ t₂ ++ member_text (codes ",") file
+    → t₄ ≡ t₃ ++ members_behind span → t₅ ≡ t₄ ++ members_behind path → t₆ ≡ t₅ ++ members_behind details
     → t₇ ≡ t₆ ++ codes "}"
     → t₇ ≡ old ++ data_text (object_of (kind ∷ ((message ∷ file ∷ []) ++ (span ++ (path ++ details)))))
 fault_written kind message file span path details old t₁ t₂ t₃ t₄ t₅ t₆ t₇ e₁ e₂ e₃ e₄ e₅ e₆ e₇ =
@@ -70,11 +74,14 @@ fault_written kind message file span path details old t₁ t₂ t₃ t₄ t₅ t
     let s = members_behind span in
     let p = members_behind path in
     let d = members_behind details in
-    let others : m ++ (f ++ (s ++ (p ++ d))) ≡ members_behind ((message ∷ file ∷ []) ++ (span ++ (path ++ details))) =
-    sym (ap (λ (r : List ℕ). m ++ (f ++ r)) (behind-append span (path ++ details) ∙ ap (λ (r : List ℕ). s ++ r) (behind-append path details))) in
+    let others : m ++ (f ++ (s ++ (p ++ d))) ≡ members_behind ((message ∷ file ∷ [])
+    ++ (span ++ (path ++ details))) =
+    sym (ap (λ (r : List ℕ). m ++ (f ++ r)) (behind-append span (path ++ details) ∙ ap (λ (r : List ℕ). s
+    ++ r) (behind-append path details))) in
     let all : t₇ ≡ old ++ k ++ m ++ f ++ s ++ p ++ d ++ codes "}" =
-    e₇
-    ∙ ap (λ (t : List ℕ). t ++ codes "}")
-    (e₆ ∙ ap (λ (t : List ℕ). t ++ d) (e₅ ∙ ap (λ (t : List ℕ). t ++ p) (e₄ ∙ ap (λ (t : List ℕ). t ++ s) (e₃ ∙ ap (λ (t : List ℕ). t ++ f) (e₂ ∙ ap (λ (t : List ℕ). t ++ m) e₁))))) in
+    e₇ ∙ ap (λ (t : List ℕ). t ++ codes "}") (e₆ ∙ ap (λ (t : List ℕ). t ++ d) (e₅
+    ∙ ap (λ (t : List ℕ). t ++ p) (e₄ ∙ ap (λ (t : List ℕ). t ++ s) (e₃ ∙ ap (λ (t : List ℕ). t ++ f) (e₂
+    ∙ ap (λ (t : List ℕ). t ++ m) e₁))))) in
     all ∙ regroup old k m f s p d (codes "}") ∙ ap (λ (r : List ℕ). old ++ (k ++ (r ++ codes "}"))) others
-    ∙ ap (λ (r : List ℕ). old ++ r) (object_text kind ((message ∷ file ∷ []) ++ (span ++ (path ++ details))))
+    ∙ ap (λ (r : List ℕ). old ++ r) (object_text kind
+    ((message ∷ file ∷ []) ++ (span ++ (path ++ details))))

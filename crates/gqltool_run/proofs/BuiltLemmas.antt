@@ -6,7 +6,9 @@ use Rattle.gqltool_run.specs.Building.{IsBuilt, IsCompiledInput}
 use Rattle.gqltool_run.specs.DocumentBuilding.{IsBuiltDocument, IsCompiledDivided}
 
 -- the schema, of an input without executable documents
-pub built : (options : CompileOptions) (input : List ℕ) (compiled : Compiled) → IsCompiledInput options input compiled → IsBuilt options input compiled.schema compiled.schema_faults.items
+pub built : (options : CompileOptions) (input : List ℕ) (compiled : Compiled)
+    → IsCompiledInput options input compiled
+    → IsBuilt options input compiled.schema compiled.schema_faults.items
 built options input compiled (documents, (says, is)) = record {
   documents = documents;
   says = says;
@@ -17,7 +19,8 @@ built options input compiled (documents, (says, is)) = record {
 
 -- the typed document and its schema, of an input that a line divides
 pub built-document : (input : List ℕ) (compiled : Compiled) → IsCompiledDivided input compiled
-    → IsBuiltDocument input compiled.schema compiled.document compiled.schema_faults.items compiled.document_faults.items
+    → IsBuiltDocument input compiled.schema compiled.document compiled.schema_faults.items
+    compiled.document_faults.items
 built-document input compiled (before, (behind, (says, is))) = record {
   schema_documents = before;
   executable_documents = behind;

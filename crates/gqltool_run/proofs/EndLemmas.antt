@@ -1,5 +1,6 @@
 -- Why there is no answer to words and an input, and how a run ends with an answer and without one.
-use Rattle.std.proofs.Common.{◌≡◌, ◌⊎◌, ℕ, Bool, true, false, List, Option, Result, Ok, Err, OnOk, IfOk, inl, inr, refl, sym, ap, subst, ◌∙◌}
+use Rattle.std.proofs.Common.{◌≡◌, ◌⊎◌, ℕ, Bool, true, false, List, Option, Result, Ok, Err, OnOk, IfOk, inl}
+use Rattle.std.proofs.Common.{inr, refl, sym, ap, subst, ◌∙◌}
 use Rattle.std.proofs.KnownBytes.{Appends-trans}
 use Rattle.std.specs.Io.KnownBytes.{Appends}
 use Rattle.gqltool_run.specs.declared.failure.Failure.{Failure}
@@ -19,13 +20,15 @@ use Rattle.gqltool_run.specs.Tasks.{Ask}
 use Rattle.program_io.proofs.WritingLemmas.{goes-further}
 
 -- why an input is not read is why nothing has an answer over it
-pub input_cause : (task : Task) (held : List ℕ → Type 0) (may_fail : Type 0) (error : FileError) → IsFileCause held may_fail error → IsCauseOver task held may_fail (failure_of_input error)
+pub input_cause : (task : Task) (held : List ℕ → Type 0) (may_fail : Type 0) (error : FileError)
+    → IsFileCause held may_fail error → IsCauseOver task held may_fail (failure_of_input error)
 input_cause task held may_fail (errors.CannotRead why) cause = inl cause
 input_cause task held may_fail errors.NotText cause = inr cause
 input_cause task held may_fail errors.Memory cause = tt
 
 -- what holds of each answer holds beside what holds where there is one
-pub both_ok : {A E : Type 0} (P : Type 0) (Q : A → Type 0) (r : Result A E) → OnOk r P → IfOk r Q → IfOk r (λ x. P × Q x)
+pub both_ok : {A E : Type 0} (P : Type 0) (Q : A → Type 0) (r : Result A E) → OnOk r P → IfOk r Q
+    → IfOk r (λ x. P × Q x)
 both_ok P Q (Ok x) p q = (p, q)
 both_ok P Q (Err e) p q = tt
 
@@ -38,7 +41,8 @@ no_input_cause tasks.Walk text cause = cause
 no_input_cause tasks.Leaf text cause = cause
 
 -- why what was asked has no answer over a text that was read is why it has none over the input
-pub cause_over : (task : Task) (held : List ℕ → Type 0) (may_fail : Type 0) (text : List ℕ) (failure : Failure) → held text → IsCauseOf task text failure → IsCauseOver task held may_fail failure
+pub cause_over : (task : Task) (held : List ℕ → Type 0) (may_fail : Type 0) (text : List ℕ)
+    (failure : Failure) → held text → IsCauseOf task text failure → IsCauseOver task held may_fail failure
 cause_over task held may_fail text failures.Usage is cause = (text, (is, cause))
 cause_over task held may_fail text (failures.NoCoordinate error) is cause = (text, (is, cause))
 cause_over task held may_fail text failures.CannotRead is cause = absurd (no_input_cause task text cause)
@@ -48,14 +52,19 @@ cause_over task held may_fail text failures.Memory is cause = tt
 cause_over task held may_fail text failures.ExtensionIds is cause = (text, (is, cause))
 
 -- without an answer a run ends as its cause says
-pub without_answer : (words : List (List ℕ)) (held : List ℕ → Type 0) (may_fail : Type 0) (old new : Option (List ℕ)) (failure : Failure) → IsCauseTo words held may_fail failure → MayEnd words held may_fail old new (status_of failure)
+pub without_answer : (words : List (List ℕ)) (held : List ℕ → Type 0) (may_fail : Type 0)
+    (old new : Option (List ℕ)) (failure : Failure) → IsCauseTo words held may_fail failure
+    → MayEnd words held may_fail old new (status_of failure)
 without_answer words held may_fail old new failures.Usage cause = (failures.Usage, (refl, cause))
-without_answer words held may_fail old new (failures.NoCoordinate error) cause = (failures.NoCoordinate error, (refl, cause))
+without_answer words held may_fail old new (failures.NoCoordinate error) cause =
+    (failures.NoCoordinate error, (refl, cause))
 without_answer words held may_fail old new failures.CannotRead cause = (failures.CannotRead, (refl, cause))
-without_answer words held may_fail old new (failures.RefusedLine line) cause = (failures.RefusedLine line, (refl, cause))
+without_answer words held may_fail old new (failures.RefusedLine line) cause =
+    (failures.RefusedLine line, (refl, cause))
 without_answer words held may_fail old new failures.NoDivision cause = (failures.NoDivision, (refl, cause))
 without_answer words held may_fail old new failures.Memory cause = (failures.Memory, (refl, cause))
-without_answer words held may_fail old new failures.ExtensionIds cause = (failures.ExtensionIds, (refl, cause))
+without_answer words held may_fail old new failures.ExtensionIds cause =
+    (failures.ExtensionIds, (refl, cause))
 
 -- there are two such ends, and at neither the output is written
 pub two_ends : (failure : Failure) → (status_of failure ≡ s.Refused) ⊎ (status_of failure ≡ s.Exhausted)
@@ -77,45 +86,88 @@ nothing_written failures.Memory writes = writes
 nothing_written failures.ExtensionIds writes = writes
 
 -- where a beginning of a text went out, the end of what is left of it is that of the whole text
-pub sent_out : (text left : List ℕ) (old middle new : Option (List ℕ)) (has_faults any : Bool) (status : Status) → GoesOut text old middle left → has_faults ≡ any → IsWritten left has_faults middle new status → IsSentOut text any old new status
-sent_out text left old middle new has_faults any s.Done goes same written = (sym same ∙ written.0, subst (Appends old new) (sym goes.1.1) (Appends-trans old middle new goes.0 left goes.1.0 written.1))
-sent_out text left old middle new has_faults any s.Faults goes same written = (sym same ∙ written.0, subst (Appends old new) (sym goes.1.1) (Appends-trans old middle new goes.0 left goes.1.0 written.1))
+pub sent_out : (text left : List ℕ) (old middle new : Option (List ℕ)) (has_faults any : Bool)
+    (status : Status) → GoesOut text old middle left → has_faults ≡ any
+    → IsWritten left has_faults middle new status → IsSentOut text any old new status
+sent_out text left old middle new has_faults any s.Done goes same written = (
+  sym same ∙ written.0,
+  subst (Appends old new) (sym goes.1.1) (Appends-trans old middle new goes.0 left goes.1.0 written.1),
+)
+sent_out text left old middle new has_faults any s.Faults goes same written = (
+  sym same ∙ written.0,
+  subst (Appends old new) (sym goes.1.1) (Appends-trans old middle new goes.0 left goes.1.0 written.1),
+)
 sent_out text left old middle new has_faults any s.Refused goes same written = absurd written
 sent_out text left old middle new has_faults any s.Exhausted goes same written = absurd written
-sent_out text left old middle new has_faults any s.NotWritten goes same written = (written.0, goes-further text old middle new left written.0 goes written.1)
+sent_out text left old middle new has_faults any s.NotWritten goes same written =
+    (written.0, goes-further text old middle new left written.0 goes written.1)
 
 -- of an answer a beginning is appended
-pub beginning_appended : (words : List (List ℕ)) (held : List ℕ → Type 0) (old new : Option (List ℕ)) (text : List ℕ) (has_faults : Bool) → HoldsSome held (λ input. IsAnswerTo words input text has_faults) → IsBegun text old new → HoldsSome held (AppendBeginning words old new)
-beginning_appended words held old new text has_faults means begun =
-    (means.0, (means.1.0, (begun.1.0, ((begun.0, (has_faults, subst (λ (t : List ℕ). IsAnswerTo words means.0 t has_faults) begun.1.1.1 means.1.1)), begun.1.1.0))))
+pub beginning_appended : (words : List (List ℕ)) (held : List ℕ → Type 0) (old new : Option (List ℕ))
+    (text : List ℕ) (has_faults : Bool) → HoldsSome held (λ input. IsAnswerTo words input text has_faults)
+    → IsBegun text old new → HoldsSome held (AppendBeginning words old new)
+beginning_appended words held old new text has_faults means begun = (
+  means.0,
+  (
+    means.1.0,
+    (
+      begun.1.0,
+      (
+        (
+          begun.0,
+          (has_faults, subst (λ (t : List ℕ). IsAnswerTo words means.0 t has_faults) begun.1.1.1 means.1.1),
+        ),
+        begun.1.1.0,
+      ),
+    ),
+  ),
+)
 
-answer_appended : (words : List (List ℕ)) (held : List ℕ → Type 0) (old new : Option (List ℕ)) (text : List ℕ) (has_faults any : Bool) → has_faults ≡ any → HoldsSome held (λ input. IsAnswerTo words input text has_faults) → Appends old new text → HoldsSome held (AppendAnswer words any old new)
-answer_appended words held old new text has_faults any same means wrote = (means.0, (means.1.0, (text, (subst (IsAnswerTo words means.0 text) same means.1.1, wrote))))
+answer_appended : (words : List (List ℕ)) (held : List ℕ → Type 0) (old new : Option (List ℕ)) (text : List ℕ)
+    (has_faults any : Bool) → has_faults ≡ any
+    → HoldsSome held (λ input. IsAnswerTo words input text has_faults) → Appends old new text
+    → HoldsSome held (AppendAnswer words any old new)
+answer_appended words held old new text has_faults any same means wrote =
+    (means.0, (means.1.0, (text, (subst (IsAnswerTo words means.0 text) same means.1.1, wrote))))
 
 -- with an answer it ends as writing that went
-pub with_answer : (words : List (List ℕ)) (held : List ℕ → Type 0) (may_fail : Type 0) (old new : Option (List ℕ)) (text : List ℕ) (has_faults : Bool) (status : Status) → IsWritten text has_faults old new status
-    → HoldsSome held (λ input. IsAnswerTo words input text has_faults) → (has_faults ≡ false → IsPrintTo words text)
-    → MayEnd words held may_fail old new status
-with_answer words held may_fail old new text has_faults s.Done written means prints =
-    (answer_appended words held old new text has_faults false written.0 means written.1, (text, (prints written.0, written.1)))
-with_answer words held may_fail old new text has_faults s.Faults written means prints = answer_appended words held old new text has_faults true written.0 means written.1
+pub with_answer : (words : List (List ℕ)) (held : List ℕ → Type 0) (may_fail : Type 0)
+    (old new : Option (List ℕ)) (text : List ℕ) (has_faults : Bool) (status : Status)
+    → IsWritten text has_faults old new status
+    → HoldsSome held (λ input. IsAnswerTo words input text has_faults)
+    → (has_faults ≡ false → IsPrintTo words text) → MayEnd words held may_fail old new status
+with_answer words held may_fail old new text has_faults s.Done written means prints = (
+  answer_appended words held old new text has_faults false written.0 means written.1,
+  (text, (prints written.0, written.1)),
+)
+with_answer words held may_fail old new text has_faults s.Faults written means prints =
+    answer_appended words held old new text has_faults true written.0 means written.1
 with_answer words held may_fail old new text has_faults s.Refused written means prints = absurd written
 with_answer words held may_fail old new text has_faults s.Exhausted written means prints = absurd written
-with_answer words held may_fail old new text has_faults s.NotWritten written means prints = beginning_appended words held old new text has_faults means written
+with_answer words held may_fail old new text has_faults s.NotWritten written means prints =
+    beginning_appended words held old new text has_faults means written
 
 -- and so it does where the answer went out while it was made, but that memory may be wanting
-pub with_sent_answer : (words : List (List ℕ)) (task : Task) (held : List ℕ → Type 0) (may_fail : Type 0) (old new : Option (List ℕ)) (text : List ℕ) (has_faults : Bool) (status : Status) → IsSentOut text has_faults old new status → Ask words task
-    → HoldsSome held (λ input. IsAnswerTo words input text has_faults) → (has_faults ≡ false → IsPrintTo words text)
-    → MayEnd words held may_fail old new status
-with_sent_answer words task held may_fail old new text has_faults s.Done sent asked means prints = with_answer words held may_fail old new text has_faults s.Done sent means prints
-with_sent_answer words task held may_fail old new text has_faults s.Faults sent asked means prints = with_answer words held may_fail old new text has_faults s.Faults sent means prints
-with_sent_answer words task held may_fail old new text has_faults s.Refused sent asked means prints = absurd sent
-with_sent_answer words task held may_fail old new text has_faults s.Exhausted sent asked means prints = (failures.Memory, (refl, inr (task, (asked, tt))))
-with_sent_answer words task held may_fail old new text has_faults s.NotWritten sent asked means prints = with_answer words held may_fail old new text has_faults s.NotWritten sent means prints
+pub with_sent_answer : (words : List (List ℕ)) (task : Task) (held : List ℕ → Type 0) (may_fail : Type 0)
+    (old new : Option (List ℕ)) (text : List ℕ) (has_faults : Bool) (status : Status)
+    → IsSentOut text has_faults old new status → Ask words task
+    → HoldsSome held (λ input. IsAnswerTo words input text has_faults)
+    → (has_faults ≡ false → IsPrintTo words text) → MayEnd words held may_fail old new status
+with_sent_answer words task held may_fail old new text has_faults s.Done sent asked means prints =
+    with_answer words held may_fail old new text has_faults s.Done sent means prints
+with_sent_answer words task held may_fail old new text has_faults s.Faults sent asked means prints =
+    with_answer words held may_fail old new text has_faults s.Faults sent means prints
+with_sent_answer words task held may_fail old new text has_faults s.Refused sent asked means prints =
+    absurd sent
+with_sent_answer words task held may_fail old new text has_faults s.Exhausted sent asked means prints =
+    (failures.Memory, (refl, inr (task, (asked, tt))))
+with_sent_answer words task held may_fail old new text has_faults s.NotWritten sent asked means prints =
+    with_answer words held may_fail old new text has_faults s.NotWritten sent means prints
 
 -- where words are no command there is no answer, and a run is refused
 pub no_error : {A B : Type 0} {value : A} {error : B} → ◌≡◌ {A = Result A B} (Ok value) (Err error) → ⊥
 no_error e = cc
 
-pub usage_refused : {A : Type 0} (failure : Failure) → ◌≡◌ {A = Result A Failure} (Err failure) (Err failures.Usage) → status_of failure ≡ s.Refused
+pub usage_refused : {A : Type 0} (failure : Failure)
+    → ◌≡◌ {A = Result A Failure} (Err failure) (Err failures.Usage) → status_of failure ≡ s.Refused
 usage_refused failure e = let same : failure ≡ failures.Usage = cc in ap status_of same

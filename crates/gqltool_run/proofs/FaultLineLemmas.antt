@@ -1,12 +1,14 @@
 -- The lines of faults, where there are none.
-use Rattle.std.proofs.Common.{◌≡◌, ℕ, ◌==◌, ◌&&◌, Bool, true, false, not, List, [], ◌∷◌, Option, length, refl, sym, arith}
+use Rattle.std.proofs.Common.{◌≡◌, ℕ, ◌==◌, ◌&&◌, Bool, true, false, not, List, [], ◌∷◌, Option, length, refl}
+use Rattle.std.proofs.Common.{sym, arith}
 use Rattle.std.proofs.lemmas.Bool.{true≢false}
 use Rattle.std.proofs.lemmas.Bool.Decides.{nat_tests}
 use Rattle.graphql_nodes.specs.declared.source.SourceSpan.{SourceSpan}
 use Rattle.gqltool_run.specs.FaultLines.{AreFaultLines}
 
 -- faults without a line are none
-pub no-lines : {E : Type 0} (fs : List (Option SourceSpan × E)) (lines : List ℕ) → (length fs == 0) ≡ true → AreFaultLines fs lines → lines ≡ []
+pub no-lines : {E : Type 0} (fs : List (Option SourceSpan × E)) (lines : List ℕ) → (length fs == 0) ≡ true
+    → AreFaultLines fs lines → lines ≡ []
 no-lines [] lines h are = are
 no-lines (f ∷ fs) lines h are = absurd (grind (arith, nat_tests, h))
 

@@ -15,16 +15,21 @@ use Rattle.gqltool_run.proofs.AnswerLemmas.{faultless_print, faultless_walks}
 use Rattle.gqltool_run.proofs.BuiltLemmas.{built-document}
 
 -- what is ready for lines that were read is ready for the input
-pub ready_to : (words : List (List ℕ)) (held : List ℕ → Type 0) (task : Task) (text : List ℕ) (ready : Prepared) → Ask words task → held text → All IsLine (lines_of text) → IsReadyOf task text ready → IsReadyTo words held ready
+pub ready_to : (words : List (List ℕ)) (held : List ℕ → Type 0) (task : Task) (text : List ℕ)
+    (ready : Prepared) → Ask words task → held text → All IsLine (lines_of text) → IsReadyOf task text ready
+    → IsReadyTo words held ready
 ready_to words held task text (prepared.Answer answer) asked is lines given = (
   (text, (is, (lines, (task, (asked, given))))),
   λ none. (task, (asked, faultless_print task text (string_bytes answer.text) answer.has_faults given none)),
 )
-ready_to words held task text (prepared.Walks compiled) asked is lines given = (subst (Ask words) given.0 asked, (text, (is, (lines, given.1))))
+ready_to words held task text (prepared.Walks compiled) asked is lines given =
+    (subst (Ask words) given.0 asked, (text, (is, (lines, given.1))))
 
 -- what `walk` says of what an input is compiled to is its answer
-pub walks_answer : (words : List (List ℕ)) (held : List ℕ → Type 0) (compiled : Compiled) (text : List ℕ) (has_faults : Bool) → AreWalkWords words → HoldsSome held (λ input. All IsLine (lines_of input) × IsCompiledDivided input compiled) → AreLinesOf compiled text
-    → has_faults ≡ has_fault compiled
+pub walks_answer : (words : List (List ℕ)) (held : List ℕ → Type 0) (compiled : Compiled) (text : List ℕ)
+    (has_faults : Bool) → AreWalkWords words
+    → HoldsSome held (λ input. All IsLine (lines_of input) × IsCompiledDivided input compiled)
+    → AreLinesOf compiled text → has_faults ≡ has_fault compiled
     → HoldsSome held (λ input. IsAnswerTo words input text has_faults)
 walks_answer words held compiled text has_faults asked is lines any = (
   is.0,
@@ -52,6 +57,16 @@ walks_answer words held compiled text has_faults asked is lines any = (
 )
 
 -- and where nothing is at fault, it is the walks over a document
-pub walks_print : (words : List (List ℕ)) (compiled : Compiled) (text : List ℕ) → AreWalkWords words → AreLinesOf compiled text → has_fault compiled ≡ false → IsPrintTo words text
-walks_print words compiled text asked lines none =
-    (tasks.Walk, (asked, (compiled.document, faultless_walks compiled.document compiled.schema_faults.items compiled.document_faults.items text lines none)))
+pub walks_print : (words : List (List ℕ)) (compiled : Compiled) (text : List ℕ) → AreWalkWords words
+    → AreLinesOf compiled text → has_fault compiled ≡ false → IsPrintTo words text
+walks_print words compiled text asked lines none = (
+  tasks.Walk,
+  (
+    asked,
+    (
+      compiled.document,
+      faultless_walks compiled.document compiled.schema_faults.items
+          compiled.document_faults.items text lines none,
+    ),
+  ),
+)

@@ -1,5 +1,6 @@
 -- The texts of walks, as they are said line by line and go out in pieces.
-use Rattle.std.proofs.Common.{◌≡◌, ◌-◌, ◌^◌, ℕ, Bool, List, [], ◌∷◌, ◌++◌, Option, min, refl, sym, ap, subst, ◌∙◌, append_assoc}
+use Rattle.std.proofs.Common.{◌≡◌, ◌-◌, ◌^◌, ℕ, Bool, List, [], ◌∷◌, ◌++◌, Option, min, refl, sym, ap, subst}
+use Rattle.std.proofs.Common.{◌∙◌, append_assoc}
 use Rattle.std.proofs.lemmas.List.{append-nil}
 use Rattle.std.specs.List.{flat_map}
 use Rattle.graphql_nodes.specs.NodeView.{NodeView}
@@ -13,21 +14,29 @@ use Rattle.gqltool_run.specs.WalkCommand.{AreSetsText, IsSetText, IsWalkText, fi
 use Rattle.program_io.proofs.WritingLemmas.{goes-further, goes-nowhere, goes-with}
 
 -- one line more
-pub lines-turn : {A : Type 0} (line : A → List ℕ) (whole text after : List ℕ) (begin middle new : Option (List ℕ)) (x : A) (coming rest : List A) → GoesOut whole begin middle (text ++ flat_map line coming) → coming ≡ x ∷ rest
-    → GoesOut (text ++ line x) middle new after
-    → GoesOut whole begin new (after ++ flat_map line rest)
+pub lines-turn : {A : Type 0} (line : A → List ℕ) (whole text after : List ℕ)
+    (begin middle new : Option (List ℕ)) (x : A) (coming rest : List A)
+    → GoesOut whole begin middle (text ++ flat_map line coming) → coming ≡ x ∷ rest
+    → GoesOut (text ++ line x) middle new after → GoesOut whole begin new (after ++ flat_map line rest)
 lines-turn line whole text after begin middle new x coming rest was first more =
-    let left : text ++ flat_map line coming ≡ (text ++ line x) ++ flat_map line rest = ap (λ l. text ++ flat_map line l) first ∙ sym (append_assoc text (line x) (flat_map line rest)) in
-    goes-further whole begin middle new ((text ++ line x) ++ flat_map line rest) (after ++ flat_map line rest) (subst (GoesOut whole begin middle) left was) (goes-with (text ++ line x) middle new after (flat_map line rest) more)
+    let left : text ++ flat_map line coming ≡ (text ++ line x) ++ flat_map line rest =
+    ap (λ l. text ++ flat_map line l) first ∙ sym (append_assoc text (line x) (flat_map line rest)) in
+    goes-further whole begin middle new ((text ++ line x) ++ flat_map line rest) (after ++ flat_map line rest)
+    (subst (GoesOut whole begin middle) left was) (goes-with (text ++ line x) middle new after
+    (flat_map line rest) more)
 
 -- what is left of a line, where it is cut short
-pub lines-cut : {A : Type 0} (line : A → List ℕ) (whole text : List ℕ) (begin middle new : Option (List ℕ)) (x : A) (coming rest : List A) → GoesOut whole begin middle (text ++ flat_map line coming) → coming ≡ x ∷ rest
-    → IsBegun (text ++ line x) middle new
-    → IsBegun whole begin new
-lines-cut line whole text begin middle new x coming rest was first cut =
-    (cut.0 ++ flat_map line rest, lines-turn line whole text cut.0 begin middle new x coming rest was first cut.1)
+pub lines-cut : {A : Type 0} (line : A → List ℕ) (whole text : List ℕ) (begin middle new : Option (List ℕ))
+    (x : A) (coming rest : List A) → GoesOut whole begin middle (text ++ flat_map line coming)
+    → coming ≡ x ∷ rest → IsBegun (text ++ line x) middle new → IsBegun whole begin new
+lines-cut line whole text begin middle new x coming rest was first cut = (
+  cut.0 ++ flat_map line rest,
+  lines-turn line whole text cut.0 begin middle new x coming rest was first cut.1,
+)
 
-module _ (deep : Bool) (word turns_word : List ℕ) (document : ExecutableDocument) (set : SelectionSet) (held : List ℕ) (begin : Option (List ℕ)) (all : List (NodeView Field)) (walked : AreWalked deep document set all) (turns : ℕ) (takes : TakesAllTurns deep document set turns) where
+module _ (deep : Bool) (word turns_word : List ℕ) (document : ExecutableDocument) (set : SelectionSet)
+    (held : List ℕ) (begin : Option (List ℕ)) (all : List (NodeView Field)) (walked : AreWalked deep document
+    set all) (turns : ℕ) (takes : TakesAllTurns deep document set turns) where
   abbrev pub fields_text : List ℕ
   fields_text = flat_map (field_line word) all
 
@@ -35,7 +44,9 @@ module _ (deep : Bool) (word turns_word : List ℕ) (document : ExecutableDocume
   turns_text = turns_line turns_word (min turns (2 ^ 64 - 1))
 
   -- the fields and the turns are said, of which this went out
-  pub walk-said : (new : Option (List ℕ)) (left : List ℕ) → GoesOut ((held ++ fields_text) ++ turns_text) begin new left → IsSaid (IsWalkText deep word turns_word document set) begin new held left
+  pub walk-said : (new : Option (List ℕ)) (left : List ℕ)
+      → GoesOut ((held ++ fields_text) ++ turns_text) begin new left
+      → IsSaid (IsWalkText deep word turns_word document set) begin new held left
   walk-said new left goes = (
     fields_text ++ turns_text,
     (
@@ -45,51 +56,75 @@ module _ (deep : Bool) (word turns_word : List ℕ) (document : ExecutableDocume
   )
 
   -- the fields are cut short
-  pub walk-cut : (new : Option (List ℕ)) → IsBegun (held ++ fields_text) begin new → IsCutShort (IsWalkText deep word turns_word document set) begin new held
-  walk-cut new cut = (cut.0 ++ turns_text, walk-said new (cut.0 ++ turns_text) (goes-with (held ++ fields_text) begin new cut.0 turns_text cut.1))
+  pub walk-cut : (new : Option (List ℕ)) → IsBegun (held ++ fields_text) begin new
+      → IsCutShort (IsWalkText deep word turns_word document set) begin new held
+  walk-cut new cut = (
+    cut.0 ++ turns_text,
+    walk-said new (cut.0 ++ turns_text) (goes-with (held ++ fields_text) begin new cut.0 turns_text cut.1),
+  )
 
   -- the turns are said behind the last field
-  pub walk-end : (middle new : Option (List ℕ)) (text left : List ℕ) (coming : List (NodeView Field)) → GoesOut (held ++ fields_text) begin middle (text ++ flat_map (field_line word) coming) → coming ≡ []
+  pub walk-end : (middle new : Option (List ℕ)) (text left : List ℕ) (coming : List (NodeView Field))
+      → GoesOut (held ++ fields_text) begin middle (text ++ flat_map (field_line word) coming) → coming ≡ []
       → GoesOut (text ++ turns_text) middle new left
       → IsSaid (IsWalkText deep word turns_word document set) begin new held left
   walk-end middle new text left coming was none more =
-      let all_said : text ++ flat_map (field_line word) coming ≡ text = ap (λ l. text ++ flat_map (field_line word) l) none ∙ append-nil text in
+      let all_said : text ++ flat_map (field_line word) coming ≡ text =
+      ap (λ l. text ++ flat_map (field_line word) l) none ∙ append-nil text in
       let before = subst (GoesOut (held ++ fields_text) begin middle) all_said was in
-      walk-said new left (goes-further ((held ++ fields_text) ++ turns_text) begin middle new (text ++ turns_text) left (goes-with (held ++ fields_text) begin middle text turns_text before) more)
+      walk-said new left (goes-further ((held ++ fields_text) ++ turns_text) begin middle new (text
+      ++ turns_text) left (goes-with (held ++ fields_text) begin middle text turns_text before) more)
 
-  pub walk-end-cut : (middle new : Option (List ℕ)) (text : List ℕ) (coming : List (NodeView Field)) → GoesOut (held ++ fields_text) begin middle (text ++ flat_map (field_line word) coming) → coming ≡ []
+  pub walk-end-cut : (middle new : Option (List ℕ)) (text : List ℕ) (coming : List (NodeView Field))
+      → GoesOut (held ++ fields_text) begin middle (text ++ flat_map (field_line word) coming) → coming ≡ []
       → IsBegun (text ++ turns_text) middle new
       → IsCutShort (IsWalkText deep word turns_word document set) begin new held
-  walk-end-cut middle new text coming was none cut = (cut.0, walk-end middle new text cut.0 coming was none cut.1)
+  walk-end-cut middle new text coming was none cut =
+      (cut.0, walk-end middle new text cut.0 coming was none cut.1)
 
 -- with the texts of the sets that are left, the text is that of all, behind what was held
-abbrev pub LacksSets : ExecutableDocument → List (List ℕ × SelectionSet) → List (List ℕ × SelectionSet) → Option (List ℕ) → Option (List ℕ) → List ℕ → List ℕ → Type 0
-LacksSets document all left begin new held text = (rest : List ℕ) → AreSetsText document left rest → IsSaid (AreSetsText document all) begin new held (text ++ rest)
+abbrev pub LacksSets : ExecutableDocument → List (List ℕ × SelectionSet) → List (List ℕ × SelectionSet)
+    → Option (List ℕ) → Option (List ℕ) → List ℕ → List ℕ → Type 0
+LacksSets document all left begin new held text = (rest : List ℕ) → AreSetsText document left rest
+    → IsSaid (AreSetsText document all) begin new held (text ++ rest)
 
-pub sets-begin : (document : ExecutableDocument) (all left : List (List ℕ × SelectionSet)) (begin : Option (List ℕ)) (held : List ℕ) → left ≡ all → LacksSets document all left begin begin held held
-sets-begin document all left begin held is = λ rest are. (rest, (subst (λ l. AreSetsText document l rest) is are, goes-nowhere begin (held ++ rest)))
+pub sets-begin : (document : ExecutableDocument) (all left : List (List ℕ × SelectionSet)) (begin : Option
+    (List ℕ)) (held : List ℕ) → left ≡ all → LacksSets document all left begin begin held held
+sets-begin document all left begin held is =
+    λ rest are. (rest, (subst (λ l. AreSetsText document l rest) is are, goes-nowhere begin (held ++ rest)))
 
 -- one set is said below its line
-pub sets-turn : (document : ExecutableDocument) (all left : List (List ℕ × SelectionSet)) (set : List ℕ × SelectionSet) (more : List (List ℕ × SelectionSet)) (begin middle new : Option (List ℕ)) (held text after : List ℕ)
-    → LacksSets document all left begin middle held text → left ≡ set ∷ more
+pub sets-turn : (document : ExecutableDocument) (all left : List (List ℕ × SelectionSet)) (set : List ℕ
+    × SelectionSet) (more : List (List ℕ × SelectionSet)) (begin middle new : Option (List ℕ))
+    (held text after : List ℕ) → LacksSets document all left begin middle held text → left ≡ set ∷ more
     → IsSaid (IsSetText document set.1) middle new (text ++ set.0) after
     → LacksSets document all more begin new held after
 sets-turn document all left set more begin middle new held text after lacks first says = λ rest are.
     let said = says.0 in
-    let whole = lacks (set.0 ++ (said ++ rest)) (subst (λ l. AreSetsText document l (set.0 ++ (said ++ rest))) (sym first) (said, (says.1.0, (rest, (are, refl))))) in
-    let left_is : text ++ (set.0 ++ (said ++ rest)) ≡ ((text ++ set.0) ++ said) ++ rest = sym (append_assoc text set.0 (said ++ rest)) ∙ sym (append_assoc (text ++ set.0) said rest) in
+    let whole = lacks (set.0 ++ (said ++ rest)) (subst (λ l. AreSetsText document l (set.0 ++ (said ++ rest)))
+    (sym first) (said, (says.1.0, (rest, (are, refl))))) in
+    let left_is : text ++ (set.0 ++ (said ++ rest)) ≡ ((text ++ set.0) ++ said) ++ rest =
+    sym (append_assoc text set.0 (said ++ rest)) ∙ sym (append_assoc (text ++ set.0) said rest) in
     let before = subst (GoesOut (held ++ whole.0) begin middle) left_is whole.1.1 in (
       whole.0,
-      (whole.1.0, goes-further (held ++ whole.0) begin middle new (((text ++ set.0) ++ said) ++ rest) (after ++ rest) before (goes-with ((text ++ set.0) ++ said) middle new after rest says.1.1)),
+      (
+        whole.1.0,
+        goes-further (held ++ whole.0) begin middle new (((text ++ set.0) ++ said) ++ rest) (after
+            ++ rest) before (goes-with ((text ++ set.0) ++ said) middle new after rest says.1.1),
+      ),
     )
 
-pub sets-end : (document : ExecutableDocument) (all left : List (List ℕ × SelectionSet)) (begin new : Option (List ℕ)) (held text : List ℕ) → LacksSets document all left begin new held text → left ≡ []
+pub sets-end : (document : ExecutableDocument) (all left : List (List ℕ × SelectionSet)) (begin new : Option
+    (List ℕ)) (held text : List ℕ) → LacksSets document all left begin new held text → left ≡ []
     → IsSaid (AreSetsText document all) begin new held text
 sets-end document all left begin new held text lacks none =
-    subst (IsSaid (AreSetsText document all) begin new held) (append-nil text) (lacks [] (subst (λ l. AreSetsText document l []) (sym none) refl))
+    subst (IsSaid (AreSetsText document all) begin new held) (append-nil text)
+    (lacks [] (subst (λ l. AreSetsText document l []) (sym none) refl))
 
 -- where each set has a text, so have some sets
-pub sets-text : (document : ExecutableDocument) → ((set : SelectionSet) → (text : List ℕ) × IsSetText document set text) → (sets : List (List ℕ × SelectionSet)) → (text : List ℕ) × AreSetsText document sets text
+pub sets-text : (document : ExecutableDocument)
+    → ((set : SelectionSet) → (text : List ℕ) × IsSetText document set text)
+    → (sets : List (List ℕ × SelectionSet)) → (text : List ℕ) × AreSetsText document sets text
 sets-text document texts [] = ([], refl)
 sets-text document texts (set ∷ sets) =
     let first = texts set.1 in
@@ -97,18 +132,20 @@ sets-text document texts (set ∷ sets) =
     (set.0 ++ (first.0 ++ rest.0), (first.0, (first.1, (rest.0, (rest.1, refl)))))
 
 -- the texts are cut short where one of them is lacking
-pub sets-cut : (document : ExecutableDocument) (all left : List (List ℕ × SelectionSet)) (begin new : Option (List ℕ)) (held text : List ℕ) → ((set : SelectionSet) → (text : List ℕ) × IsSetText document set text)
-    → LacksSets document all left begin new held text
-    → IsCutShort (AreSetsText document all) begin new held
+pub sets-cut : (document : ExecutableDocument) (all left : List (List ℕ × SelectionSet)) (begin new : Option
+    (List ℕ)) (held text : List ℕ) → ((set : SelectionSet) → (text : List ℕ) × IsSetText document set text)
+    → LacksSets document all left begin new held text → IsCutShort (AreSetsText document all) begin new held
 sets-cut document all left begin new held text texts lacks =
     let rest = sets-text document texts left in
     (text ++ rest.0, lacks rest.0 rest.1)
 
 -- or where one of them is cut short
-pub set-cut : (document : ExecutableDocument) (all left : List (List ℕ × SelectionSet)) (set : List ℕ × SelectionSet) (more : List (List ℕ × SelectionSet)) (begin middle new : Option (List ℕ)) (held text : List ℕ)
-    → ((set : SelectionSet) → (text : List ℕ) × IsSetText document set text)
+pub set-cut : (document : ExecutableDocument) (all left : List (List ℕ × SelectionSet)) (set : List ℕ
+    × SelectionSet) (more : List (List ℕ × SelectionSet)) (begin middle new : Option (List ℕ))
+    (held text : List ℕ) → ((set : SelectionSet) → (text : List ℕ) × IsSetText document set text)
     → LacksSets document all left begin middle held text → left ≡ set ∷ more
     → IsCutShort (IsSetText document set.1) middle new (text ++ set.0)
     → IsCutShort (AreSetsText document all) begin new held
 set-cut document all left set more begin middle new held text texts lacks first cut =
-    sets-cut document all more begin new held cut.0 texts (sets-turn document all left set more begin middle new held text cut.0 lacks first cut.1)
+    sets-cut document all more begin new held cut.0 texts (sets-turn document all left set more begin middle
+    new held text cut.0 lacks first cut.1)

@@ -14,38 +14,31 @@ use Rattle.leafcheck.specs.declared.around.Around.TheFolds.{fold-roll-Around}
 use Rattle.leafcheck.specs.declared.around.Around.TheOpen.{Around-F}
 use Rattle.leafcheck.specs.declared.around.Around.TheVariants as variant
 
-operation-path : (operation : Bor Operation) → path_of (variant.Operation operation)
-    ≡ operation_path operation.now
-operation-path operation =
-    ap path_of (sym (variant.rolls-Operation operation))
-    ∙ fold-roll-Around SelectionPath path_step (Around-F.Operation operation)
-
-fragment-path : (fragment : Bor Fragment) → path_of (variant.Fragment fragment) ≡ fragment_path fragment.now
-fragment-path fragment =
-    ap path_of (sym (variant.rolls-Fragment fragment))
-    ∙ fold-roll-Around SelectionPath path_step (Around-F.Fragment fragment)
-
 module _ (s : Schema) where
   -- a set that is lent has faults
   abbrev pub HasFaults : SelectionPath → SelectionSet → Type 0
   HasFaults path set = leaf_faults_in s set.ty path set.selections ≢ []
 
+  -- a set that is in two values, which are both one, has faults along the path of the one
+  noted : {A : Type 0} (set_in : A → SelectionSet) (path_in : A → SelectionPath) (around lent one : A)
+      (path : SelectionPath) → path ≡ path_in around → around ≡ one → lent ≡ one
+      → HasFaults path (set_in lent) → HasFaults (path_in one) (set_in one)
+  noted set_in path_in around lent one path opened is same some none =
+      some ((λ i. leaf_faults_in s (set_in (same i)).ty ((opened ∙ ap path_in is) i)
+      (set_in (same i)).selections) ∙ none)
+
   pub operation-noted : (around lent : Bor Operation) (n : NodeView Operation) → around.now ≡ n.value
       → lent.now ≡ n.value → HasFaults (path_of (variant.Operation around)) lent.now.selection_set
       → operation_faults s n ≢ []
-  operation-noted around lent n is same some none =
-      let set = lent.now.selection_set in
-      some (ap (λ (path : SelectionPath). leaf_faults_in s set.ty path set.selections) (operation-path around)
-      ∙ (λ i. leaf_faults_in s (same i).selection_set.ty (operation_path (is i))
-      (same i).selection_set.selections)
-      ∙ none)
+  operation-noted around lent n =
+      noted (λ (o : Operation). o.selection_set) operation_path around.now lent.now n.value
+      (path_of (variant.Operation around)) (ap path_of (sym (variant.rolls-Operation around))
+      ∙ fold-roll-Around SelectionPath path_step (Around-F.Operation around))
 
   pub fragment-noted : (around lent : Bor Fragment) (n : NodeView Fragment) → around.now ≡ n.value
       → lent.now ≡ n.value → HasFaults (path_of (variant.Fragment around)) lent.now.selection_set
       → fragment_faults s n ≢ []
-  fragment-noted around lent n is same some none =
-      let set = lent.now.selection_set in
-      some (ap (λ (path : SelectionPath). leaf_faults_in s set.ty path set.selections) (fragment-path around)
-      ∙ (λ i. leaf_faults_in s (same i).selection_set.ty (fragment_path (is i))
-      (same i).selection_set.selections)
-      ∙ none)
+  fragment-noted around lent n =
+      noted (λ (f : Fragment). f.selection_set) fragment_path around.now lent.now n.value
+      (path_of (variant.Fragment around)) (ap path_of (sym (variant.rolls-Fragment around))
+      ∙ fold-roll-Around SelectionPath path_step (Around-F.Fragment around))

@@ -1,5 +1,6 @@
 -- The faults of selections behind others, and of documents one of whose sets has a fault.
-use Rattle.std.proofs.Common.{◌≡◌, ◌≢◌, ◌<◌, ◌∙◌, ap, sym, refl, ℕ, zero, suc, List, [], ◌∷◌, ◌++◌, length, get_or, take, drop, Some, append_assoc, drop-cons}
+use Rattle.std.proofs.Common.{◌≡◌, ◌≢◌, ◌<◌, ◌∙◌, ap, sym, refl, ℕ, zero, suc, List, [], ◌∷◌, ◌++◌, length}
+use Rattle.std.proofs.Common.{get_or, take, drop, Some, append_assoc, drop-cons}
 use Rattle.std.specs.List.{filter_map, flat_map, slice_get}
 use Rattle.std.proofs.lemmas.List.{take-append-drop}
 use Rattle.std.proofs.lemmas.List.Elements.{filter_map-append}
@@ -13,7 +14,8 @@ use Rattle.apollo_executable.specs.declared.operation.Fragment.{Fragment}
 use Rattle.apollo_executable.specs.declared.operation.Operation.{Operation}
 use Rattle.apollo_executable.specs.declared.selection.Selection.{Selection}
 use Rattle.apollo_schema.specs.declared.schema.Schema.{Schema}
-use Rattle.leafcheck.specs.LeafFaults.{fault_at, fragment_faults, leaf_faults_in, leaf_faults, operation_faults}
+use Rattle.leafcheck.specs.LeafFaults.{fault_at, fragment_faults, leaf_faults_in, leaf_faults}
+use Rattle.leafcheck.specs.LeafFaults.{operation_faults}
 use Rattle.leafcheck.specs.PlacedFields.{placed_fields}
 use Rattle.leafcheck.specs.declared.leaf_fault.LeafFault.{LeafFault}
 use Rattle.leafcheck.proofs.PlacedLemmas.{placed-joined}
@@ -37,17 +39,15 @@ module _ (s : Schema) (ty : NameView) (path : SelectionPath) where
 
   -- the faults of selections behind others
   apart : (xs ys : List Selection) → faults (xs ++ ys) ≡ faults xs ++ faults ys
-  apart xs ys =
-      ap (filter_map (fault_at s)) (placed-joined ty path xs ys)
-      ∙ filter_map-append (fault_at s) (placed_fields ty path xs) (placed_fields ty path ys)
+  apart xs ys = ap (filter_map (fault_at s)) (placed-joined ty path xs ys) ∙ filter_map-append (fault_at s)
+      (placed_fields ty path xs) (placed_fields ty path ys)
 
   -- the faults of one selection more
   pub faults-more : (old now new : List LeafFault) (xs : List Selection) (x : Selection)
       → now ≡ old ++ faults xs → new ≡ now ++ faults (x ∷ []) → new ≡ old ++ faults (xs ++ x ∷ [])
-  faults-more old now new xs x was more =
-      more ∙ ap (λ (l : List LeafFault). l ++ faults (x ∷ [])) was
-      ∙ append_assoc old (faults xs) (faults (x ∷ []))
-      ∙ ap (λ (l : List LeafFault). old ++ l) (sym (apart xs (x ∷ [])))
+  faults-more old now new xs x was more = more ∙ ap (λ (l : List LeafFault). l ++ faults (x ∷ [])) was
+      ∙ append_assoc old (faults xs) (faults (x ∷ [])) ∙ ap (λ (l : List LeafFault). old
+      ++ l) (sym (apart xs (x ∷ [])))
 
   -- selections have a fault where one of them has
   pub faults-at : (xs : List Selection) (n : ℕ) (x : Selection) → (n < length xs) × (x ≡ get_or xs n x)
@@ -59,8 +59,8 @@ module _ (s : Schema) (ty : NameView) (path : SelectionPath) where
       ∙ ap (λ (y : Selection). y ∷ rest) (sym at.1)) in
       let parts = ap faults here ∙ apart (take n xs) (x ∷ rest)
       ∙ ap (λ (l : List LeafFault). faults (take n xs) ++ l) (apart (x ∷ []) rest) in
-      some (both-none (faults (x ∷ [])) (faults rest)
-      (both-none (faults (take n xs)) _ (sym parts ∙ none)).1).0
+      some (both-none (faults (x ∷ [])) (faults rest) (both-none (faults (take n xs)) _ (sym parts
+      ∙ none)).1).0
 
 -- and a document where one of its operations has, or one of its fragments
 module _ (s : Schema) (document : ExecutableDocument) where
@@ -69,12 +69,13 @@ module _ (s : Schema) (document : ExecutableDocument) where
       × (flat_map (fragment_faults s) (values_of document.fragments) ≡ [])
   without-faults none = both-none _ _ none
 
-  pub operation-at : (k : ℕ) (n : NodeView Operation) → slice_get (all_operations document.operations) k
-      ≡ Some n → operation_faults s n ≢ [] → leaf_faults s document ≢ []
-  operation-at k n at some none =
-      filled-at (operation_faults s) (all_operations document.operations) k n at some (without-faults none).0
+  pub operation-at : (k : ℕ) (n : NodeView Operation)
+      → slice_get (all_operations document.operations) k ≡ Some n → operation_faults s n ≢ []
+      → leaf_faults s document ≢ []
+  operation-at k n at some none = filled-at (operation_faults s) (all_operations document.operations) k
+      n at some (without-faults none).0
 
   pub fragment-at : (k : ℕ) (n : NodeView Fragment) → slice_get (values_of document.fragments) k ≡ Some n
       → fragment_faults s n ≢ [] → leaf_faults s document ≢ []
-  fragment-at k n at some none =
-      filled-at (fragment_faults s) (values_of document.fragments) k n at some (without-faults none).1
+  fragment-at k n at some none = filled-at (fragment_faults s) (values_of document.fragments) k n at some
+      (without-faults none).1

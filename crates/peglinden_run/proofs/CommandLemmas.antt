@@ -11,13 +11,19 @@ use Rattle.peglinden_run.specs.Documents.{AreDocumentsAt}
 use Rattle.peglinden_run.specs.SchemaCommand.{IsSchemaOf}
 
 -- a schema that was built of the documents of files, with these options
-pub schema-of : (held : List ℕ → List ℕ → Type 0) (options given : CompileOptions) (paths : List (List ℕ)) (documents handed : List Document) (schema : Schema) (faults : List Fault) → given ≡ options → handed ≡ documents
-    → AreDocumentsAt held 1 paths documents → MeansSchema 0 given.adopt_orphan_extensions (schema_list given handed) schema → schema.sources ≡ all_sources handed → faults ≡ faults_of given.adopt_orphan_extensions (schema_list given handed)
+pub schema-of : (held : List ℕ → List ℕ → Type 0) (options given : CompileOptions) (paths : List (List ℕ))
+    (documents handed : List Document) (schema : Schema) (faults : List Fault) → given ≡ options
+    → handed ≡ documents → AreDocumentsAt held 1 paths documents
+    → MeansSchema 0 given.adopt_orphan_extensions (schema_list given handed) schema
+    → schema.sources ≡ all_sources handed
+    → faults ≡ faults_of given.adopt_orphan_extensions (schema_list given handed)
     → IsSchemaOf held options paths schema faults
 schema-of held options given paths documents handed schema faults same these read means sources are = record {
   documents = documents;
   read = read;
-  means = subst (λ (o : CompileOptions). MeansSchema 0 o.adopt_orphan_extensions (schema_list o documents) schema) same (subst (λ (ds : List Document). MeansSchema 0 given.adopt_orphan_extensions (schema_list given ds) schema) these means);
+  means = subst (λ (o : CompileOptions). MeansSchema 0 o.adopt_orphan_extensions (schema_list o documents)
+      schema) same (subst (λ (ds : List Document). MeansSchema 0 given.adopt_orphan_extensions
+      (schema_list given ds) schema) these means);
   sources = sources ∙ ap all_sources these;
   are = are ∙ (λ i. faults_of (same i).adopt_orphan_extensions (schema_list (same i) (these i)));
 }

@@ -1,5 +1,6 @@
 -- Documents of files, typed over the schema of files.
-use Rattle.std.proofs.Common.{◌≡◌, ℕ, ◌≤◌, true, List, ◌++◌, Some, length, length-append, ap, subst, ◌∙◌, arith}
+use Rattle.std.proofs.Common.{◌≡◌, ℕ, ◌≤◌, true, List, ◌++◌, Some, length, length-append, ap, subst, ◌∙◌}
+use Rattle.std.proofs.Common.{arith}
 use Rattle.std.proofs.lemmas.List.{length-map, map-append}
 use Rattle.std.specs.Borrow.{Bor}
 use Rattle.graphql_nodes.specs.Sources.{merged}
@@ -22,28 +23,49 @@ pub texts-length : (words : List (Bor (List ℕ))) → length (texts_of words) �
 texts-length words = length-map words (λ (word : Bor (List ℕ)). word.now)
 
 -- what was read of both lists of files
-pub both-read : (held : List ℕ → List ℕ → Type 0) (first second whole : List (Bor (List ℕ))) (documents : List Document) → whole ≡ first ++ second → AreDocumentsAt held 1 (texts_of whole) documents → AreBothAt held (texts_of first) (texts_of second) documents
-both-read held first second whole documents is are = subst (λ (ps : List (List ℕ)). AreDocumentsAt held 1 ps documents) (ap texts_of is ∙ map-append (λ (word : Bor (List ℕ)). word.now) first second) are
+pub both-read : (held : List ℕ → List ℕ → Type 0) (first second whole : List (Bor (List ℕ)))
+    (documents : List Document) → whole ≡ first ++ second → AreDocumentsAt held 1 (texts_of whole) documents
+    → AreBothAt held (texts_of first) (texts_of second) documents
+both-read held first second whole documents is are = subst (λ (ps : List (List ℕ)). AreDocumentsAt held 1 ps
+    documents) (ap texts_of is ∙ map-append (λ (word : Bor (List ℕ)). word.now) first second) are
 
 -- the files of the schema are among them
-pub first-fits : (held : List ℕ → List ℕ → Type 0) (first second : List (Bor (List ℕ))) (documents : List Document) → AreBothAt held (texts_of first) (texts_of second) documents → length first ≤ length documents
-first-fits held first second documents are = omega (arith, documents-length held 1 (texts_of first ++ texts_of second) documents are, length-append (texts_of first) (texts_of second), texts-length first)
+pub first-fits : (held : List ℕ → List ℕ → Type 0) (first second : List (Bor (List ℕ)))
+    (documents : List Document) → AreBothAt held (texts_of first) (texts_of second) documents
+    → length first ≤ length documents
+first-fits held first second documents are = omega (
+  arith,
+  documents-length held 1 (texts_of first ++ texts_of second) documents are,
+  length-append (texts_of first) (texts_of second),
+  texts-length first,
+)
 
 -- what was built of both parts
-pub typed-of : (held : List ℕ → List ℕ → Type 0) (schema_paths document_paths : List (List ℕ)) (documents first second : List Document) (given : CompileOptions) (schema : Schema) (typed : TypedDocument)
-    → given ≡ no_options → first ≡ schema_part schema_paths documents → second ≡ document_part schema_paths documents → AreBothAt held schema_paths document_paths documents
-    → MeansSchema 0 given.adopt_orphan_extensions (schema_list given first) schema → typed.findings.schema_faults.items ≡ faults_of given.adopt_orphan_extensions (schema_list given first)
-    → IsDocumentOf (Some schema) (executable_list true second) typed.document → typed.findings.document_faults.items ≡ document_faults (Some schema) (executable_list true second)
-    → typed.findings.leaf_faults.items ≡ leaf_faults schema typed.document → typed.findings.sources ≡ merged (all_sources first) (all_sources second)
+pub typed-of : (held : List ℕ → List ℕ → Type 0) (schema_paths document_paths : List (List ℕ)) (documents
+    first second : List Document) (given : CompileOptions) (schema : Schema) (typed : TypedDocument)
+    → given ≡ no_options → first ≡ schema_part schema_paths documents
+    → second ≡ document_part schema_paths documents → AreBothAt held schema_paths document_paths documents
+    → MeansSchema 0 given.adopt_orphan_extensions (schema_list given first) schema
+    → typed.findings.schema_faults.items ≡ faults_of given.adopt_orphan_extensions (schema_list given first)
+    → IsDocumentOf (Some schema) (executable_list true second) typed.document
+    → typed.findings.document_faults.items ≡ document_faults (Some schema) (executable_list true second)
+    → typed.findings.leaf_faults.items ≡ leaf_faults schema typed.document
+    → typed.findings.sources ≡ merged (all_sources first) (all_sources second)
     → IsTyped held schema_paths document_paths typed
-typed-of held schema_paths document_paths documents first second given schema typed same front back read means schema_are is are leaves_are sources = record {
-  schema = schema;
-  documents = documents;
-  read = read;
-  means = subst (λ (o : CompileOptions). MeansSchema 0 o.adopt_orphan_extensions (schema_list o (schema_part schema_paths documents)) schema) same (subst (λ (ds : List Document). MeansSchema 0 given.adopt_orphan_extensions (schema_list given ds) schema) front means);
-  is = subst (λ (ds : List Document). IsDocumentOf (Some schema) (executable_list true ds) typed.document) back is;
-  schema_are = schema_are ∙ (λ i. faults_of (same i).adopt_orphan_extensions (schema_list (same i) (front i)));
-  are = are ∙ (λ i. document_faults (Some schema) (executable_list true (back i)));
-  leaves_are = leaves_are;
-  sources = sources ∙ (λ i. merged (all_sources (front i)) (all_sources (back i)));
-}
+typed-of held schema_paths document_paths documents first second given schema typed same front back read means
+    schema_are is are leaves_are sources = record {
+      schema = schema;
+      documents = documents;
+      read = read;
+      means = subst (λ (o : CompileOptions). MeansSchema 0 o.adopt_orphan_extensions
+          (schema_list o (schema_part schema_paths documents)) schema) same
+          (subst (λ (ds : List Document). MeansSchema 0 given.adopt_orphan_extensions (schema_list given ds)
+          schema) front means);
+      is = subst (λ (ds : List Document). IsDocumentOf (Some schema) (executable_list true ds) typed.document)
+          back is;
+      schema_are = schema_are
+          ∙ (λ i. faults_of (same i).adopt_orphan_extensions (schema_list (same i) (front i)));
+      are = are ∙ (λ i. document_faults (Some schema) (executable_list true (back i)));
+      leaves_are = leaves_are;
+      sources = sources ∙ (λ i. merged (all_sources (front i)) (all_sources (back i)));
+    }

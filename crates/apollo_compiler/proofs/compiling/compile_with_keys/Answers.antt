@@ -21,7 +21,8 @@ returns c =
       document_faults = typed.faults;
       erased = typed.erased;
     } in
-    let is : IsCompiled c.args.options c.args.schema_documents.now c.args.executable_documents.now c.args.type_system_definitions_are_errors compiled = record {
+    let is : IsCompiled c.args.options c.args.schema_documents.now c.args.executable_documents.now
+    c.args.type_system_definitions_are_errors compiled = record {
       schema = c.in_ok-schema.ensures.means;
       schema_sources = c.in_ok-schema.ensures.sources;
       schema_faults = c.in_ok-schema.ensures.faults;
@@ -37,12 +38,16 @@ returns c =
     } in
     record {
       compiled = is;
-      rebuilds = rebuilt-as_it_was c.headline.ensures.rebuilds c.args.options c.args.schema_documents.now c.args.executable_documents.now c.args.type_system_definitions_are_errors compiled is;
+      rebuilds = rebuilt-as_it_was c.headline.ensures.rebuilds c.args.options c.args.schema_documents.now
+          c.args.executable_documents.now c.args.type_system_definitions_are_errors compiled is;
       spent = λ other. cc;
     }
 
 -- a write-out spends no more numbers than the list that it comes of
 pub returns-in_err-rebuilt-clause-spent : goal.returns-in_err-rebuilt-clause-spent
 returns-in_err-rebuilt-clause-spent c = λ spent.
-    let exit = err_from_is_err_and c.from_residual-in_err-rebuilt.result c.from_residual-in_err-rebuilt.ensures.1 in
-    c.a_write_out_folds_no_more.ensures.spends 0 0 c.args.options.adopt_orphan_extensions false (schema_list c.args.options c.args.schema_documents.now) c.in_ok-schema.schema c.in_ok-schema.ensures.means (c.in_err-rebuilt.ensures.spent cc)
+    let exit = err_from_is_err_and c.from_residual-in_err-rebuilt.result
+    c.from_residual-in_err-rebuilt.ensures.1 in
+    c.a_write_out_folds_no_more.ensures.spends 0 0 c.args.options.adopt_orphan_extensions false
+    (schema_list c.args.options c.args.schema_documents.now) c.in_ok-schema.schema
+    c.in_ok-schema.ensures.means (c.in_err-rebuilt.ensures.spent cc)

@@ -1,4 +1,5 @@
-use Rattle.std.proofs.Common.{◌≡◌, ◌<◌, ◌≤◌, ◌+◌, ◌^◌, ℕ, Option, None, Some, IfSome, List, [], ◌∷◌, ◌++◌, map, take, length, sym, ap, ◌∙◌, arith}
+use Rattle.std.proofs.Common.{◌≡◌, ◌<◌, ◌≤◌, ◌+◌, ◌^◌, ℕ, Option, None, Some, IfSome, List, [], ◌∷◌, ◌++◌}
+use Rattle.std.proofs.Common.{map, take, length, sym, ap, ◌∙◌, arith}
 use Rattle.std.proofs.lemmas.List.{take_more, map-append, length-map, length-take-le}
 use Rattle.graphql_nodes.specs.Tables.{lookup}
 use Rattle.apollo_coordinate.specs.declared.coordinates.TypeAttributeCoordinate.{TypeAttributeCoordinate}
@@ -15,8 +16,7 @@ abbrev keys : List FieldOccurrence → List TypeAttributeCoordinate
 keys fields = map coordinate (map seen fields)
 
 taken : (fields : List FieldOccurrence) (i : ℕ) → i ≤ length fields → length (keys (take i fields)) ≡ i
-taken fields i below =
-    length-map (map seen (take i fields)) coordinate ∙ length-map (take i fields) seen
+taken fields i below = length-map (map seen (take i fields)) coordinate ∙ length-map (take i fields) seen
     ∙ length-take-le i fields below
 
 small : (table : List (TypeAttributeCoordinate × ℕ)) (ks : List TypeAttributeCoordinate)
@@ -44,11 +44,10 @@ loop-field-preserved c =
     let item = c.field-item.result in
     let done = take i fields in
     let there : i < length fields = omega arith in
-    let more : take (i + 1) fields ≡ done ++ item ∷ [] =
-    take_more fields i item there ∙ ap (λ x. done ++ x ∷ []) (sym c.field-item.is) in
+    let more : take (i + 1) fields ≡ done ++ item ∷ [] = take_more fields i item there
+    ∙ ap (λ x. done ++ x ∷ []) (sym c.field-item.is) in
     c.in_ok-count.ensures
     ∙ (λ j. counted same_coordinate (c.loop-field.invariant j) (c.in_ok-coordinate.ensures j))
     ∙ tally-push same-equivalence (keys done) (coordinate (seen item))
-    ∙ ap (tally same_coordinate)
-    (sym (ap (map coordinate) (map-append seen done (item ∷ []))
+    ∙ ap (tally same_coordinate) (sym (ap (map coordinate) (map-append seen done (item ∷ []))
     ∙ map-append coordinate (map seen done) (seen item ∷ [])) ∙ ap keys (sym more))

@@ -2,7 +2,8 @@
 use Rattle.std.proofs.Common.{◌≡◌, List, ℕ, ◌++◌, ap, map, ◌∙◌, codes, string_bytes}
 use Rattle.serde_json.specs.Data.{string}
 use Rattle.apollo_reporting.specs.Abouts.{about_view}
-use Rattle.apollo_reporting.specs.FaultData.{detail_member, fault_data, file_member, path_members, span_members}
+use Rattle.apollo_reporting.specs.FaultData.{detail_member, fault_data, file_member, path_members}
+use Rattle.apollo_reporting.specs.FaultData.{span_members}
 use Rattle.apollo_reporting.specs.MemberTexts.{member_text}
 use Rattle.apollo_reporting.proofs.JsonLemmas.{fault_written}
 use Rattle.apollo_reporting.proofs.json_members.push_fault.Goals as goal
@@ -13,13 +14,11 @@ returns g c =
     let files = g.S.Sources.files c.args.sources.now in
     let about = about_view c.args.about.now in
     let old = string_bytes c.args.text.now in
-    let first : string_bytes c.push_string_member.new.text ≡ old ++ member_text (codes "{") (codes "kind", string about.kind) =
-    c.in_ok-push_string_member.ensures ∙ ap (λ (kind : List ℕ). old ++ member_text (codes "{") (codes "kind", string kind)) c.as_str.ensures in
-    fault_written (codes "kind", string about.kind) (codes "message", string c.args.said.now) (file_member c.args.location files) (span_members c.args.location files) (path_members about.path) (map (detail_member files) c.args.details.now) old _ _ _ _ _ _ _
-    first
-    c.in_ok-push_string_member-2.ensures
-    c.in_ok-push_file.ensures
-    c.in_ok-push_span.ensures
-    c.in_ok-push_path.ensures
-    c.in_ok-push_details.ensures
-    c.in_ok-push_str.ensures.bytes
+    let first : string_bytes c.push_string_member.new.text ≡ old ++ member_text (codes "{")
+    (codes "kind", string about.kind) = c.in_ok-push_string_member.ensures ∙ ap (λ (kind : List ℕ). old
+    ++ member_text (codes "{") (codes "kind", string kind)) c.as_str.ensures in
+    fault_written (codes "kind", string about.kind) (codes "message", string c.args.said.now)
+    (file_member c.args.location files) (span_members c.args.location files) (path_members about.path)
+    (map (detail_member files) c.args.details.now) old _ _ _ _ _ _ _ first
+    c.in_ok-push_string_member-2.ensures c.in_ok-push_file.ensures c.in_ok-push_span.ensures
+    c.in_ok-push_path.ensures c.in_ok-push_details.ensures c.in_ok-push_str.ensures.bytes

@@ -9,6 +9,7 @@ pub returns : goal.returns
 returns g c =
     let files = g.S.Sources.files c.args.sources.now in
     let location = Some c.args.span in
-    c.in_ok-push_str.ensures.bytes
-    ∙ ap (λ (t : List ℕ). t ++ codes "}") (c.in_ok-push_span.ensures ∙ ap (λ (t : List ℕ). t ++ members_behind (span_members location files)) c.in_ok-push_file.ensures)
-    ∙ object_written (string_bytes c.args.text.now) (file_member location files) (span_members location files)
+    c.in_ok-push_str.ensures.bytes ∙ ap (λ (t : List ℕ). t ++ codes "}") (c.in_ok-push_span.ensures
+    ∙ ap (λ (t : List ℕ). t ++ members_behind (span_members location files)) c.in_ok-push_file.ensures)
+    ∙ object_written (string_bytes c.args.text.now) (file_member location files)
+    (span_members location files)

@@ -13,7 +13,7 @@ repeat-more : (n : ℕ) (xs : List ℕ) → repeat n xs ++ xs ≡ repeat (n + 1)
 repeat-more n xs = repeat-turned n xs ∙ ap (λ (k : ℕ). repeat k xs) (sym (add-one n))
 
 pub loop-preserved : goal.loop-preserved
-loop-preserved g c =
-    λ plain.
+loop-preserved g c = λ plain.
     let before = c.loop.invariant plain in
-    has_written_of_eq _ _ _ _ _ (repeat-more c.loop.counter c.args.text.now) (has_written_append _ _ _ _ _ _ before (c.write_str.ensures.writes before.plain (search rules)))
+    has_written_of_eq _ _ _ _ _ (repeat-more c.loop.counter c.args.text.now) (has_written_append _ _ _ _ _ _
+    before (c.write_str.ensures.writes before.plain (search rules)))

@@ -4,4 +4,5 @@ use Rattle.std.specs.List.{repeat}
 use Rattle.apollo_reporting.proofs.writing.write_repeated.Given as goal
 
 abbrev pub invariant-loop : goal.invariant-loop
-invariant-loop g l = IsPlainFormatter l.initial.f → HasWritten g.W.Write.write_str_gives l.initial.f (repeat l.counter l.text) l.f
+invariant-loop g l = IsPlainFormatter l.initial.f → HasWritten g.W.Write.write_str_gives l.initial.f
+    (repeat l.counter l.text) l.f

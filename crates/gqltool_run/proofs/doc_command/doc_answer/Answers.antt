@@ -11,7 +11,8 @@ returns-clause-means c =
     let compiled = c.in_ok-compiled.compiled in
     let schema_lines = c.in_ok-push_faults.ensures.0 in
     let lines = c.in_ok-push_faults-2.ensures.0 in
-    let print = c.in_ok-text.ensures ∙ ap printed_definitions (c.as_slice.ensures ∙ ap (λ d. d.definitions) c.in_ok-compiled.ensures.compiled.1.1.1.erased) in
+    let print = c.in_ok-text.ensures ∙ ap printed_definitions (c.as_slice.ensures
+    ∙ ap (λ d. d.definitions) c.in_ok-compiled.ensures.compiled.1.1.1.erased) in
     let first = c.in_ok-push_faults.ensures.1.0 ∙ ap (λ l. l ++ schema_lines) print in
     record {
       schema = compiled.schema;
@@ -21,8 +22,11 @@ returns-clause-means c =
       means = built-document c.args.input.now compiled c.in_ok-compiled.ensures.compiled;
       schema_lines = schema_lines;
       lines = lines;
-      prints = c.in_ok-push_faults-2.ensures.1.0 ∙ ap (λ l. l ++ lines) first ∙ append_assoc _ schema_lines lines;
-      schema_tells = subst (λ (l : List Fault). AreFaultLines l schema_lines) c.as_slice-2.ensures.value c.in_ok-push_faults.ensures.1.1;
-      tells = subst (λ (l : List DocumentFault). AreFaultLines l lines) c.as_slice-3.ensures.value c.in_ok-push_faults-2.ensures.1.1;
+      prints = c.in_ok-push_faults-2.ensures.1.0 ∙ ap (λ l. l ++ lines) first
+          ∙ append_assoc _ schema_lines lines;
+      schema_tells = subst (λ (l : List Fault). AreFaultLines l schema_lines) c.as_slice-2.ensures.value
+          c.in_ok-push_faults.ensures.1.1;
+      tells = subst (λ (l : List DocumentFault). AreFaultLines l lines) c.as_slice-3.ensures.value
+          c.in_ok-push_faults-2.ensures.1.1;
       any = c.has_faults.ensures;
     }

@@ -1,4 +1,5 @@
-use Rattle.std.proofs.Common.{rules, ◌≡◌, ◌==◌, ◌&&◌, not, List, [], ◌++◌, length, string_bytes, ap, subst, ◌∙◌, append_assoc}
+use Rattle.std.proofs.Common.{rules, ◌≡◌, ◌==◌, ◌&&◌, not, List, [], ◌++◌, length, string_bytes, ap, subst}
+use Rattle.std.proofs.Common.{◌∙◌, append_assoc}
 use Rattle.std.specs.List.{flat_map}
 use Rattle.leafcheck.specs.LeafFaults.{leaf_faults}
 use Rattle.leafcheck.specs.declared.leaf_fault.LeafFault.{LeafFault}
@@ -17,7 +18,8 @@ returns-clause-means c =
     let schema_lines = c.in_ok-push_faults.ensures.0 in
     let lines = c.in_ok-push_faults-2.ensures.0 in
     let none : string_bytes c.new-text.result ≡ [] = search rules in
-    let leaves_are : c.as_slice.result.now ≡ leaves = c.as_slice.ensures.value ∙ c.in_ok-faults.ensures.faults in
+    let leaves_are : c.as_slice.result.now ≡ leaves = c.as_slice.ensures.value
+    ∙ c.in_ok-faults.ensures.faults in
     let text = c.in_ok-push_leaf_faults.ensures ∙ (λ i. none i ++ flat_map leaf_line (leaves_are i)) in
     let first = c.in_ok-push_faults.ensures.1.0 ∙ ap (λ l. l ++ schema_lines) text in
     record {
@@ -28,8 +30,14 @@ returns-clause-means c =
       means = built-document c.args.input.now compiled c.in_ok-compiled.ensures.compiled;
       schema_lines = schema_lines;
       lines = lines;
-      prints = c.in_ok-push_faults-2.ensures.1.0 ∙ ap (λ l. l ++ lines) first ∙ append_assoc leaf_lines schema_lines lines;
-      schema_tells = subst (λ (l : List Fault). AreFaultLines l schema_lines) c.as_slice-2.ensures.value c.in_ok-push_faults.ensures.1.1;
-      tells = subst (λ (l : List DocumentFault). AreFaultLines l lines) c.as_slice-3.ensures.value c.in_ok-push_faults-2.ensures.1.1;
-      any = c.is_at_fault.ensures ∙ ap (λ (l : List LeafFault). not ((length l == 0) && ((length compiled.schema_faults.items == 0) && (length compiled.document_faults.items == 0)))) (c.as_slice-4.ensures.value ∙ c.in_ok-faults.ensures.faults);
+      prints = c.in_ok-push_faults-2.ensures.1.0 ∙ ap (λ l. l ++ lines) first
+          ∙ append_assoc leaf_lines schema_lines lines;
+      schema_tells = subst (λ (l : List Fault). AreFaultLines l schema_lines) c.as_slice-2.ensures.value
+          c.in_ok-push_faults.ensures.1.1;
+      tells = subst (λ (l : List DocumentFault). AreFaultLines l lines) c.as_slice-3.ensures.value
+          c.in_ok-push_faults-2.ensures.1.1;
+      any = c.is_at_fault.ensures
+          ∙ ap (λ (l : List LeafFault). not ((length l == 0) && ((length compiled.schema_faults.items == 0)
+          && (length compiled.document_faults.items == 0)))) (c.as_slice-4.ensures.value
+          ∙ c.in_ok-faults.ensures.faults);
     }

@@ -11,8 +11,8 @@ loop-fault-preserved c =
     let faults = c.args.faults.now in
     let i = c.loop-fault.fault-index in
     let fault = c.fault-item.result in
-    c.in_ok-push_leaf_fault.ensures
-    ∙ ap (λ text. text ++ leaf_line fault) c.loop-fault.invariant
+    c.in_ok-push_leaf_fault.ensures ∙ ap (λ text. text ++ leaf_line fault) c.loop-fault.invariant
     ∙ flat_map_more leaf_line old (take i faults) fault
     ∙ ap (λ (f : LeafFault). old ++ flat_map leaf_line (take i faults ++ f ∷ [])) c.fault-item.is
-    ∙ ap (λ (l : List LeafFault). old ++ flat_map leaf_line l) (sym (take_more faults i fault (omega arith)))
+    ∙ ap (λ (l : List LeafFault). old ++ flat_map leaf_line l)
+    (sym (take_more faults i fault (omega arith)))

@@ -4,4 +4,5 @@ use Rattle.gqltool_run.specs.LeafCommand.{leaf_line}
 use Rattle.gqltool_run.proofs.leaf_command.push_leaf_faults.Given as goal
 
 abbrev pub invariant-loop-fault : goal.invariant-loop-fault
-invariant-loop-fault l = string_bytes l.text ≡ string_bytes l.fn.text ++ flat_map leaf_line (take l.fault-index l.faults)
+invariant-loop-fault l = string_bytes l.text ≡ string_bytes l.fn.text ++ flat_map leaf_line
+    (take l.fault-index l.faults)

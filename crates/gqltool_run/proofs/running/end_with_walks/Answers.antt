@@ -15,7 +15,10 @@ returns-in-Ok-clause-sent g c =
       text,
       (
         is.said.1.0,
-        sent_out text (string_bytes last.text) (contents c.args.output.now) (contents c.walk_answer.new.outlet) (contents c.end_with_answer.new.output) last.has_faults (has_fault c.args.compiled) c.end_with_answer.result is.said.1.1 is.faults c.end_with_answer.ensures.written,
+        sent_out text (string_bytes last.text) (contents c.args.output.now)
+            (contents c.walk_answer.new.outlet) (contents c.end_with_answer.new.output) last.has_faults
+            (has_fault c.args.compiled) c.end_with_answer.result is.said.1.1 is.faults
+            c.end_with_answer.ensures.written,
       ),
     )
 
@@ -23,7 +26,9 @@ pub returns-in-Err-Memory-clause-sent : goal.returns-in-Err-Memory-clause-sent
 returns-in-Err-Memory-clause-sent g c =
     let contents = g.O.Write.contents in
     let cut = c.in-Err-Memory.ensures.begun in
-    subst (λ (status : Status). (text : List ℕ) × (AreLinesOf c.args.compiled text × IsSentOut text (has_fault c.args.compiled) (contents c.args.output.now) (contents c.walk_answer.new.outlet) status)) (sym c.end_without_answer.ensures)
+    subst (λ (status : Status). (text : List ℕ) × (AreLinesOf c.args.compiled text
+    × IsSentOut text (has_fault c.args.compiled) (contents c.args.output.now)
+    (contents c.walk_answer.new.outlet) status)) (sym c.end_without_answer.ensures)
     (cut.1.0, (cut.1.1.0, (cut.0, cut.1.1.1)))
 
 pub returns-in-Err-Memory-clause-quiet : goal.returns-in-Err-Memory-clause-quiet
@@ -33,7 +38,9 @@ pub returns-clause-sent : goal.returns-clause-sent
 returns-clause-sent g c =
     let contents = g.O.Write.contents in
     let cut = c.in-Err-NotWritten.ensures.begun in
-    subst (λ (status : Status). (text : List ℕ) × (AreLinesOf c.args.compiled text × IsSentOut text (has_fault c.args.compiled) (contents c.args.output.now) (contents c.walk_answer.new.outlet) status)) (sym c.end_unwritten.ensures)
+    subst (λ (status : Status). (text : List ℕ) × (AreLinesOf c.args.compiled text
+    × IsSentOut text (has_fault c.args.compiled) (contents c.args.output.now)
+    (contents c.walk_answer.new.outlet) status)) (sym c.end_unwritten.ensures)
     (cut.1.0, (cut.1.1.0, (cut.0, cut.1.1.1)))
 
 pub returns-clause-quiet : goal.returns-clause-quiet

@@ -8,7 +8,8 @@ use Rattle.gqltool_run.specs.declared.task.Task.TheVariants as tasks
 use Rattle.gqltool_run.specs.Prepared.{IsReadyTo, has_fault}
 use Rattle.gqltool_run.specs.Runs.{IsSentOut, IsWritten, MayEnd}
 use Rattle.gqltool_run.specs.Status.{Writes}
-use Rattle.gqltool_run.proofs.EndLemmas.{beginning_appended, no_error, nothing_written, two_ends, usage_refused, with_answer, with_sent_answer, without_answer}
+use Rattle.gqltool_run.proofs.EndLemmas.{beginning_appended, no_error, nothing_written, two_ends}
+use Rattle.gqltool_run.proofs.EndLemmas.{usage_refused, with_answer, with_sent_answer, without_answer}
 use Rattle.gqltool_run.proofs.PreparedLemmas.{walks_answer, walks_print}
 use Rattle.gqltool_run.proofs.running.run_with_keys.Goals as goal
 
@@ -25,7 +26,8 @@ returns-in-Ok-Answer g c =
     let ready : IsReadyTo words held (prepared.Answer answer) = rw c.in-Ok-Answer.field-0-is at is.ready in
     let written = c.end_with_answer.ensures.written in
     record {
-      ends = with_answer words held may_fail old new text answer.has_faults c.end_with_answer.result written ready.0 ready.1;
+      ends = with_answer words held may_fail old new text answer.has_faults c.end_with_answer.result written
+          ready.0 ready.1;
       refused = λ e. absurd (subst (IsWritten text answer.has_faults old new) e written);
       exhausted = λ e no_walk. absurd (subst (IsWritten text answer.has_faults old new) e written);
       begun = λ e. absurd (subst (IsWritten text answer.has_faults old new) e written);
@@ -49,10 +51,12 @@ returns-in-Ok-Walks g c =
     let sent = c.end_with_walks.ensures.sent.1.1 in
     let means = walks_answer words held compiled text (has_fault compiled) ready.0 ready.1 lines refl in
     record {
-      ends = with_sent_answer words tasks.Walk held may_fail old new text (has_fault compiled) c.end_with_walks.result sent ready.0 means (walks_print words compiled text ready.0 lines);
+      ends = with_sent_answer words tasks.Walk held may_fail old new text (has_fault compiled)
+          c.end_with_walks.result sent ready.0 means (walks_print words compiled text ready.0 lines);
       refused = λ e. absurd (subst (IsSentOut text (has_fault compiled) old new) e sent);
       exhausted = λ e no_walk. absurd (no_walk ready.0);
-      begun = λ e. inr (beginning_appended words held old new text (has_fault compiled) means (subst (IsSentOut text (has_fault compiled) old new) e sent));
+      begun = λ e. inr (beginning_appended words held old new text (has_fault compiled) means
+          (subst (IsSentOut text (has_fault compiled) old new) e sent));
       quiet = c.end_with_walks.ensures.quiet;
       usage = λ none. absurd (no_error ((is.usage none).0));
       no_coordinate = λ refused. absurd (true≢false (sym ((is.no_coordinate refused).0)));
@@ -68,11 +72,16 @@ returns-in-Err g c =
     let is = c.in-Err.ensures in
     let ended = c.end_without_answer.ensures in
     record {
-      ends = subst (MayEnd words held may_fail old old) (sym ended) (without_answer words held may_fail old old failure is.causes);
+      ends = subst (MayEnd words held may_fail old old) (sym ended) (without_answer words held may_fail old
+          old failure is.causes);
       refused = λ _. refl {a = c.args.output.now};
       exhausted = λ _ _. refl {a = c.args.output.now};
       begun = λ _. inl (refl {a = c.args.output.now});
       quiet = λ writes. absurd (nothing_written failure (subst Writes ended writes));
       usage = λ none. (ended ∙ usage_refused failure ((is.usage none).0), (is.usage none).1);
-      no_coordinate = λ refused. (subst (λ (status : Status). (status ≡ s.Refused) ⊎ (status ≡ s.Exhausted)) (sym ended) (two_ends failure), (is.no_coordinate refused).1);
+      no_coordinate = λ refused. (
+        subst (λ (status : Status). (status ≡ s.Refused) ⊎ (status ≡ s.Exhausted)) (sym ended)
+            (two_ends failure),
+        (is.no_coordinate refused).1,
+      );
     }

@@ -13,27 +13,33 @@ pub returns-clause-means : goal.returns-clause-means
 returns-clause-means c =
     let compiled = c.in_ok-compiled.compiled in
     let lines = c.in_ok-push_faults.ensures.0 in
-    let len : vec_len compiled.schema_faults ≡ length c.as_slice-2.result.now = sym c.as_slice-2.ensures.len in
+    let len : vec_len compiled.schema_faults ≡ length c.as_slice-2.result.now =
+    sym c.as_slice-2.ensures.len in
     let faults = c.as_slice-2.ensures.value in
     record {
       schema = compiled.schema;
       faults = compiled.schema_faults.items;
       means = built c.args.options c.args.input.now compiled c.in_ok-compiled.ensures.compiled;
       lines = lines;
-      prints = c.in_ok-push_faults.ensures.1.0 ∙ ap (λ l. l ++ lines) (c.in_ok-text.ensures ∙ ap printed_definitions (c.as_slice.ensures.value ∙ c.in_ok-compiled.ensures.compiled.1.1.ast));
+      prints = c.in_ok-push_faults.ensures.1.0 ∙ ap (λ l. l ++ lines) (c.in_ok-text.ensures
+          ∙ ap printed_definitions (c.as_slice.ensures.value ∙ c.in_ok-compiled.ensures.compiled.1.1.ast));
       tells = subst (λ (l : List Fault). AreFaultLines l lines) faults c.in_ok-push_faults.ensures.1.1;
-      any = ap not (c.is_empty.ensures ∙ ap (λ (n : ℕ). n == 0) len ∙ ap (λ (l : List Fault). length l == 0) faults);
+      any = ap not (c.is_empty.ensures ∙ ap (λ (n : ℕ). n == 0) len ∙ ap (λ (l : List Fault). length l == 0)
+          faults);
     }
 
 pub returns-clause-printed : goal.returns-clause-printed
 returns-clause-printed c = λ none.
     let compiled = c.in_ok-compiled.compiled in
     let lines = c.in_ok-push_faults.ensures.0 in
-    let len : vec_len compiled.schema_faults ≡ length c.as_slice-2.result.now = sym c.as_slice-2.ensures.len in
-    let empty : (length c.as_slice-2.result.now == 0) ≡ true = ap (λ (n : ℕ). n == 0) (sym len) ∙ sym c.is_empty.ensures ∙ not-false c.is_empty.result none in (
+    let len : vec_len compiled.schema_faults ≡ length c.as_slice-2.result.now =
+    sym c.as_slice-2.ensures.len in
+    let empty : (length c.as_slice-2.result.now == 0) ≡ true = ap (λ (n : ℕ). n == 0) (sym len)
+    ∙ sym c.is_empty.ensures ∙ not-false c.is_empty.result none in (
       write_schema compiled.schema,
       c.in_ok-push_faults.ensures.1.0
-          ∙ (λ i. (c.in_ok-text.ensures ∙ ap printed_definitions (c.as_slice.ensures.value ∙ c.in_ok-compiled.ensures.compiled.1.1.ast)) i
+          ∙ (λ i. (c.in_ok-text.ensures ∙ ap printed_definitions (c.as_slice.ensures.value
+          ∙ c.in_ok-compiled.ensures.compiled.1.1.ast)) i
           ++ no-lines c.as_slice-2.result.now lines empty c.in_ok-push_faults.ensures.1.1 i)
           ∙ append-nil (printed_definitions (write_schema compiled.schema)),
     )
@@ -45,5 +51,6 @@ returns-in_err-text-clause-causes c =
 
 pub returns-in_err-push_faults-clause-causes : goal.returns-in_err-push_faults-clause-causes
 returns-in_err-push_faults-clause-causes c =
-    let exit = err_from_is_err_and c.from_residual-in_err-push_faults.result c.from_residual-in_err-push_faults.ensures.1 in
+    let exit = err_from_is_err_and c.from_residual-in_err-push_faults.result
+    c.from_residual-in_err-push_faults.ensures.1 in
     rw (exit.1, exit.2) tt

@@ -9,9 +9,10 @@ use Rattle.gqltool_run.proofs.WalkTextLemmas.{set-cut, sets-begin, sets-cut, set
 use Rattle.gqltool_run.proofs.walk_command.push_fragments.Goals as goal
 
 pub loop-name-init : goal.loop-name-init
-loop-name-init g c =
-    sets-begin c.args.document.now (map fragment_with_line c.args.document.now.fragments) (map fragment_with_line c.into_iter-name-iterator.result) (g.O.Outlet.sent c.args.outlet.now) (string_bytes c.args.text.now)
-    (ap (map fragment_with_line) (c.into_iter-name-iterator.ensures.into_iter_gives ∙ c.iter-name-items.ensures.rest))
+loop-name-init g c = sets-begin c.args.document.now (map fragment_with_line c.args.document.now.fragments)
+    (map fragment_with_line c.into_iter-name-iterator.result) (g.O.Outlet.sent c.args.outlet.now)
+    (string_bytes c.args.text.now) (ap (map fragment_with_line)
+    (c.into_iter-name-iterator.ensures.into_iter_gives ∙ c.iter-name-items.ensures.rest))
 
 pub loop-name-preserved : goal.loop-name-preserved
 loop-name-preserved g c =
@@ -23,22 +24,32 @@ loop-name-preserved g c =
     let fragment = c.in-Some.fragment in
     let text = string_bytes c.loop-name.text in
     let after = string_bytes c.push_set.new.text in
-    let line = c.in_ok-push_line.ensures ∙ ap (λ key. text ++ (codes "walk fragment " ++ (key ++ codes "\n"))) c.as_str.ensures in
-    sets-turn document (map fragment_with_line document.fragments) (map fragment_with_line left) (fragment_with_line (name.now, fragment.now)) (map fragment_with_line more) (sent c.args.outlet.now) (sent c.loop-name.outlet) (sent c.push_set.new.outlet) (string_bytes c.args.text.now) text after
-    c.loop-name.invariant
-    (ap (map fragment_with_line) (rest_more deref_pair left more c.next.result (name, fragment) c.in-Some.is c.next.ensures.steps))
-    (subst (λ (t : List ℕ). IsSaid (IsSetText document fragment.now.value.selection_set) (sent c.loop-name.outlet) (sent c.push_set.new.outlet) t after) line
-    (subst (λ (f : Fragment). IsSaid (IsSetText document f.selection_set) (sent c.loop-name.outlet) (sent c.push_set.new.outlet) (string_bytes c.push_line.new.text) after) c.deref.ensures c.in_ok-push_set.ensures.said))
+    let line = c.in_ok-push_line.ensures ∙ ap (λ key. text ++ (codes "walk fragment " ++ (key ++ codes "\n")))
+    c.as_str.ensures in
+    sets-turn document (map fragment_with_line document.fragments) (map fragment_with_line left)
+    (fragment_with_line (name.now, fragment.now)) (map fragment_with_line more) (sent c.args.outlet.now)
+    (sent c.loop-name.outlet) (sent c.push_set.new.outlet) (string_bytes c.args.text.now) text after
+    c.loop-name.invariant (ap (map fragment_with_line) (rest_more deref_pair left more c.next.result
+    (name, fragment) c.in-Some.is c.next.ensures.steps))
+    (subst (λ (t : List ℕ). IsSaid (IsSetText document fragment.now.value.selection_set)
+    (sent c.loop-name.outlet) (sent c.push_set.new.outlet) t after) line
+    (subst (λ (f : Fragment). IsSaid (IsSetText document f.selection_set) (sent c.loop-name.outlet)
+    (sent c.push_set.new.outlet) (string_bytes c.push_line.new.text) after) c.deref.ensures
+    c.in_ok-push_set.ensures.said))
 
 pub returns-in_err-push_line-clause-begun : goal.returns-in_err-push_line-clause-begun
 returns-in_err-push_line-clause-begun g c =
     let exit = err_from_is_err_and c.from_residual.result c.from_residual.ensures.1 in
     let document = c.args.document.now in
-    rw (exit.1) (sets-cut document (map fragment_with_line document.fragments) (map fragment_with_line c.loop-name.name-iterator) (g.O.Outlet.sent c.args.outlet.now) (g.O.Outlet.sent c.loop-name.outlet) (string_bytes c.args.text.now) (string_bytes c.loop-name.text) (c.walks_have_texts.ensures.texts document) c.loop-name.invariant)
+    rw (exit.1) (sets-cut document (map fragment_with_line document.fragments)
+    (map fragment_with_line c.loop-name.name-iterator) (g.O.Outlet.sent c.args.outlet.now)
+    (g.O.Outlet.sent c.loop-name.outlet) (string_bytes c.args.text.now) (string_bytes c.loop-name.text)
+    (c.walks_have_texts.ensures.texts document) c.loop-name.invariant)
 
 pub returns-in_err-push_set-clause-begun : goal.returns-in_err-push_set-clause-begun
 returns-in_err-push_set-clause-begun g c =
-    let exit = err_from_is_err_and c.from_residual-in_err-push_set.result c.from_residual-in_err-push_set.ensures.1 in
+    let exit = err_from_is_err_and c.from_residual-in_err-push_set.result
+    c.from_residual-in_err-push_set.ensures.1 in
     let document = c.args.document.now in
     let sent = g.O.Outlet.sent in
     let left = c.loop-name.name-iterator in
@@ -46,16 +57,24 @@ returns-in_err-push_set-clause-begun g c =
     let name = c.in-Some.name in
     let fragment = c.in-Some.fragment in
     let text = string_bytes c.loop-name.text in
-    let line = c.in_ok-push_line.ensures ∙ ap (λ key. text ++ (codes "walk fragment " ++ (key ++ codes "\n"))) c.as_str.ensures in
-    rw (exit.1) (set-cut document (map fragment_with_line document.fragments) (map fragment_with_line left) (fragment_with_line (name.now, fragment.now)) (map fragment_with_line more) (sent c.args.outlet.now) (sent c.loop-name.outlet) (sent c.push_set.new.outlet) (string_bytes c.args.text.now) text
-    (c.walks_have_texts.ensures.texts document)
-    c.loop-name.invariant
-    (ap (map fragment_with_line) (rest_more deref_pair left more c.next.result (name, fragment) c.in-Some.is c.next.ensures.steps))
-    (subst (λ (t : List ℕ). IsCutShort (IsSetText document fragment.now.value.selection_set) (sent c.loop-name.outlet) (sent c.push_set.new.outlet) t) line
-    (subst (λ (f : Fragment). IsCutShort (IsSetText document f.selection_set) (sent c.loop-name.outlet) (sent c.push_set.new.outlet) (string_bytes c.push_line.new.text)) c.deref.ensures c.in_err-push_set.ensures.begun)))
+    let line = c.in_ok-push_line.ensures ∙ ap (λ key. text ++ (codes "walk fragment " ++ (key ++ codes "\n")))
+    c.as_str.ensures in
+    rw (exit.1) (set-cut document (map fragment_with_line document.fragments) (map fragment_with_line left)
+    (fragment_with_line (name.now, fragment.now)) (map fragment_with_line more) (sent c.args.outlet.now)
+    (sent c.loop-name.outlet) (sent c.push_set.new.outlet) (string_bytes c.args.text.now) text
+    (c.walks_have_texts.ensures.texts document) c.loop-name.invariant (ap (map fragment_with_line)
+    (rest_more deref_pair left more c.next.result (name, fragment) c.in-Some.is c.next.ensures.steps))
+    (subst (λ (t : List ℕ). IsCutShort (IsSetText document fragment.now.value.selection_set)
+    (sent c.loop-name.outlet) (sent c.push_set.new.outlet) t) line
+    (subst (λ (f : Fragment). IsCutShort (IsSetText document f.selection_set) (sent c.loop-name.outlet)
+    (sent c.push_set.new.outlet) (string_bytes c.push_line.new.text)) c.deref.ensures
+    c.in_err-push_set.ensures.begun)))
 
 pub returns-clause-said : goal.returns-clause-said
 returns-clause-said g c =
     let left = c.loop-name.name-iterator in
-    sets-end c.args.document.now (map fragment_with_line c.args.document.now.fragments) (map fragment_with_line left) (g.O.Outlet.sent c.args.outlet.now) (g.O.Outlet.sent c.loop-name.outlet) (string_bytes c.args.text.now) (string_bytes c.loop-name.text) c.loop-name.invariant
-    (ap (map fragment_with_line) (rest_all deref_pair left c.next.new.self c.next.result c.in-None.is c.next.ensures.steps))
+    sets-end c.args.document.now (map fragment_with_line c.args.document.now.fragments)
+    (map fragment_with_line left) (g.O.Outlet.sent c.args.outlet.now) (g.O.Outlet.sent c.loop-name.outlet)
+    (string_bytes c.args.text.now) (string_bytes c.loop-name.text) c.loop-name.invariant
+    (ap (map fragment_with_line) (rest_all deref_pair left c.next.new.self c.next.result c.in-None.is
+    c.next.ensures.steps))

@@ -6,4 +6,6 @@ use Rattle.gqltool_run.proofs.walk_command.push_operations.Given as goal
 
 abbrev pub invariant-loop-operation : goal.invariant-loop-operation
 invariant-loop-operation g l =
-    LacksSets l.document (map operation_with_line (all_operations l.document.operations)) (map operation_with_line l.operation-iterator) (g.O.Outlet.sent l.fn.outlet) (g.O.Outlet.sent l.outlet) (string_bytes l.fn.text) (string_bytes l.text)
+    LacksSets l.document (map operation_with_line (all_operations l.document.operations))
+    (map operation_with_line l.operation-iterator) (g.O.Outlet.sent l.fn.outlet) (g.O.Outlet.sent l.outlet)
+    (string_bytes l.fn.text) (string_bytes l.text)

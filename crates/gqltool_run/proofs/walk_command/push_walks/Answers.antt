@@ -10,19 +10,26 @@ returns-in_err-push_operations-clause-begun g c =
     let exit = err_from_is_err_and c.from_residual.result c.from_residual.ensures.1 in
     let sent = g.O.Outlet.sent in
     let document = c.args.document.now in
-    let text = sets-text document (c.walks_have_texts.ensures.texts document) (map fragment_with_line document.fragments) in
-    rw (exit.1) (cut-first (λ x y first then. (x, (first, (y, (then, refl))))) (sent c.args.outlet.now) (sent c.push_operations.new.outlet) (string_bytes c.args.text.now) text.0 c.in_err-push_operations.ensures.begun text.1)
+    let text = sets-text document (c.walks_have_texts.ensures.texts document)
+    (map fragment_with_line document.fragments) in
+    rw (exit.1) (cut-first (λ x y first then. (x, (first, (y, (then, refl))))) (sent c.args.outlet.now)
+    (sent c.push_operations.new.outlet) (string_bytes c.args.text.now) text.0
+    c.in_err-push_operations.ensures.begun text.1)
 
 pub returns-clause-said : goal.returns-clause-said
 returns-clause-said g c =
     let sent = g.O.Outlet.sent in
     on_ok_weaker c.push_fragments.result
-    (λ then. said-both (λ x y first then. (x, (first, (y, (then, refl))))) (sent c.args.outlet.now) (sent c.push_operations.new.outlet) (sent c.push_fragments.new.outlet) (string_bytes c.args.text.now) (string_bytes c.push_operations.new.text) (string_bytes c.push_fragments.new.text) c.in_ok-push_operations.ensures.said then)
-    c.push_fragments.ensures.said
+    (λ then. said-both (λ x y first then. (x, (first, (y, (then, refl))))) (sent c.args.outlet.now)
+    (sent c.push_operations.new.outlet) (sent c.push_fragments.new.outlet) (string_bytes c.args.text.now)
+    (string_bytes c.push_operations.new.text) (string_bytes c.push_fragments.new.text)
+    c.in_ok-push_operations.ensures.said then) c.push_fragments.ensures.said
 
 pub returns-clause-begun : goal.returns-clause-begun
 returns-clause-begun g c =
     let sent = g.O.Outlet.sent in
     on_err_weaker c.push_fragments.result
-    (λ cut. cut-second (λ x y first then. (x, (first, (y, (then, refl))))) (sent c.args.outlet.now) (sent c.push_operations.new.outlet) (sent c.push_fragments.new.outlet) (string_bytes c.args.text.now) (string_bytes c.push_operations.new.text) c.in_ok-push_operations.ensures.said cut)
+    (λ cut. cut-second (λ x y first then. (x, (first, (y, (then, refl))))) (sent c.args.outlet.now)
+    (sent c.push_operations.new.outlet) (sent c.push_fragments.new.outlet) (string_bytes c.args.text.now)
+    (string_bytes c.push_operations.new.text) c.in_ok-push_operations.ensures.said cut)
     c.push_fragments.ensures.begun

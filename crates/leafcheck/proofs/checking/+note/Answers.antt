@@ -24,7 +24,8 @@ note_set-loop-selection-preserved t c =
     ∙ ap (λ (xs : List Selection). old ++ leaf_faults_in s ty path xs)
     (sym (map-append now given (selection ∷ [])))
 
-pub note_set-returns-in_err-note_selection-clause-memory : goal.note_set-returns-in_err-note_selection-clause-memory
+pub note_set-returns-in_err-note_selection-clause-memory :
+    goal.note_set-returns-in_err-note_selection-clause-memory
 note_set-returns-in_err-note_selection-clause-memory t c =
     let set = c.args.set.now in
     let given = c.loop-selection.yielded in

@@ -8,5 +8,6 @@ returns-clause-means g c =
     record {
       typed = typed;
       is_typed = c.in_ok-typed.ensures.typed;
-      is = subst (λ (t : List ℕ). IsAnswerOf c.args.json (found_in typed.findings) t c.in_ok-answer.field-0) c.in_ok-output.ensures c.in_ok-answer.ensures;
+      is = subst (λ (t : List ℕ). IsAnswerOf c.args.json (found_in typed.findings) t c.in_ok-answer.field-0)
+          c.in_ok-output.ensures c.in_ok-answer.ensures;
     }

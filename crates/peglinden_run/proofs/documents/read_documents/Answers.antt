@@ -1,9 +1,11 @@
-use Rattle.std.proofs.Common.{◌≡◌, ◌++◌, ◌∷◌, [], ◌∙◌, ◌+◌, None, Some, string_bytes, take, sym, ap, subst, arith}
+use Rattle.std.proofs.Common.{◌≡◌, ◌++◌, ◌∷◌, [], ◌∙◌, ◌+◌, None, Some, string_bytes, take, sym, ap, subst}
+use Rattle.std.proofs.Common.{arith}
 use Rattle.std.proofs.lemmas.List.{append-nil}
 use Rattle.peglinden_run.specs.Documents.{AreDocumentsAt, texts_of}
 use Rattle.peglinden_run.proofs.DocumentLemmas.{matched-err, matched-ok, next-document, next-reported}
 use Rattle.peglinden_run.proofs.documents.read_documents.Goals as goal
-use Rattle.peglinden_run.proofs.documents.read_documents.Goals.{in-Ok+in_ok-push_document-in-Ok, in-Err+in_ok-push_str-in-Err}
+use Rattle.peglinden_run.proofs.documents.read_documents.Goals.{in-Ok+in_ok-push_document-in-Ok}
+use Rattle.peglinden_run.proofs.documents.read_documents.Goals.{in-Err+in_ok-push_str-in-Err}
 
 pub loop-index-preserved : goal.loop-index-preserved
 loop-index-preserved g c =
@@ -22,17 +24,28 @@ loop-index-preserved g c =
           let same : more ≡ count = w.refused-is in
           record {
             documents = λ none.
-                let are = next-document held may_fail paths i _ below c.loop-index.documents.items w.in-Ok.document (λ n. matched-ok c.in_ok-document.field-0 w.in-Ok.document _ _ w.in-Ok.is (c.in_ok-document.ensures n)) (before.documents (sym w.refused-is ∙ none)) in
-                let now : c.match-branch-2.documents.items ≡ c.loop-index.documents.items ++ w.in-Ok.document ∷ [] = ap (λ d. d.items) w.documents-is ∙ w.in_ok-push_document-in-Ok.ensures in
+                let are = next-document held may_fail paths i _ below c.loop-index.documents.items
+                w.in-Ok.document (λ n. matched-ok c.in_ok-document.field-0 w.in-Ok.document _ _ w.in-Ok.is
+                (c.in_ok-document.ensures n)) (before.documents (sym w.refused-is ∙ none)) in
+                let now : c.match-branch-2.documents.items ≡ c.loop-index.documents.items ++ w.in-Ok.document
+                ∷ [] = ap (λ d. d.items) w.documents-is ∙ w.in_ok-push_document-in-Ok.ensures in
                 subst (AreDocumentsAt held 1 (texts_of (take (i + 1) paths))) (sym now) are;
-            reported = next-reported held may_fail paths i _ below None text after count more (λ n. (w.in-Ok.document, matched-ok c.in_ok-document.field-0 w.in-Ok.document _ _ w.in-Ok.is (c.in_ok-document.ensures n))) before.reported (ap string_bytes w.reports-is ∙ sym (append-nil text)) (omega (arith, same));
+            reported = next-reported held may_fail paths i _ below None text after count more (λ n. (
+              w.in-Ok.document,
+              matched-ok c.in_ok-document.field-0 w.in-Ok.document _ _ w.in-Ok.is
+                  (c.in_ok-document.ensures n),
+            )) before.reported (ap string_bytes w.reports-is ∙ sym (append-nil text)) (omega (arith, same));
             few = let few = before.few in omega (arith, same, few);
           }
       | in-Err+in_ok-push_str-in-Err w ↦
           let one : more ≡ count + 1 = w.refused-is in
           record {
             documents = λ none. absurd (let no : more ≡ 0 = none in omega (arith, one, no));
-            reported = next-reported held may_fail paths i _ below (Some (string_bytes w.in-Err.report)) text after count more (λ n. matched-err c.in_ok-document.field-0 w.in-Err.report _ _ w.in-Err.is (c.in_ok-document.ensures n)) before.reported (ap string_bytes w.reports-is ∙ w.in_ok-push_str-in-Err.ensures.bytes ∙ ap (λ l. text ++ l) w.as_str.ensures.value) (omega (arith, one));
+            reported = next-reported held may_fail paths i _ below (Some (string_bytes w.in-Err.report)) text
+                after count more (λ n. matched-err c.in_ok-document.field-0 w.in-Err.report _ _ w.in-Err.is
+                (c.in_ok-document.ensures n)) before.reported (ap string_bytes w.reports-is
+                ∙ w.in_ok-push_str-in-Err.ensures.bytes ∙ ap (λ l. text ++ l) w.as_str.ensures.value)
+                (omega (arith, one));
             few = let few = before.few in omega (arith, one, few);
           }
     ]

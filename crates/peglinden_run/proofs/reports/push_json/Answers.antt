@@ -11,6 +11,10 @@ returns g c =
     let old = string_bytes c.args.lines.now in
     let middle = string_bytes c.push_str.new.self in
     let new = string_bytes c.push_str-2.new.self in
-    on_ok_weaker {P = new ≡ middle ++ codes "\n"} {Q = Adds (IsJsonLine (g.S.Sources.files c.args.sources.now) c.args.location about details) old new} c.push_str-2.result
-    (λ two. json_added (g.E.Display.output c.args.fault.now) details (g.S.Sources.files c.args.sources.now) c.args.location about (string_bytes c.in_ok-to_json.field-0) old middle new c.in_ok-to_json.ensures (c.in_ok-push_str.ensures.bytes ∙ ap (λ l. old ++ l) c.as_str.ensures.value) two)
-    (on_ok_if c.push_str-2.result new (middle ++ codes "\n") middle c.push_str-2.ensures.bytes)
+    on_ok_weaker {P = new ≡ middle ++ codes "\n"}
+    {Q = Adds (IsJsonLine (g.S.Sources.files c.args.sources.now) c.args.location about details) old new}
+    c.push_str-2.result (λ two. json_added (g.E.Display.output c.args.fault.now) details
+    (g.S.Sources.files c.args.sources.now) c.args.location about (string_bytes c.in_ok-to_json.field-0)
+    old middle new c.in_ok-to_json.ensures (c.in_ok-push_str.ensures.bytes
+    ∙ ap (λ l. old ++ l) c.as_str.ensures.value) two) (on_ok_if c.push_str-2.result new (middle
+    ++ codes "\n") middle c.push_str-2.ensures.bytes)

@@ -15,5 +15,8 @@ returns-clause-ends g c =
     let old_errors = g.E.Write.contents c.args.errors.now in
     let new_errors = g.E.Write.contents c.run_over-2.new.errors in
     let named = sym c.names_input.ensures ∙ c.if-not-names_input.false in
-    subst (λ (is : Bool). EndsAs is request reads may_not_be_read held may_fail c.args.reader.now c.read_all-input.new.self old new old_errors new_errors c.run_over-2.result) (sym named)
-    (with_read request held may_fail old new old_errors new_errors c.read_all-input.result (λ read. read.items) reads may_not_be_read c.run_over-2.result c.read_all-input.ensures.bytes c.read_all-input.ensures.causes c.run_over-2.ensures.ends)
+    subst (λ (is : Bool). EndsAs is request reads may_not_be_read held may_fail c.args.reader.now
+    c.read_all-input.new.self old new old_errors new_errors c.run_over-2.result) (sym named)
+    (with_read request held may_fail old new old_errors new_errors c.read_all-input.result
+    (λ read. read.items) reads may_not_be_read c.run_over-2.result c.read_all-input.ensures.bytes
+    c.read_all-input.ensures.causes c.run_over-2.ensures.ends)

@@ -10,9 +10,12 @@ split_at-requires g c =
     let held = g.F.Files.holds c.args.files.now in
     let first = c.args.schema_paths.now in
     let second = c.args.document_paths.now in
-    let whole = c.as_slice.ensures.value ∙ c.in_ok-extend_from_slice-2.ensures.items ∙ ap (λ l. l ++ second) (c.in_ok-extend_from_slice.ensures.items ∙ ap (λ l. l ++ first) c.new-paths.ensures.items) in
-    let read = both-read held first second c.as_slice.result.now c.in_ok-documents.documents.items whole c.in_ok-documents.ensures.documents in
-    subst (λ (ds : List Document). length first ≤ length ds) (sym c.as_slice-2.ensures.value) (first-fits held first second c.in_ok-documents.documents.items read)
+    let whole = c.as_slice.ensures.value ∙ c.in_ok-extend_from_slice-2.ensures.items ∙ ap (λ l. l ++ second)
+    (c.in_ok-extend_from_slice.ensures.items ∙ ap (λ l. l ++ first) c.new-paths.ensures.items) in
+    let read = both-read held first second c.as_slice.result.now c.in_ok-documents.documents.items whole
+    c.in_ok-documents.ensures.documents in
+    subst (λ (ds : List Document). length first ≤ length ds) (sym c.as_slice-2.ensures.value)
+    (first-fits held first second c.in_ok-documents.documents.items read)
 
 pub returns-clause-typed : goal.returns-clause-typed
 returns-clause-typed g c =
@@ -20,9 +23,17 @@ returns-clause-typed g c =
     let first = c.args.schema_paths.now in
     let second = c.args.document_paths.now in
     let documents = c.in_ok-documents.documents.items in
-    let whole = c.as_slice.ensures.value ∙ c.in_ok-extend_from_slice-2.ensures.items ∙ ap (λ l. l ++ second) (c.in_ok-extend_from_slice.ensures.items ∙ ap (λ l. l ++ first) c.new-paths.ensures.items) in
-    let read = both-read held first second c.as_slice.result.now documents whole c.in_ok-documents.ensures.documents in
-    let front = c.split_at.ensures.front ∙ (λ i. take (sym (texts-length first) i) (c.as_slice-2.ensures.value i)) in
-    let back = c.split_at.ensures.back ∙ (λ i. drop (sym (texts-length first) i) (c.as_slice-2.ensures.value i)) in
-    typed-of held (texts_of first) (texts_of second) documents _ _ c.none.result c.in_ok-schema.schema _ c.none.ensures front back read c.in_ok-schema.ensures.means c.in_ok-schema.ensures.faults c.in_ok-document.ensures.means c.in_ok-document.ensures.faults c.in_ok-leaf_faults.ensures.faults
-    (c.in_ok-merge_sources.ensures.merged ∙ (λ i. merged ((c.in_ok-sources.ensures.cases.1 (λ x y e. e) (λ x y e. e) ∙ c.in_ok-schema.ensures.sources) i) (c.in_ok-document.ensures.sources i)))
+    let whole = c.as_slice.ensures.value ∙ c.in_ok-extend_from_slice-2.ensures.items ∙ ap (λ l. l ++ second)
+    (c.in_ok-extend_from_slice.ensures.items ∙ ap (λ l. l ++ first) c.new-paths.ensures.items) in
+    let read = both-read held first second c.as_slice.result.now documents whole
+    c.in_ok-documents.ensures.documents in
+    let front = c.split_at.ensures.front
+    ∙ (λ i. take (sym (texts-length first) i) (c.as_slice-2.ensures.value i)) in
+    let back = c.split_at.ensures.back
+    ∙ (λ i. drop (sym (texts-length first) i) (c.as_slice-2.ensures.value i)) in
+    typed-of held (texts_of first) (texts_of second) documents _ _ c.none.result c.in_ok-schema.schema _
+    c.none.ensures front back read c.in_ok-schema.ensures.means c.in_ok-schema.ensures.faults
+    c.in_ok-document.ensures.means c.in_ok-document.ensures.faults c.in_ok-leaf_faults.ensures.faults
+    (c.in_ok-merge_sources.ensures.merged
+    ∙ (λ i. merged ((c.in_ok-sources.ensures.cases.1 (λ x y e. e) (λ x y e. e)
+    ∙ c.in_ok-schema.ensures.sources) i) (c.in_ok-document.ensures.sources i)))

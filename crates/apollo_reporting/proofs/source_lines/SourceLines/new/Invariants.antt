@@ -5,4 +5,5 @@ use Rattle.apollo_reporting.specs.SourceLines.{indexed_texts}
 use Rattle.apollo_reporting.proofs.source_lines.SourceLines.new.Given as goal
 
 abbrev pub invariant-loop-file : goal.invariant-loop-file
-invariant-loop-file l = indexed_texts l.indexes.items ≡ map (λ (file : SourceFile). file.text) (map (λ t. t.now) l.yielded)
+invariant-loop-file l = indexed_texts l.indexes.items ≡ map (λ (file : SourceFile). file.text)
+    (map (λ t. t.now) l.yielded)
