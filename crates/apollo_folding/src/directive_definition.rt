@@ -27,6 +27,7 @@ impl Fold {
             → AreDirectivesOf (ds ++ node.now ∷ []) table.new) }
         ensures faults { OnOk result ((ds : Directives) → AreDirectivesOf ds table.old
             → self.new ≡ noting (directive_faults ds node.now) self.old) }
+        ensures rest { self.new ≡ record self.old { faults = self.new.faults } }
     {
         let Some(previous) = table.get_mut(&node.name) else {
             table.insert(node.name.clone()?, node.clone()?)?;

@@ -48,7 +48,8 @@ impl Fold {
 
     /// Adds a fault at the end. The error is out of memory.
     pub fn note(&mut self, fault: Fault) -> Result<(), AllocError>
-        ensures { OnOk result (self.new ≡ noting (fault ∷ []) self.old) }
+        ensures noted { OnOk result (self.new ≡ noting (fault ∷ []) self.old) }
+        ensures rest { self.new ≡ record self.old { faults = self.new.faults } }
     {
         self.faults.push(fault)
     }

@@ -55,6 +55,7 @@ impl Fold {
         ensures made { IfOk result (λ ty. let d = part_seen head.now in
             ty ≡ type_from d ((origins.Definition, d) ∷ [])) }
         ensures faults { OnOk result (self.new ≡ noting (part_faults [] (part_seen head.now)) self.old) }
+        ensures rest { self.new ≡ record self.old { faults = self.new.faults } }
     {
         match head.kind {
             TypeKind::Scalar => Ok(ExtendedType::Scalar(self.type_of_definition(head)?)),
@@ -83,6 +84,7 @@ impl Fold {
         ensures kind { OnOk result (type_kind ty.new ≡ type_kind ty.old) }
         ensures next { OnOk result (self.new.ids
             ≡ after self.old.ids (how_many (type_kind ty.old) (part_seen extension.now ∷ []))) }
+        ensures rest { self.new ≡ record self.old { ids = self.new.ids; faults = self.new.faults } }
         ensures refused { IfErr result (λ error.
             RefusedAs error
             (SpentWith self.old.ids (how_many (type_kind ty.old) (part_seen extension.now ∷ [])))) }
@@ -118,6 +120,7 @@ impl Fold {
         ensures kind { OnOk result (type_kind ty.new ≡ type_kind ty.old) }
         ensures next { OnOk result (self.new.ids
             ≡ after self.old.ids (how_many (type_kind ty.old) (extended_parts (definition.now ∷ [])))) }
+        ensures rest { self.new ≡ record self.old { ids = self.new.ids; faults = self.new.faults } }
         ensures refused { IfErr result (λ error.
             RefusedAs error
             (SpentWith self.old.ids
@@ -140,6 +143,7 @@ impl Fold {
             (FindsJoining ty.old (extended_parts extensions.now) self.old.faults self.new.faults) }
         ensures next { OnOk result (self.new.ids
             ≡ after self.old.ids (how_many (type_kind ty.old) (extended_parts extensions.now))) }
+        ensures rest { self.new ≡ record self.old { ids = self.new.ids; faults = self.new.faults } }
         ensures refused { IfErr result (λ error.
             RefusedAs error
             (SpentWith self.old.ids (how_many (type_kind ty.old) (extended_parts extensions.now)))) }
@@ -172,6 +176,7 @@ impl Fold {
         ensures next { OnOk result (self.new.ids
             ≡ after self.old.ids
             (how_many (kind_of (part_seen head.now)) (extended_parts extensions.now))) }
+        ensures rest { self.new ≡ record self.old { ids = self.new.ids; faults = self.new.faults } }
         ensures refused { IfErr result (λ error.
             RefusedAs error
             (SpentWith self.old.ids

@@ -22,8 +22,9 @@ use std::alloc::AllocError;
 impl Fold {
     /// Notes an extension whose name has no definition.
     fn note_orphan(&mut self, definition: &Definition) -> Result<(), AllocError>
-        ensures { OnOk result
+        ensures noted { OnOk result
             (self.new ≡ noting (map orphan (extended_parts (definition.now ∷ []))) self.old) }
+        ensures rest { self.new ≡ record self.old { faults = self.new.faults } }
     {
         let Some(extension) = extension_of(definition) else {
             return Ok(());
@@ -36,7 +37,9 @@ impl Fold {
 
     /// Notes extensions whose name has no definition, in order.
     fn note_orphans_of(&mut self, extensions: &[Definition]) -> Result<(), AllocError>
-        ensures { OnOk result (self.new ≡ noting (map orphan (extended_parts extensions.now)) self.old) }
+        ensures noted { OnOk result
+            (self.new ≡ noting (map orphan (extended_parts extensions.now)) self.old) }
+        ensures rest { self.new ≡ record self.old { faults = self.new.faults } }
     {
         for extension in extensions {
             self.note_orphan(extension)?;
@@ -50,8 +53,9 @@ impl Fold {
         &mut self,
         waiting: &Table<Name, Items<Definition>>,
     ) -> Result<(), AllocError>
-        ensures { OnOk result (self.new
+        ensures noted { OnOk result (self.new
             ≡ noting (map orphan (flat_map extended_parts (values_of waiting.now))) self.old) }
+        ensures rest { self.new ≡ record self.old { faults = self.new.faults } }
     {
         for extensions in waiting.values() {
             self.note_orphans_of(extensions.as_slice())?;
@@ -65,8 +69,9 @@ impl Fold {
         &mut self,
         extensions: &[Node<SchemaExtension>],
     ) -> Result<(), AllocError>
-        ensures { OnOk result (self.new
+        ensures noted { OnOk result (self.new
             ≡ noting (map schema_orphan (map schema_extension_part extensions.now)) self.old) }
+        ensures rest { self.new ≡ record self.old { faults = self.new.faults } }
     {
         for extension in extensions {
             self.note((extension.location(), BuildError::OrphanSchemaExtension))?;

@@ -52,9 +52,10 @@ impl Fold {
         further: &TypeDeclarationRef<'_>,
         ignores: bool,
     ) -> Result<(), AllocError>
-        ensures { OnOk result (ForFirst previous.now (λ d. self.new
+        ensures noted { OnOk result (ForFirst previous.now (λ d. self.new
             ≡ noting (further_definition d (record (part_seen further.now) { ignorable = ignores }))
             self.old)) }
+        ensures rest { self.new ≡ record self.old { faults = self.new.faults } }
     {
         if !previous.is_built_in() {
             self.note(redefinition(previous, further)?)?;

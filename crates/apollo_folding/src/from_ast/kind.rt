@@ -84,6 +84,7 @@ impl Fold {
         ensures made { IfOk result (λ ty. let d = part_as K.kind head.now in
             ty ≡ record { value = K.made d ((origins.Definition, d) ∷ []); location = d.location }) }
         ensures faults { OnOk result (self.new ≡ noting (part_faults [] (part_as K.kind head.now)) self.old) }
+        ensures rest { self.new ≡ record self.old { faults = self.new.faults } }
     {
         let mut ty = K::bare(self, head)?;
         ty.fold(head, ComponentOrigin::Definition, &mut self.faults)?;
@@ -105,6 +106,7 @@ impl Fold {
             OnOk result
             (FindsJoining (K.wrapped node.old) (part ∷ []) self.old.faults self.new.faults) }
         ensures next { OnOk result (self.new.ids ≡ after self.old.ids 1) }
+        ensures rest { self.new ≡ record self.old { ids = self.new.ids; faults = self.new.faults } }
         ensures refused { IfErr result (λ error. RefusedAs error (SpentWith self.old.ids 1)) }
     {
         let id = self.ids.draw(extension.location)?;

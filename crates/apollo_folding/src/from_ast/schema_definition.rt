@@ -186,6 +186,7 @@ impl Fold {
         ensures next { OnOk result (self.new
             ≡ record self.old { ids = after self.old.ids 1; faults = self.new.faults }) }
         ensures grows { next_number self.old.ids ≤ next_number self.new.ids }
+        ensures rest { self.new ≡ record self.old { ids = self.new.ids; faults = self.new.faults } }
         ensures refused { IfErr result (λ error. RefusedAs error (SpentWith self.old.ids 1)) }
     {
         let id = ExtensionId::new(&mut self.ids, extension)?;
@@ -218,6 +219,7 @@ impl Fold {
               faults = self.new.faults;
             }) }
         ensures grows { next_number self.old.ids ≤ next_number self.new.ids }
+        ensures rest { self.new ≡ record self.old { ids = self.new.ids; faults = self.new.faults } }
         ensures refused { IfErr result (λ error.
             RefusedAs error (SpentWith self.old.ids (length extensions.now))) }
     {
@@ -246,6 +248,7 @@ impl Fold {
             (schema_begun_faults (schema_definition_part node.now)
             (map schema_extension_part extensions.now)) self.old) }
         ensures grows { next_number self.old.ids ≤ next_number self.new.ids }
+        ensures rest { self.new ≡ record self.old { ids = self.new.ids; faults = self.new.faults } }
         ensures refused { IfErr result (λ error.
             RefusedAs error (SpentWith self.old.ids (length extensions.now))) }
     {

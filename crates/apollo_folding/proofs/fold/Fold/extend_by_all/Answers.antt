@@ -49,6 +49,9 @@ loop-extension-preserved c =
           omega (arith, at, ap length (turn k), length-append (before k) (these k)) in
           now.next ∙ ap (λ k. source_at (next_number c.loop-extension.self.ids + length (these k))) kinds
           ∙ ap source_at sum;
+      rest =
+          let next = c.extend_by.new.self in
+          now.rest ∙ (λ j. record (was.rest j) { ids = next.ids; faults = next.faults });
     }
 
 pub returns-in_err-extend_by-clause-refused : goal.returns-in_err-extend_by-clause-refused

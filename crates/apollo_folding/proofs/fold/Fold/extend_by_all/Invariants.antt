@@ -13,4 +13,5 @@ invariant-loop-extension l =
           → l.self.faults ≡ l.fn.self.faults ++ joining_faults head (map (λ s. s.1) done) so_far;
       kind : type_kind l.ty ≡ type_kind l.fn.ty;
       next : l.self.ids ≡ source_at (next_number l.fn.self.ids + length (of_kind (type_kind l.fn.ty) so_far));
+      rest : l.self ≡ record l.fn.self { ids = l.self.ids; faults = l.self.faults };
     }

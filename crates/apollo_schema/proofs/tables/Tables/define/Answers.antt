@@ -10,7 +10,7 @@ pub returns-in-Some-clause-stands : goal.returns-in-Some-clause-stands
 returns-in-Some-clause-stands c = λ start xs was.
     let p : TypePart = record (part_seen c.args.definition.now) { ignorable = c.args.ignores } in
     Stands-again was p _ c.in-Some.previous.now (sym c.get.ensures ∙ ap option_copied c.in-Some.is) refl refl
-    refl refl refl c.in_ok-note_redefinition.ensures
+    refl refl refl c.in_ok-note_redefinition.ensures.noted
 
 pub returns-in_err-ty-clause-refused : goal.returns-in_err-ty-clause-refused
 returns-in_err-ty-clause-refused c =

@@ -12,7 +12,7 @@ use Rattle.apollo_schema.proofs.tables.Tables.define_schema.Goals as goal
 pub returns-in-Some-clause-stands : goal.returns-in-Some-clause-stands
 returns-in-Some-clause-stands c =
     λ start xs was. Stands-schema_again was (schema_definition_part c.args.node.now) _ c.in-Some.previous
-    c.in-Some.is refl refl (refl, (refl, refl)) (c.in_ok-note.ensures
+    c.in-Some.is refl refl (refl, (refl, refl)) (c.in_ok-note.ensures.noted
     ∙ (λ i. noting ((c.location-in-Some.ensures i, errors.SchemaDefinitionCollision (c.location.ensures i))
     ∷ []) c.args.self.now.fold))
 

@@ -21,9 +21,9 @@ returns-in_default-clause-ends c = λ start xs was.
     (λ node. SchemaDefined (schema_definition_part node) ∷ []) o []) c.in_default.is in
     let ended : Tables = record t { fold = c.note_schema_orphans.new.self } in
     subst (λ l. Ends start l xs ended) (sym these) (Ends-none was ended refl refl refl
-    (c.in_ok-note_schema_orphans.ensures
+    (c.in_ok-note_schema_orphans.ensures.noted
     ∙ (λ i. noting (map schema_orphan (map schema_extension_part (c.as_slice.ensures i)))
-    (c.in_ok-note_orphans.ensures i))))
+    (c.in_ok-note_orphans.ensures.noted i))))
 
 pub returns-in_err-put_schema-clause-refused : goal.returns-in_err-put_schema-clause-refused
 returns-in_err-put_schema-clause-refused c =
@@ -35,7 +35,7 @@ returns-in_err-put_schema-clause-refused c =
     option_map_or (λ node. SchemaDefined (schema_definition_part node) ∷ []) o []) c.in-Some.is in
     let spent : 2 ^ 64 ≤ next_number c.args.self.now.fold.ids + length c.args.self.now.schema_extensions =
     subst (λ (f : Fold). 2 ^ 64 ≤ next_number f.ids + length c.args.self.now.schema_extensions)
-    c.in_ok-note_orphans.ensures full in
+    c.in_ok-note_orphans.ensures.noted full in
     implied-spent was c.args.adopts (schema_definition_part c.in-Some.node) these spent)
     c.in_err-put_schema.ensures.refused)
 
@@ -52,5 +52,5 @@ returns-clause-ends c = λ start xs was.
     subst (λ l. Ends start l xs c.put_schema.new.self) (sym these)
     (subst (Ends start (SchemaDefined s ∷ []) xs) (sym c.in_ok-put_schema.ensures.put)
     (Ends-some was s (with_schema noted s) (implied-absent was c.args.adopts (SchemaDefined s) these)
-    (ap (λ (f : Fold). Some (schema_begun (next_number f.ids) s waiting)) c.in_ok-note_orphans.ensures)
-    refl refl (ap folded c.in_ok-note_orphans.ensures)))
+    (ap (λ (f : Fold). Some (schema_begun (next_number f.ids) s waiting)) c.in_ok-note_orphans.ensures.noted)
+    refl refl (ap folded c.in_ok-note_orphans.ensures.noted)))
