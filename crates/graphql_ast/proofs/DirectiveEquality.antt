@@ -11,12 +11,14 @@ use Rattle.graphql_nodes.proofs.Comparisons.{Compares, of_part, and_then, made, 
 use Rattle.graphql_ast.proofs.ValueEquality.{values}
 
 pub arguments : Compares argument.ghosts.eq bare_argument
-arguments = made (λ p. record { name = p.0; value = p.1 }) (λ a. (a.name, a.value)) (λ _. refl)
-    (and_then (of_part (λ (a : Argument). a.name) names) (of_part (λ (a : Argument). a.value) (nodes values)))
+arguments = made (λ p. record { name = p.0; value = p.1 }) (λ a. (a.name, a.value)) (λ _. refl) (and_then
+    (of_part (λ (a : Argument). a.name) names) (of_part (λ (a : Argument). a.value) (nodes values)))
 
 pub directives : Compares directive.ghosts.eq bare_directive
 directives = made (λ p. record { name = p.0; arguments = p.1 }) (λ d. (d.name, d.arguments)) (λ _. refl)
-    (and_then (of_part (λ (d : Directive). d.name) names) (of_part (λ (d : Directive). d.arguments) (lists (nodes arguments))))
+    (and_then (of_part (λ (d : Directive). d.name) names) (of_part (λ (d : Directive). d.arguments)
+    (lists (nodes arguments))))
 
 pub directive_lists : Compares list.ghosts.eq bare_directive_list
-directive_lists = made (λ p. record { 0 = p }) (λ l. l.0) (λ _. refl) (of_part (λ (l : DirectiveList). l.0) (lists (nodes directives)))
+directive_lists = made (λ p. record { 0 = p }) (λ l. l.0) (λ _. refl) (of_part (λ (l : DirectiveList). l.0)
+    (lists (nodes directives)))

@@ -1,5 +1,6 @@
 -- Equality of values.
-use Rattle.std.proofs.Common.{rules, ◌≡◌, Bool, true, false, ◌&&◌, List, [], ◌∷◌, refl, map, ap, ◌∙◌, subst, nat_eq}
+use Rattle.std.proofs.Common.{rules, ◌≡◌, Bool, true, false, ◌&&◌, List, [], ◌∷◌, refl, map, ap, ◌∙◌, subst}
+use Rattle.std.proofs.Common.{nat_eq}
 use Rattle.std.proofs.Math.Bool.{beq}
 use lib.Pointwise.{pointwise, bytes_decides}
 use denote.Hole.Compared.{compared, compared_is}
@@ -8,13 +9,15 @@ use Rattle.graphql_nodes.specs.NodeView.{NodeView}
 use Rattle.graphql_nodes.specs.Comparing.{bare_name, bare_node}
 use Rattle.graphql_ast.specs.Bare.{bare_value, value_step}
 use Rattle.graphql_ast.specs.declared.value.Value.TheBlock as block
-use Rattle.graphql_ast.specs.declared.value.Value.{Value, roll-Value, out-Value, fold-roll-Value, ind-Value, the_lemmas}
+use Rattle.graphql_ast.specs.declared.value.Value.{Value, roll-Value, out-Value, fold-roll-Value, ind-Value}
+use Rattle.graphql_ast.specs.declared.value.Value.{the_lemmas}
 use Rattle.graphql_ast.specs.declared.value.Value.TheViews.{out-roll-Value, roll-out-Value}
 use Rattle.graphql_ast.specs.declared.value.Value.TheFolds.{map-Value}
 use Rattle.graphql_ast.specs.declared.value.Value.TheOpen.{Value-F}
 use Rattle.graphql_ast.specs.contracts.value.ValuePartialEq.TheImpl as impl
 use Rattle.graphql_ast.specs.contracts.value.ValuePartialEq.TheImpl.Laws as laws
-use Rattle.graphql_nodes.proofs.Comparisons.{At, Compares, both_true, and_true, flag_at, name_at, node_at, list_at, rolled}
+use Rattle.graphql_nodes.proofs.Comparisons.{At, Compares, both_true, and_true, flag_at, name_at, node_at}
+use Rattle.graphql_nodes.proofs.Comparisons.{list_at, rolled}
 
 -- what `==` answers
 unfoldable pub value_eq : Value → Value → Bool
@@ -59,20 +62,16 @@ bare_layer (Value-F.Boolean b) = Value-F.Boolean b
 bare_layer (Value-F.List x) = Value-F.List (map (bare_node bare_value) x)
 bare_layer (Value-F.Object x) = Value-F.Object (map bare_member x)
 
-unrolls : (a b : Value) → impl.ghosts.eq a b ≡ impl.the_step (compared block.the_members block.the_family block.the_depth Bool true impl.the_step) block.member-Value a b
-unrolls a b = compared_is block.the_members block.the_family block.the_depth Bool true impl.the_step laws.local block.member-Value a b
+unrolls : (a b : Value)
+    → impl.ghosts.eq a b ≡ impl.the_step (compared block.the_members block.the_family block.the_depth Bool
+    true impl.the_step) block.member-Value a b
+unrolls a b = compared_is block.the_members block.the_family block.the_depth Bool true impl.the_step
+    laws.local block.member-Value a b
 
 eq-roll : (y z : Value-F Value) → value_eq (roll-Value y) (roll-Value z) ≡ layer_eq y z
 unfolding value_eq
 eq-roll Value-F.Null z = rw (unrolls (roll-Value Value-F.Null) (roll-Value z)) (search (rules, the_lemmas))
-eq-roll (Value-F.Enum x) z = rw (unrolls (roll-Value (Value-F.Enum x)) (roll-Value z)) (search (rules, the_lemmas))
-eq-roll (Value-F.Variable x) z = rw (unrolls (roll-Value (Value-F.Variable x)) (roll-Value z)) (search (rules, the_lemmas))
-eq-roll (Value-F.String x) z = rw (unrolls (roll-Value (Value-F.String x)) (roll-Value z)) (search (rules, the_lemmas))
-eq-roll (Value-F.Float x) z = rw (unrolls (roll-Value (Value-F.Float x)) (roll-Value z)) (search (rules, the_lemmas))
-eq-roll (Value-F.Int x) z = rw (unrolls (roll-Value (Value-F.Int x)) (roll-Value z)) (search (rules, the_lemmas))
-eq-roll (Value-F.Boolean x) z = rw (unrolls (roll-Value (Value-F.Boolean x)) (roll-Value z)) (search (rules, the_lemmas))
-eq-roll (Value-F.List x) z = rw (unrolls (roll-Value (Value-F.List x)) (roll-Value z)) (search (rules, the_lemmas))
-eq-roll (Value-F.Object x) z = rw (unrolls (roll-Value (Value-F.Object x)) (roll-Value z)) (search (rules, the_lemmas))
+eq-roll y z = rw (unrolls (roll-Value y) (roll-Value z)) (search (rules, the_lemmas))
 
 abbrev along : {A B : Type 0} → (A → B) → NodeView A → NodeView B
 along f n = record { value = f n.value; location = n.location }
@@ -80,24 +79,23 @@ along f n = record { value = f n.value; location = n.location }
 abbrev along_member : {A B : Type 0} → (A → B) → Member A → Member B
 along_member f m = (m.0, along f m.1)
 
-fuse : (x : List (NodeView Value)) → map (bare_node (λ v. v)) (map (along bare_value) x) ≡ map (bare_node bare_value) x
+fuse : (x : List (NodeView Value))
+    → map (bare_node (λ v. v)) (map (along bare_value) x) ≡ map (bare_node bare_value) x
 fuse [] = refl
 fuse (n ∷ ns) = ap (λ l. bare_node bare_value n ∷ l) (fuse ns)
 
-fuse_members : (x : List (Member Value)) → map (λ (m : Member Value). (bare_name m.0, bare_node (λ (v : Value). v) m.1)) (map (along_member bare_value) x) ≡ map bare_member x
+fuse_members : (x : List (Member Value))
+    → map (λ (m : Member Value). (bare_name m.0, bare_node (λ (v : Value). v) m.1))
+    (map (along_member bare_value) x) ≡ map bare_member x
 fuse_members [] = refl
 fuse_members (n ∷ ns) = ap (λ l. bare_member n ∷ l) (fuse_members ns)
 
 bare-roll : (z : Value-F Value) → bare_value (roll-Value z) ≡ roll-Value (bare_layer z)
-bare-roll Value-F.Null = fold-roll-Value Value value_step Value-F.Null
-bare-roll (Value-F.Enum x) = fold-roll-Value Value value_step (Value-F.Enum x)
-bare-roll (Value-F.Variable x) = fold-roll-Value Value value_step (Value-F.Variable x)
-bare-roll (Value-F.String x) = fold-roll-Value Value value_step (Value-F.String x)
-bare-roll (Value-F.Float x) = fold-roll-Value Value value_step (Value-F.Float x)
-bare-roll (Value-F.Int x) = fold-roll-Value Value value_step (Value-F.Int x)
-bare-roll (Value-F.Boolean x) = fold-roll-Value Value value_step (Value-F.Boolean x)
-bare-roll (Value-F.List x) = fold-roll-Value Value value_step (Value-F.List x) ∙ ap (λ l. roll-Value (Value-F.List l)) (fuse x)
-bare-roll (Value-F.Object x) = fold-roll-Value Value value_step (Value-F.Object x) ∙ ap (λ l. roll-Value (Value-F.Object l)) (fuse_members x)
+bare-roll (Value-F.List x) = fold-roll-Value Value value_step (Value-F.List x)
+    ∙ ap (λ l. roll-Value (Value-F.List l)) (fuse x)
+bare-roll (Value-F.Object x) = fold-roll-Value Value value_step (Value-F.Object x)
+    ∙ ap (λ l. roll-Value (Value-F.Object l)) (fuse_members x)
+bare-roll z = fold-roll-Value Value value_step z
 
 abbrev Same : Value → Type 0
 Same a = (b : Value) → At value_eq bare_value a b
@@ -110,34 +108,36 @@ abbrev value_of : Shown → Value
 value_of e = e.0
 
 member_at : (y : Member Shown) (z : Member Value) → At member_eq bare_member (along_member value_of y) z
-member_at y z = let n = name_at y.0 z.0 in let v = node_at value_eq bare_value (along value_of y.1) z.1 (y.1.value.1 z.1.value) in (
-  λ h. let w = both_true (name_eq y.0 z.0) _ h in let l = n.0 w.0 in let r = v.0 w.1 in λ i. (l i, r i),
-  λ h. and_true _ _ (n.1 (λ i. (h i).0)) (v.1 (λ i. (h i).1)),
-)
+member_at y z = let n = name_at y.0 z.0 in let v = node_at value_eq bare_value (along value_of y.1) z.1
+    (y.1.value.1 z.1.value) in (
+      λ h. let w = both_true (name_eq y.0 z.0) _ h in let l = n.0 w.0 in let r = v.0 w.1 in λ i. (l i, r i),
+      λ h. and_true _ _ (n.1 (λ i. (h i).0)) (v.1 (λ i. (h i).1)),
+    )
 
 layers : (y : Value-F Shown) (z : Value-F Value) → At layer_eq bare_layer (map-Value Shown Value value_of y) z
 layers Value-F.Null Value-F.Null = (λ _. refl, λ _. refl)
-layers Value-F.Null z = (λ h. cc, λ h. cc)
 layers (Value-F.Enum m) (Value-F.Enum n) = let t = name_at m n in (λ h. ap Value-F.Enum (t.0 h), λ h. t.1 cc)
-layers (Value-F.Enum m) z = (λ h. cc, λ h. cc)
-layers (Value-F.Variable m) (Value-F.Variable n) = let t = name_at m n in (λ h. ap Value-F.Variable (t.0 h), λ h. t.1 cc)
-layers (Value-F.Variable m) z = (λ h. cc, λ h. cc)
-layers (Value-F.String m) (Value-F.String n) = let t = bytes_decides m n in (λ h. ap Value-F.String (t.0 h), λ h. t.1 cc)
-layers (Value-F.String m) z = (λ h. cc, λ h. cc)
-layers (Value-F.Float m) (Value-F.Float n) = let t = bytes_decides m n in (λ h. ap Value-F.Float (t.0 h), λ h. t.1 cc)
-layers (Value-F.Float m) z = (λ h. cc, λ h. cc)
-layers (Value-F.Int m) (Value-F.Int n) = let t = bytes_decides m n in (λ h. ap Value-F.Int (t.0 h), λ h. t.1 cc)
-layers (Value-F.Int m) z = (λ h. cc, λ h. cc)
-layers (Value-F.Boolean m) (Value-F.Boolean n) = let t = flag_at m n in (λ h. ap Value-F.Boolean (t.0 h), λ h. t.1 cc)
-layers (Value-F.Boolean m) z = (λ h. cc, λ h. cc)
-layers (Value-F.List ys) (Value-F.List zs) = let t = list_at node_eq (bare_node bare_value) (along value_of) (λ y z. node_at value_eq bare_value (along value_of y) z (y.value.1 z.value)) ys zs in (λ h. ap Value-F.List (t.0 h), λ h. t.1 cc)
-layers (Value-F.List ys) z = (λ h. cc, λ h. cc)
-layers (Value-F.Object ys) (Value-F.Object zs) = let t = list_at member_eq bare_member (along_member value_of) member_at ys zs in (λ h. ap Value-F.Object (t.0 h), λ h. t.1 cc)
-layers (Value-F.Object ys) z = (λ h. cc, λ h. cc)
+layers (Value-F.Variable m) (Value-F.Variable n) = let t =
+    name_at m n in (λ h. ap Value-F.Variable (t.0 h), λ h. t.1 cc)
+layers (Value-F.String m) (Value-F.String n) = let t =
+    bytes_decides m n in (λ h. ap Value-F.String (t.0 h), λ h. t.1 cc)
+layers (Value-F.Float m) (Value-F.Float n) = let t =
+    bytes_decides m n in (λ h. ap Value-F.Float (t.0 h), λ h. t.1 cc)
+layers (Value-F.Int m) (Value-F.Int n) = let t =
+    bytes_decides m n in (λ h. ap Value-F.Int (t.0 h), λ h. t.1 cc)
+layers (Value-F.Boolean m) (Value-F.Boolean n) = let t =
+    flag_at m n in (λ h. ap Value-F.Boolean (t.0 h), λ h. t.1 cc)
+layers (Value-F.List ys) (Value-F.List zs) = let t = list_at node_eq (bare_node bare_value) (along value_of)
+    (λ y z. node_at value_eq bare_value (along value_of y) z (y.value.1 z.value)) ys
+    zs in (λ h. ap Value-F.List (t.0 h), λ h. t.1 cc)
+layers (Value-F.Object ys) (Value-F.Object zs) = let t = list_at member_eq bare_member (along_member value_of)
+    member_at ys zs in (λ h. ap Value-F.Object (t.0 h), λ h. t.1 cc)
+layers _ _ = (λ h. cc, λ h. cc)
 
 value_at : (d : Value) → Same d
 value_at = ind-Value Same (λ x y is b. subst (λ c. At value_eq bare_value (roll-Value x) c) (roll-out-Value b)
-    (rolled value_eq bare_value roll-Value out-Value layer_eq bare_layer eq-roll bare-roll out-roll-Value x (out-Value b) (subst (λ l. At layer_eq bare_layer l (out-Value b)) is (layers y (out-Value b)))))
+    (rolled value_eq bare_value roll-Value out-Value layer_eq bare_layer eq-roll bare-roll out-roll-Value x
+    (out-Value b) (subst (λ l. At layer_eq bare_layer l (out-Value b)) is (layers y (out-Value b)))))
 
 pub values : Compares impl.ghosts.eq bare_value
 unfolding value_eq

@@ -15,8 +15,10 @@ use Rattle.graphql_grammar.proofs.WholeViable.{viable_law}
 pub record Judged {A : Type 0} (p : Piece A) (spells further : A → List WordView → Type 0) : Type 0 where
   pub found : (words : List WordView) (x : A) → read_all p words ≡ Ok x → spells x words
   pub only : (words : List WordView) (x : A) → spells x words → read_all p words ≡ Ok x
-  pub ruled_out : (words : List WordView) (e : Refusal) → read_all p words ≡ Err e → RefusedWith spells words e
-  pub can_go_on : (words : List WordView) (e : Refusal) → read_all p words ≡ Err e → Viable further words e.left
+  pub ruled_out : (words : List WordView) (e : Refusal) → read_all p words ≡ Err e
+      → RefusedWith spells words e
+  pub can_go_on : (words : List WordView) (e : Refusal) → read_all p words ≡ Err e
+      → Viable further words e.left
 
 pub judged : {A : Type 0} (p q : Piece A) → Lawful p → Blind p → Begins p q → Judged p p.spells q.spells
 judged p q pl pb begins = record {

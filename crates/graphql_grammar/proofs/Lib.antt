@@ -1,3 +1,4 @@
+pub mod BeginsLaws
 pub mod BlindLaws
 pub mod BranchLaws
 pub mod CleanLaws

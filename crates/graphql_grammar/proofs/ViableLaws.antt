@@ -1,145 +1,37 @@
 -- The words before the one that is refused begin what a piece spells.
-use Rattle.std.proofs.Common.{◌≡◌, ℕ, zero, suc, Bool, true, false, List, [], ◌∷◌, ◌++◌, Option, Some, None, Result, Ok, Err, ◌⊎◌, inl, inr, refl, sym, ap, subst, ◌∙◌, append_assoc, length}
-use Rattle.std.proofs.lemmas.Bool.{eq-eqb}
+use Rattle.std.proofs.Common.{subst, ◌≡◌, ℕ, zero, suc, Bool, true, false, List, [], ◌∷◌, ◌++◌, Option, Some}
+use Rattle.std.proofs.Common.{None, Ok, Err, ◌⊎◌, inl, inr, refl, sym, ap, ◌∙◌, append_assoc, length}
 use Rattle.std.proofs.lemmas.List.{append-nil}
-use Rattle.graphql_grammar.specs.declared.fault.FaultKind.{FaultKind}
-use Rattle.graphql_grammar.specs.declared.fault.FaultKind.TheVariants.{Expected, TooDeep}
+use Rattle.graphql_grammar.specs.declared.fault.FaultKind.TheVariants.{TooDeep}
 use Rattle.graphql_grammar.specs.declared.fault.Item.TheVariants as i
 use Rattle.graphql_grammar.specs.declared.kind.Kind.{Kind}
-use Rattle.graphql_grammar.specs.Kinds.{Kinds, only, tag}
+use Rattle.graphql_grammar.specs.Kinds.{Kinds, only}
 use Rattle.graphql_grammar.specs.Refusals.{Viable}
 use Rattle.graphql_grammar.specs.Spelling.{spells_by}
 use Rattle.graphql_grammar.specs.Words.{WordView, begins, ended, starting}
-use Rattle.graphql_grammar.specs.Pieces.{Piece, Reading, Refusal, State, Wrong, ◌>>=◌, behind_sign, branch, choose, filtered, headed, item, listed, located, many, many_at, mapped, nested, nothing, optional, picked, read_first, refused, separated, separated_of, seq, sign, sign_or, some, take_picked, take_sign, take_word, tested, word}
+use Rattle.graphql_grammar.specs.Pieces.{Piece, Reading, Refusal, State, Wrong, ◌>>=◌, behind_sign, branch}
+use Rattle.graphql_grammar.specs.Pieces.{choose, filtered, headed, item, listed, located, many, many_at}
+use Rattle.graphql_grammar.specs.Pieces.{mapped, nested, nothing, optional, read_first, refused}
+use Rattle.graphql_grammar.specs.Pieces.{separated, separated_of, seq, sign, some}
+use Rattle.graphql_grammar.specs.Pieces.{tested}
 use Rattle.graphql_grammar.proofs.BlindLaws.{another, another_law}
 use Rattle.graphql_grammar.proofs.KindLemmas.{only_kind}
 use Rattle.graphql_grammar.proofs.PieceLaws.{Begun, Lawful, Took, optional_law, sign_law}
 use Rattle.graphql_grammar.proofs.ReadingLemmas.{chosen}
-
--- the second piece spells something, and what the first does; and the words before the one that the first
--- refuses begin what the second spells
-pub record Begins {A : Type 0} (p q : Piece A) : Type 0 where
-  pub value : A
-  pub words : List WordView
-  pub some : q.spells value words
-  pub wider : (x : A) (front : List WordView) → p.spells x front → q.spells x front
-  pub viable : (s : State) (e : Refusal) → p.read s ≡ Err e → Viable q.spells s.left e.left
-
--- the second piece spells what the first does; what the first refuses it refuses at once, or the words before
--- begin what the second spells
-pub record Leads {A : Type 0} (p q : Piece A) : Type 0 where
-  pub wider : (x : A) (front : List WordView) → p.spells x front → q.spells x front
-  pub viable : (s : State) (e : Refusal) → p.read s ≡ Err e → (s.left ≡ e.left) ⊎ Viable q.spells s.left e.left
-
--- ---- from one to the other
-
--- where nothing was taken, anything that is spelled goes on
-at_once : {A : Type 0} (spells : A → List WordView → Type 0) (words left : List WordView) (x : A) (others : List WordView) → words ≡ left → spells x others → Viable spells words left
-at_once spells words left x others same h = record { front = []; more = others; value = x; whole = same; spelled = h }
-
-pub begun_leads : {A : Type 0} {p q : Piece A} → Begins p q → Leads p q
-begun_leads pb = record { wider = pb.wider; viable = λ s e h. inr (pb.viable s e h) }
-
-at_once_or : {A : Type 0} (spells : A → List WordView → Type 0) (words left : List WordView) (x : A) (others : List WordView) → spells x others → (words ≡ left) ⊎ Viable spells words left → Viable spells words left
-at_once_or spells words left x others h o = elim o [
-  | inl same ↦ at_once spells words left x others same h
-  | inr v ↦ v
-]
-
--- where something is spelled, what is refused at once may begin it
-pub leads_begins : {A : Type 0} {p q : Piece A} → Leads p q → (x : A) (words : List WordView) → q.spells x words → Begins p q
-leads_begins {A} {p} {q} leads x words h = record {
-  value = x;
-  words = words;
-  some = h;
-  wider = leads.wider;
-  viable = λ s e g. at_once_or q.spells s.left e.left x words h (leads.viable s e g);
-}
-
--- ---- refusals
-
-abbrev failed : {A : Type 0} → Refusal → Result A Refusal
-failed e = Err e
-
-refused_left : {A : Type 0} (fault : FaultKind) (left : List WordView) (e : Refusal) → refused {A = A} fault left ≡ Err e → left ≡ e.left
-refused_left fault left e h =
-    let here : Refusal = record { kind = fault; left = left } in
-    let same : here ≡ e = cc in
-    ap (λ (r : Refusal). r.left) same
-
-pub bind_err : {A B : Type 0} (r : Result A Refusal) (f : A → Result B Refusal) (e : Refusal) → (r >>= f) ≡ Err e → (r ≡ Err e) ⊎ ((x : A) × (r ≡ Ok x) × (f x ≡ Err e))
-bind_err (Ok x) f e h = inr (x, refl, h)
-bind_err {A} (Err d) f e h = inl (let same : d ≡ e = cc in ap (λ (r : Refusal). failed {A = A} r) same)
-
--- what never fails behind a reading leaves its refusal as it is
-given_err : {A B : Type 0} (r : Reading A) (g : A × State → B × State) (e : Refusal) → (r >>= λ x. Ok (g x)) ≡ Err e → r ≡ Err e
-given_err (Ok x) g e h = absurd cc
-given_err {A} (Err d) g e h = let same : d ≡ e = cc in ap (λ (r : Refusal). failed {A = A × State} r) same
-
--- ---- one word
-
--- a word of this kind
-abbrev pub bare_word : Kind → WordView
-bare_word kind = record { kind = kind; text = []; start = 0; end = 0 }
-
-pub is_only : (kind : Kind) → only kind kind ≡ true
-is_only kind = eq-eqb (tag kind) (tag kind) refl
-
-not_taken : (kinds : Kinds) (fault : FaultKind) (left : List WordView) (e : Refusal) → take_word kinds fault left ≡ Err e → left ≡ e.left
-not_taken kinds fault [] e h = refused_left {A = WordView × State} fault [] e h
-not_taken kinds fault (w ∷ ws) e h = elim (chosen (kinds w.kind) (Ok (w, record { last = w.end; left = ws })) (refused fault (w ∷ ws)) (Err e) h) [
-  | inl (hit, is) ↦ absurd cc
-  | inr (miss, is) ↦ refused_left {A = WordView × State} fault (w ∷ ws) e is
-]
-
-pub word_begins : (kinds : Kinds) (wrong : Wrong) (kind : Kind) → kinds kind ≡ true → Begins (word kinds wrong) (word kinds wrong)
-word_begins kinds wrong kind h = record {
-  value = bare_word kind;
-  words = bare_word kind ∷ [];
-  some = (refl, h);
-  wider = λ x front g. g;
-  viable = λ s e g. at_once (word kinds wrong).spells s.left e.left (bare_word kind) (bare_word kind ∷ []) (not_taken kinds (wrong s.left) s.left e g) (refl, h);
-}
-
-not_made : {A : Type 0} (made : Option A) (fault : FaultKind) (w : WordView) (ws : List WordView) (e : Refusal) → take_picked (λ _. made) fault (w ∷ ws) ≡ Err e → w ∷ ws ≡ e.left
-not_made {A} None fault w ws e h = refused_left {A = A × State} fault (w ∷ ws) e h
-not_made (Some x) fault w ws e h = absurd cc
-
-not_picked : {A : Type 0} (pick : WordView → Option A) (fault : FaultKind) (left : List WordView) (e : Refusal) → take_picked pick fault left ≡ Err e → left ≡ e.left
-not_picked {A} pick fault [] e h = refused_left {A = A × State} fault [] e h
-not_picked pick fault (w ∷ ws) e h = not_made (pick w) fault w ws e h
-
-pub picked_begins : {A : Type 0} (pick : WordView → Option A) (kinds : Kinds) (wrong : Wrong) (w : WordView) (x : A) → pick w ≡ Some x → Begins (picked pick kinds wrong) (picked pick kinds wrong)
-picked_begins pick kinds wrong w x h = record {
-  value = x;
-  words = w ∷ [];
-  some = (w, refl, h);
-  wider = λ y front g. g;
-  viable = λ s e g. at_once (picked pick kinds wrong).spells s.left e.left x (w ∷ []) (not_picked pick (wrong s.left) s.left e g) (w, refl, h);
-}
-
-sign_refused : (kind : Kind) (fault : FaultKind) (left : List WordView) (e : Refusal) → take_sign kind fault left ≡ Err e → left ≡ e.left
-sign_refused kind fault left e h = not_taken (only kind) fault left e (given_err {B = Unit {0}} (take_word (only kind) fault left) (λ x. (tt, x.1)) e h)
-
-pub sign_or_begins : (kind : Kind) (wrong : Wrong) → Begins (sign_or kind wrong) (sign_or kind wrong)
-sign_or_begins kind wrong = record {
-  value = tt;
-  words = bare_word kind ∷ [];
-  some = (bare_word kind, refl, is_only kind);
-  wider = λ x front g. g;
-  viable = λ s e g. at_once (sign_or kind wrong).spells s.left e.left tt (bare_word kind ∷ []) (sign_refused kind (wrong s.left) s.left e g) (bare_word kind, refl, is_only kind);
-}
-
-pub sign_begins : (kind : Kind) → Begins (sign kind) (sign kind)
-sign_begins kind = sign_or_begins kind (λ _. Expected (i.Word kind))
+pub use Rattle.graphql_grammar.proofs.BeginsLaws.{Begins, Leads, begun_leads, leads_begins, bind_err}
+pub use Rattle.graphql_grammar.proofs.BeginsLaws.{is_only, bare_word, word_begins, picked_begins}
+pub use Rattle.graphql_grammar.proofs.BeginsLaws.{sign_or_begins, sign_begins}
+use Rattle.graphql_grammar.proofs.BeginsLaws.{at_once, refused_left, given_err}
 
 -- ---- one after the other
 
 -- what is left behind words is behind those and more
-behind : (words front then others left : List WordView) → words ≡ front ++ then → then ≡ others ++ left → words ≡ (front ++ others) ++ left
-behind words front then others left h g = h ∙ ap (λ (l : List WordView). front ++ l) g ∙ sym (append_assoc front others left)
+behind : (words front then others left : List WordView) → words ≡ front ++ then → then ≡ others ++ left
+    → words ≡ (front ++ others) ++ left
+behind words front then others left h g = simp (h, g, append_assoc)
 
-module _ {A B : Type 0} {p p2 : Piece A} {q q2 : Piece B} (pl : Lawful p) (pb : Begins p p2) (qb : Begins q q2) where
+module _ {A B : Type 0} {p p2 : Piece A} {q q2 : Piece B} (pl : Lawful p) (pb : Begins p p2)
+    (qb : Begins q q2) where
   in_first : (s : State) (e : Refusal) → p.read s ≡ Err e → Viable (seq p2 q2).spells s.left e.left
   in_first s e h =
       let v : Viable p2.spells s.left e.left = pb.viable s e h in
@@ -148,10 +40,17 @@ module _ {A B : Type 0} {p p2 : Piece A} {q q2 : Piece B} (pl : Lawful p) (pb : 
         more = v.more ++ qb.words;
         value = (v.value, qb.value);
         whole = v.whole;
-        spelled = record { head = v.front ++ v.more; tail = qb.words; whole = sym (append_assoc v.front v.more qb.words); first = v.spelled; second = qb.some };
+        spelled = record {
+          head = v.front ++ v.more;
+          tail = qb.words;
+          whole = sym (append_assoc v.front v.more qb.words);
+          first = v.spelled;
+          second = qb.some;
+        };
       }
 
-  in_second : (s : State) (e : Refusal) (y : A × State) → p.read s ≡ Ok y → q.read y.1 ≡ Err e → Viable (seq p2 q2).spells s.left e.left
+  in_second : (s : State) (e : Refusal) (y : A × State) → p.read s ≡ Ok y → q.read y.1 ≡ Err e
+      → Viable (seq p2 q2).spells s.left e.left
   in_second s e y h g =
       let t : Took p.spells s y.0 y.1 = pl.sound s y.0 y.1 h in
       let v : Viable q2.spells y.1.left e.left = qb.viable y.1 e g in
@@ -160,21 +59,35 @@ module _ {A B : Type 0} {p p2 : Piece A} {q q2 : Piece B} (pl : Lawful p) (pb : 
         more = v.more;
         value = (y.0, v.value);
         whole = behind s.left t.front y.1.left v.front e.left t.left v.whole;
-        spelled = record { head = t.front; tail = v.front ++ v.more; whole = append_assoc t.front v.front v.more; first = pb.wider y.0 t.front t.spelled; second = v.spelled };
+        spelled = record {
+          head = t.front;
+          tail = v.front ++ v.more;
+          whole = append_assoc t.front v.front v.more;
+          first = pb.wider y.0 t.front t.spelled;
+          second = v.spelled;
+        };
       }
 
   seq_viable : (s : State) (e : Refusal) → (seq p q).read s ≡ Err e → Viable (seq p2 q2).spells s.left e.left
-  seq_viable s e h = elim (bind_err {B = (A × B) × State} (p.read s) (λ y. q.read y.1 >>= λ z. Ok ((y.0, z.0), z.1)) e h) [
-    | inl g ↦ in_first s e g
-    | inr g ↦ let y : A × State = g.0 in in_second s e y g.1 (given_err {B = A × B} (q.read y.1) (λ z. ((y.0, z.0), z.1)) e g.2)
-  ]
+  seq_viable s e h = elim (bind_err {B = (A × B) × State} (p.read s) (λ y. q.read y.1 >>= λ z. Ok
+      ((y.0, z.0), z.1)) e h) [
+        | inl g ↦ in_first s e g
+        | inr g ↦ let y : A × State =
+            g.0 in in_second s e y g.1 (given_err {B = A × B} (q.read y.1) (λ z. ((y.0, z.0), z.1)) e g.2)
+      ]
 
   pub seq_begins : Begins (seq p q) (seq p2 q2)
   seq_begins = record {
     value = (pb.value, qb.value);
     words = pb.words ++ qb.words;
     some = record { head = pb.words; tail = qb.words; whole = refl; first = pb.some; second = qb.some };
-    wider = λ x front h. record { head = h.head; tail = h.tail; whole = h.whole; first = pb.wider x.0 h.head h.first; second = qb.wider x.1 h.tail h.second };
+    wider = λ x front h. record {
+      head = h.head;
+      tail = h.tail;
+      whole = h.whole;
+      first = pb.wider x.0 h.head h.first;
+      second = qb.wider x.1 h.tail h.second;
+    };
     viable = seq_viable;
   }
 
@@ -187,40 +100,59 @@ mapped_begins {A} {B} f {p} {q} pb = record {
   some = (pb.value, refl, pb.some);
   wider = λ x front h. (h.0, h.1, pb.wider h.0 front h.2);
   viable = λ s e h.
-      let v : Viable q.spells s.left e.left = pb.viable s e (given_err {B = B} (p.read s) (λ x. (f x.0, x.1)) e h) in
-      record { front = v.front; more = v.more; value = f v.value; whole = v.whole; spelled = (v.value, refl, v.spelled) };
+      let v : Viable q.spells s.left e.left =
+      pb.viable s e (given_err {B = B} (p.read s) (λ x. (f x.0, x.1)) e h) in
+      record {
+        front = v.front;
+        more = v.more;
+        value = f v.value;
+        whole = v.whole;
+        spelled = (v.value, refl, v.spelled);
+      };
 }
 
 -- ---- only what passes a test
 
 -- words that go on with these spell what passes
-pub record GoesOn {A : Type 0} (test : A → Bool) (spells : A → List WordView → Type 0) (front : List WordView) : Type 0 where
+pub record GoesOn {A : Type 0} (test : A → Bool) (spells : A → List WordView
+    → Type 0) (front : List WordView) : Type 0 where
   pub more : List WordView
   pub value : A
   pub spelled : spells value (front ++ more)
   pub passes : test value ≡ true
 
 -- where only what no words spell fails the test, words that pass go on with what fails
-pub none_goes_on : {A : Type 0} (test : A → Bool) (q : Piece A) (y : A) (words : List WordView) → q.spells y words → test y ≡ true → ((x : A) (front : List WordView) → q.spells x front → test x ≡ false → front ≡ [])
+pub none_goes_on : {A : Type 0} (test : A → Bool) (q : Piece A) (y : A) (words : List WordView)
+    → q.spells y words → test y ≡ true
+    → ((x : A) (front : List WordView) → q.spells x front → test x ≡ false → front ≡ [])
     → (x : A) (front : List WordView) → q.spells x front → test x ≡ false → GoesOn test q.spells front
-none_goes_on test q y words h passes fails x front g e = record { more = words; value = y; spelled = subst (λ (l : List WordView). q.spells y (l ++ words)) (sym (fails x front g e)) h; passes = passes }
+none_goes_on test q y words h passes fails x front g e = record {
+  more = words;
+  value = y;
+  spelled = rw ((fails x front g e)) h;
+  passes = passes;
+}
 
 module _ {A : Type 0} (test : A → Bool) (wrong : Wrong) {p q : Piece A} (pl : Lawful p) (pb : Begins p q)
-    (goes_on : (x : A) (front : List WordView) → q.spells x front → test x ≡ false → GoesOn test q.spells front) where
-  passing : (x : A) (front : List WordView) (b : Bool) → q.spells x front → test x ≡ b → GoesOn test q.spells front
-  passing x front true h e = record { more = []; value = x; spelled = subst (λ (l : List WordView). q.spells x l) (sym (append-nil front)) h; passes = e }
+    (goes_on : (x : A) (front : List WordView) → q.spells x front
+    → test x ≡ false → GoesOn test q.spells front) where
+  passing : (x : A) (front : List WordView) (b : Bool) → q.spells x front → test x ≡ b
+      → GoesOn test q.spells front
+  passing x front true h e = record { more = []; value = x; spelled = rw ((append-nil front)) h; passes = e }
   passing x front false h e = goes_on x front h e
 
   -- what begins something begins something that passes
-  test_ahead : (words left : List WordView) → Viable q.spells words left → Viable (filtered test wrong q).spells words left
+  test_ahead : (words left : List WordView) → Viable q.spells words left
+      → Viable (filtered test wrong q).spells words left
   test_ahead words left v =
-      let k : GoesOn test q.spells (v.front ++ v.more) = passing v.value (v.front ++ v.more) (test v.value) v.spelled refl in
+      let k : GoesOn test q.spells (v.front ++ v.more) = passing v.value (v.front ++ v.more) (test v.value)
+      v.spelled refl in
       record {
         front = v.front;
         more = v.more ++ k.more;
         value = k.value;
         whole = v.whole;
-        spelled = (subst (λ (l : List WordView). q.spells k.value l) (append_assoc v.front v.more k.more) k.spelled, k.passes);
+        spelled = (rw (← append_assoc v.front v.more k.more) k.spelled, k.passes);
       }
 
   test_failed : (y : A × State) (e : Refusal) → tested test wrong y ≡ Err e → y.1.left ≡ e.left
@@ -229,7 +161,8 @@ module _ {A : Type 0} (test : A → Bool) (wrong : Wrong) {p q : Piece A} (pl : 
     | inr (miss, is) ↦ refused_left {A = A × State} (wrong y.1.left) y.1.left e is
   ]
 
-  test_behind : (s : State) (e : Refusal) (y : A × State) → p.read s ≡ Ok y → tested test wrong y ≡ Err e → Viable q.spells s.left e.left
+  test_behind : (s : State) (e : Refusal) (y : A × State) → p.read s ≡ Ok y → tested test wrong y ≡ Err e
+      → Viable q.spells s.left e.left
   test_behind s e y h g =
       let t : Took p.spells s y.0 y.1 = pl.sound s y.0 y.1 h in
       record {
@@ -237,10 +170,11 @@ module _ {A : Type 0} (test : A → Bool) (wrong : Wrong) {p q : Piece A} (pl : 
         more = [];
         value = y.0;
         whole = t.left ∙ ap (λ (l : List WordView). t.front ++ l) (test_failed y e g);
-        spelled = subst (λ (l : List WordView). q.spells y.0 l) (sym (append-nil t.front)) (pb.wider y.0 t.front t.spelled);
+        spelled = rw ((append-nil t.front)) (pb.wider y.0 t.front t.spelled);
       }
 
-  filtered_viable : (s : State) (e : Refusal) → (filtered test wrong p).read s ≡ Err e → Viable (filtered test wrong q).spells s.left e.left
+  filtered_viable : (s : State) (e : Refusal) → (filtered test wrong p).read s ≡ Err e
+      → Viable (filtered test wrong q).spells s.left e.left
   filtered_viable s e h = test_ahead s.left e.left (elim (bind_err (p.read s) (tested test wrong) e h) [
     | inl g ↦ pb.viable s e g
     | inr g ↦ test_behind s e g.0 g.1 g.2
@@ -260,30 +194,53 @@ module _ {A : Type 0} (test : A → Bool) (wrong : Wrong) {p q : Piece A} (pl : 
 -- ---- one or none, and any number
 
 module _ {A : Type 0} {p q : Piece A} (leads : Leads p q) where
-  optional_wider : (x : Option A) (front : List WordView) → (optional p).spells x front → (optional q).spells x front
+  optional_wider : (x : Option A) (front : List WordView) → (optional p).spells x front
+      → (optional q).spells x front
   optional_wider None front h = h
   optional_wider (Some x) front h = leads.wider x front h
 
   -- one that is refused at once is left out
-  none_or_one : (words left : List WordView) → (words ≡ left) ⊎ Viable q.spells words left → Viable (optional q).spells words left
+  none_or_one : (words left : List WordView) → (words ≡ left) ⊎ Viable q.spells words left
+      → Viable (optional q).spells words left
   none_or_one words left o = elim o [
     | inl same ↦ at_once (optional q).spells words left None [] same refl
-    | inr v ↦ record { front = v.front; more = v.more; value = Some v.value; whole = v.whole; spelled = v.spelled }
+    | inr v ↦ record {
+      front = v.front;
+      more = v.more;
+      value = Some v.value;
+      whole = v.whole;
+      spelled = v.spelled;
+    }
   ]
 
-  optional_viable : (s : State) (e : Refusal) → (optional p).read s ≡ Err e → Viable (optional q).spells s.left e.left
-  optional_viable s e h = elim (chosen (begins p.first s.left) (p.read s >>= λ y. Ok (Some y.0, y.1)) (Ok (None, s)) (Err e) h) [
-    | inl (hit, is) ↦ none_or_one s.left e.left (leads.viable s e (given_err {B = Option A} (p.read s) (λ y. (Some y.0, y.1)) e is))
-    | inr (miss, is) ↦ absurd cc
-  ]
+  optional_viable : (s : State) (e : Refusal) → (optional p).read s ≡ Err e
+      → Viable (optional q).spells s.left e.left
+  optional_viable s e h = elim (chosen (begins p.first s.left) (p.read s >>= λ y. Ok (Some y.0, y.1))
+      (Ok (None, s)) (Err e) h) [
+        | inl (hit, is) ↦ none_or_one s.left e.left
+            (leads.viable s e (given_err {B = Option A} (p.read s) (λ y. (Some y.0, y.1)) e is))
+        | inr (miss, is) ↦ absurd cc
+      ]
 
   pub optional_begins : Begins (optional p) (optional q)
-  optional_begins = record { value = None; words = []; some = refl; wider = optional_wider; viable = optional_viable }
+  optional_begins = record {
+    value = None;
+    words = [];
+    some = refl;
+    wider = optional_wider;
+    viable = optional_viable;
+  }
 
 module _ {A : Type 0} {p q : Piece A} (pl : Lawful p) (pb : Begins p q) where
   many_wider : (xs : List A) (front : List WordView) → (many p).spells xs front → (many q).spells xs front
   many_wider [] front h = h
-  many_wider (x ∷ xs) front h = record { head = h.head; tail = h.tail; whole = h.whole; first = pb.wider x h.head h.first; second = many_wider xs h.tail h.second }
+  many_wider (x ∷ xs) front h = record {
+    head = h.head;
+    tail = h.tail;
+    whole = h.whole;
+    first = pb.wider x h.head h.first;
+    second = many_wider xs h.tail h.second;
+  }
 
   -- the next one is refused
   in_next : (s : State) (e : Refusal) → p.read s ≡ Err e → Viable (many q).spells s.left e.left
@@ -294,11 +251,18 @@ module _ {A : Type 0} {p q : Piece A} (pl : Lawful p) (pb : Begins p q) where
         more = v.more;
         value = v.value ∷ [];
         whole = v.whole;
-        spelled = record { head = v.front ++ v.more; tail = []; whole = sym (append-nil (v.front ++ v.more)); first = v.spelled; second = refl };
+        spelled = record {
+          head = v.front ++ v.more;
+          tail = [];
+          whole = sym (append-nil (v.front ++ v.more));
+          first = v.spelled;
+          second = refl;
+        };
       }
 
   -- one behind the next is refused
-  in_others : (s : State) (e : Refusal) (y : A × State) → p.read s ≡ Ok y → Viable (many q).spells y.1.left e.left → Viable (many q).spells s.left e.left
+  in_others : (s : State) (e : Refusal) (y : A × State) → p.read s ≡ Ok y
+      → Viable (many q).spells y.1.left e.left → Viable (many q).spells s.left e.left
   in_others s e y h v =
       let t : Took p.spells s y.0 y.1 = pl.sound s y.0 y.1 h in
       record {
@@ -306,25 +270,40 @@ module _ {A : Type 0} {p q : Piece A} (pl : Lawful p) (pb : Begins p q) where
         more = v.more;
         value = y.0 ∷ v.value;
         whole = behind s.left t.front y.1.left v.front e.left t.left v.whole;
-        spelled = record { head = t.front; tail = v.front ++ v.more; whole = append_assoc t.front v.front v.more; first = pb.wider y.0 t.front t.spelled; second = v.spelled };
+        spelled = record {
+          head = t.front;
+          tail = v.front ++ v.more;
+          whole = append_assoc t.front v.front v.more;
+          first = pb.wider y.0 t.front t.spelled;
+          second = v.spelled;
+        };
       }
 
   -- one that was read, and those behind it
   abbrev and_others : ℕ → A × State → Reading (List A)
   and_others n x = many_at p.first p.read n x.1 >>= λ y. Ok (x.0 ∷ y.0, y.1)
 
-  many_viable : (n : ℕ) (s : State) (e : Refusal) → many_at p.first p.read n s ≡ Err e → Viable (many q).spells s.left e.left
+  many_viable : (n : ℕ) (s : State) (e : Refusal) → many_at p.first p.read n s ≡ Err e
+      → Viable (many q).spells s.left e.left
   many_viable zero s e h = absurd cc
-  many_viable (suc n) s e h = elim (chosen (begins p.first s.left) (p.read s >>= and_others n) (Ok ([], s)) (Err e) h) [
-    | inl (hit, is) ↦ elim (bind_err (p.read s) (and_others n) e is) [
-      | inl g ↦ in_next s e g
-      | inr g ↦ let y : A × State = g.0 in in_others s e y g.1 (many_viable n y.1 e (given_err {B = List A} (many_at p.first p.read n y.1) (λ z. (y.0 ∷ z.0, z.1)) e g.2))
-    ]
-    | inr (miss, is) ↦ absurd cc
-  ]
+  many_viable (suc n) s e h = elim (chosen (begins p.first s.left) (p.read s >>= and_others n) (Ok ([], s))
+      (Err e) h) [
+        | inl (hit, is) ↦ elim (bind_err (p.read s) (and_others n) e is) [
+          | inl g ↦ in_next s e g
+          | inr g ↦ let y : A × State = g.0 in in_others s e y g.1 (many_viable n y.1 e
+              (given_err {B = List A} (many_at p.first p.read n y.1) (λ z. (y.0 ∷ z.0, z.1)) e g.2))
+        ]
+        | inr (miss, is) ↦ absurd cc
+      ]
 
   pub many_begins : Begins (many p) (many q)
-  many_begins = record { value = []; words = []; some = refl; wider = many_wider; viable = λ s e h. many_viable (length s.left) s e h }
+  many_begins = record {
+    value = [];
+    words = [];
+    some = refl;
+    wider = many_wider;
+    viable = λ s e h. many_viable (length s.left) s e h;
+  }
 
 pub some_begins : {A : Type 0} {p q : Piece A} → Lawful p → Begins p q → Begins (some p) (some q)
 some_begins pl pb = mapped_begins listed (seq_begins pl pb (many_begins pl pb))
@@ -333,42 +312,62 @@ some_begins pl pb = mapped_begins listed (seq_begins pl pb (many_begins pl pb))
 
 -- what spells nothing
 pub nothing_leads : {A : Type 0} (wrong : Wrong) {q : Piece A} → Leads (nothing wrong) q
-nothing_leads {A} wrong {q} = record { wider = λ x front h. absurd h; viable = λ s e h. inl (refused_left {A = A × State} (wrong s.left) s.left e h) }
+nothing_leads {A} wrong {q} = record {
+  wider = λ x front h. absurd h;
+  viable = λ s e h. inl (refused_left {A = A × State} (wrong s.left) s.left e h);
+}
 
-pub headed_leads : {A : Type 0} (kinds : Kinds) {p q : Piece A} → Leads p q → Leads (headed kinds p) (headed kinds q)
+pub headed_leads : {A : Type 0} (kinds : Kinds) {p q : Piece A} → Leads p q
+    → Leads (headed kinds p) (headed kinds q)
 headed_leads kinds leads = record { wider = leads.wider; viable = leads.viable }
 
 -- one of two, by a flag
-pub choose_leads : {A : Type 0} (flag : Bool) {p p2 q q2 : Piece A} → Leads p p2 → Leads q q2 → Leads (choose flag p q) (choose flag p2 q2)
+pub choose_leads : {A : Type 0} (flag : Bool) {p p2 q q2 : Piece A} → Leads p p2 → Leads q q2
+    → Leads (choose flag p q) (choose flag p2 q2)
 choose_leads true pb qb = pb
 choose_leads false pb qb = qb
 
-module _ {A : Type 0} (pick pick2 : Kind → Piece A) (wrong : Wrong) (leads : (kind : Kind) → Leads (pick kind) (pick2 kind)) where
-  by_first : (w : WordView) (ws left : List WordView) (y : A) (front behind : List WordView) → w ∷ ws ≡ front ++ left → (pick2 w.kind).spells y (front ++ behind)
+module _ {A : Type 0} (pick pick2 : Kind → Piece A) (wrong : Wrong) (leads : (kind : Kind)
+    → Leads (pick kind) (pick2 kind)) where
+  by_first : (w : WordView) (ws left : List WordView) (y : A) (front behind : List WordView)
+      → w ∷ ws ≡ front ++ left → (pick2 w.kind).spells y (front ++ behind)
       → (w ∷ ws ≡ left) ⊎ Viable (spells_by (λ kind. (pick2 kind).spells)) (w ∷ ws) left
   by_first w ws left y [] behind whole h = inl whole
   by_first w ws left y (f ∷ fs) behind whole h =
       let head : w ≡ f = cc in
-      inr (record { front = f ∷ fs; more = behind; value = y; whole = whole; spelled = subst (λ (v : WordView). (pick2 v.kind).spells y (f ∷ (fs ++ behind))) head h })
+      inr (record {
+        front = f ∷ fs;
+        more = behind;
+        value = y;
+        whole = whole;
+        spelled = subst (λ (v : WordView). (pick2 v.kind).spells y (f ∷ (fs ++ behind))) head h;
+      })
 
-  branch_viable : (last : ℕ) (left : List WordView) (e : Refusal) → read_first pick wrong (record { last = last; left = left }) left ≡ Err e → (left ≡ e.left) ⊎ Viable (spells_by (λ kind. (pick2 kind).spells)) left e.left
+  branch_viable : (last : ℕ) (left : List WordView) (e : Refusal)
+      → read_first pick wrong (record { last = last; left = left }) left ≡ Err e
+      → (left ≡ e.left) ⊎ Viable (spells_by (λ kind. (pick2 kind).spells)) left e.left
   branch_viable last [] e h = inl (refused_left {A = A × State} (wrong []) [] e h)
   branch_viable last (w ∷ ws) e h = elim ((leads w.kind).viable (record { last = last; left = w ∷ ws }) e h) [
     | inl same ↦ inl same
     | inr v ↦ by_first w ws e.left v.value v.front v.more v.whole v.spelled
   ]
 
-  branch_wider : (y : A) (front : List WordView) → spells_by (λ kind. (pick kind).spells) y front → spells_by (λ kind. (pick2 kind).spells) y front
+  branch_wider : (y : A) (front : List WordView) → spells_by (λ kind. (pick kind).spells) y front
+      → spells_by (λ kind. (pick2 kind).spells) y front
   branch_wider y [] h = absurd h
   branch_wider y (w ∷ ws) h = (leads w.kind).wider y (w ∷ ws) h
 
-  pub branch_leads : {first more : Kinds} → Leads (branch first more pick wrong) (branch first more pick2 wrong)
+  pub branch_leads : {first more : Kinds}
+      → Leads (branch first more pick wrong) (branch first more pick2 wrong)
   branch_leads = record { wider = branch_wider; viable = λ s e h. branch_viable s.last s.left e h }
 
 -- what is picked by the kind that its words begin with
-pub picked_by : {A : Type 0} (pick : Kind → Piece A) (kind : Kind) (x : A) (words : List WordView) → Begun (only kind) false words → (pick kind).spells x words → spells_by (λ kind. (pick kind).spells) x words
+pub picked_by : {A : Type 0} (pick : Kind → Piece A) (kind : Kind) (x : A) (words : List WordView)
+    → Begun (only kind) false words → (pick kind).spells x words
+    → spells_by (λ kind. (pick kind).spells) x words
 picked_by pick kind x [] begun h = absurd cc
-picked_by pick kind x (w ∷ ws) begun h = subst (λ (k : Kind). (pick k).spells x (w ∷ ws)) (sym (only_kind kind w.kind begun)) h
+picked_by pick kind x (w ∷ ws) begun h =
+    subst (λ (k : Kind). (pick k).spells x (w ∷ ws)) (sym (only_kind kind w.kind begun)) h
 
 -- ---- with where it stands, what begins with one of these, items, and what is nested
 
@@ -379,14 +378,24 @@ located_begins {A} {p} {q} pb = record {
   some = (pb.some, refl);
   wider = λ x front h. (pb.wider x.0 front h.0, h.1);
   viable = λ s e h.
-      let v : Viable q.spells s.left e.left = pb.viable s e (given_err {B = A × (ℕ × ℕ)} (p.read s) (λ x. ((x.0, (starting s.left, x.1.last)), x.1)) e h) in
-      record { front = v.front; more = v.more; value = (v.value, (starting (v.front ++ v.more), ended 0 (v.front ++ v.more))); whole = v.whole; spelled = (v.spelled, refl) };
+      let v : Viable q.spells s.left e.left = pb.viable s e (given_err {B = A × (ℕ × ℕ)} (p.read s)
+      (λ x. ((x.0, (starting s.left, x.1.last)), x.1)) e h) in
+      record {
+        front = v.front;
+        more = v.more;
+        value = (v.value, (starting (v.front ++ v.more), ended 0 (v.front ++ v.more)));
+        whole = v.whole;
+        spelled = (v.spelled, refl);
+      };
 }
 
-pub headed_begins : {A : Type 0} (kinds : Kinds) {p q : Piece A} → Begins p q → Begins (headed kinds p) (headed kinds q)
-headed_begins kinds pb = record { value = pb.value; words = pb.words; some = pb.some; wider = pb.wider; viable = pb.viable }
+pub headed_begins : {A : Type 0} (kinds : Kinds) {p q : Piece A} → Begins p q
+    → Begins (headed kinds p) (headed kinds q)
+headed_begins kinds pb =
+    record { value = pb.value; words = pb.words; some = pb.some; wider = pb.wider; viable = pb.viable }
 
-pub item_begins : {A : Type 0} (kinds : Kinds) (wrong : Wrong) {p q : Piece A} → Begins p q → Begins (item kinds wrong p) (item kinds wrong q)
+pub item_begins : {A : Type 0} (kinds : Kinds) (wrong : Wrong) {p q : Piece A} → Begins p q
+    → Begins (item kinds wrong p) (item kinds wrong q)
 item_begins {A} kinds wrong {p} {q} pb = record {
   value = pb.value;
   words = pb.words;
@@ -394,21 +403,26 @@ item_begins {A} kinds wrong {p} {q} pb = record {
   wider = pb.wider;
   viable = λ s e h. elim (chosen (begins kinds s.left) (p.read s) (refused (wrong s.left) s.left) (Err e) h) [
     | inl (hit, is) ↦ pb.viable s e is
-    | inr (miss, is) ↦ at_once q.spells s.left e.left pb.value pb.words (refused_left {A = A × State} (wrong s.left) s.left e is) pb.some
+    | inr (miss, is) ↦ at_once q.spells s.left e.left pb.value pb.words
+        (refused_left {A = A × State} (wrong s.left) s.left e is) pb.some
   ];
 }
 
 -- what may nest so deep, against what may nest one deeper
-pub nested_leads : {A : Type 0} (depth : ℕ) (p q : ℕ → Piece A) → ((n : ℕ) → Begins (p n) (q (suc n))) → Leads (nested depth p) (nested (suc depth) q)
+pub nested_leads : {A : Type 0} (depth : ℕ) (p q : ℕ → Piece A) → ((n : ℕ) → Begins (p n) (q (suc n)))
+    → Leads (nested depth p) (nested (suc depth) q)
 nested_leads zero p q deeper = nothing_leads (λ _. TooDeep)
 nested_leads (suc depth) p q deeper = begun_leads (deeper depth)
 
 -- ---- one or more with a sign between them
 
-another_begins : {A : Type 0} (kind : Kind) {p q : Piece A} → Begins p q → Begins (another kind p) (another kind q)
+another_begins : {A : Type 0} (kind : Kind) {p q : Piece A} → Begins p q
+    → Begins (another kind p) (another kind q)
 another_begins kind pb = mapped_begins behind_sign (seq_begins (sign_law kind) (sign_begins kind) pb)
 
-pub separated_begins : {A : Type 0} (kind : Kind) {p q : Piece A} → Lawful p → Begins p q → Begins (separated kind p) (separated kind q)
+pub separated_begins : {A : Type 0} (kind : Kind) {p q : Piece A} → Lawful p → Begins p q
+    → Begins (separated kind p) (separated kind q)
 separated_begins kind {p} pl pb =
-    mapped_begins separated_of (seq_begins (optional_law (sign kind) (sign_law kind) refl) (optional_begins (begun_leads (sign_begins kind)))
+    mapped_begins separated_of (seq_begins (optional_law (sign kind) (sign_law kind) refl)
+    (optional_begins (begun_leads (sign_begins kind)))
     (seq_begins pl pb (many_begins (another_law kind p pl) (another_begins kind pb))))

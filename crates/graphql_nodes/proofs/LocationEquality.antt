@@ -16,12 +16,13 @@ pub file_ids : Compares file_id.ghosts.eq (λ (id : FileId). id)
 file_ids = made (λ p. record { 0 = p }) (λ id. id.0) (λ _. refl) (of_part (λ (id : FileId). id.0) numbers)
 
 pub source_spans : Compares source_span.ghosts.eq (λ (s : SourceSpan). s)
-source_spans = made (λ p. record { file = p.0; start = p.1.0; end = p.1.1 }) (λ s. (s.file, (s.start, s.end))) (λ _. refl)
-    (and_then (of_part (λ (s : SourceSpan). s.file) file_ids) (and_then (of_part (λ (s : SourceSpan). s.start) numbers) (of_part (λ (s : SourceSpan). s.end) numbers)))
+source_spans = made (λ p. record { file = p.0; start = p.1.0; end = p.1.1 }) (λ s. (s.file, (s.start, s.end)))
+    (λ _. refl) (and_then (of_part (λ (s : SourceSpan). s.file) file_ids) (and_then
+    (of_part (λ (s : SourceSpan). s.start) numbers) (of_part (λ (s : SourceSpan). s.end) numbers)))
 
 pub line_columns : Compares line_column.ghosts.eq (λ (l : LineColumn). l)
-line_columns = made (λ p. record { line = p.0; column = p.1 }) (λ l. (l.line, l.column)) (λ _. refl)
-    (and_then (of_part (λ (l : LineColumn). l.line) numbers) (of_part (λ (l : LineColumn). l.column) numbers))
+line_columns = made (λ p. record { line = p.0; column = p.1 }) (λ l. (l.line, l.column)) (λ _. refl) (and_then
+    (of_part (λ (l : LineColumn). l.line) numbers) (of_part (λ (l : LineColumn). l.column) numbers))
 
 pub source_files : Compares source_file.ghosts.eq (λ (f : SourceFile). f)
 source_files = made (λ p. record { path = p.0; text = p.1 }) (λ f. (f.path, f.text)) (λ _. refl)

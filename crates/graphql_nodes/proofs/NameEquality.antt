@@ -6,4 +6,5 @@ use Rattle.graphql_nodes.specs.contracts.name.InvalidNameErrorPartialEq.TheImpl 
 use Rattle.graphql_nodes.proofs.Comparisons.{Compares, of_part, made, texts}
 
 pub invalid_names : Compares invalid.ghosts.eq bare_invalid_name
-invalid_names = made (λ p. record { name = p; location = None }) (λ e. e.name) (λ _. refl) (of_part (λ (e : InvalidNameError). e.name) texts)
+invalid_names = made (λ p. record { name = p; location = None }) (λ e. e.name) (λ _. refl)
+    (of_part (λ (e : InvalidNameError). e.name) texts)

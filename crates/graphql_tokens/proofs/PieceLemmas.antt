@@ -1,5 +1,6 @@
 -- Pieces of a text, the first one and those behind it.
-use Rattle.std.proofs.Common.{◌≡◌, ◌+◌, ◌-◌, ◌<◌, ◌≤◌, ℕ, zero, suc, Bool, true, false, List, [], ◌∷◌, length, take, drop, cond, refl, sym, ap, subst, ◌∙◌, arith}
+use Rattle.std.proofs.Common.{◌≡◌, ◌+◌, ◌-◌, ◌<◌, ◌≤◌, ℕ, zero, suc, List, [], ◌∷◌, length, take, drop, cond}
+use Rattle.std.proofs.Common.{refl, sym, ap, ◌∙◌, arith}
 use Rattle.std.proofs.lemmas.List.{take_all, drop_all, length-drop, drop-drop}
 use Rattle.std.specs.Prelude.{nat_eq}
 use Rattle.std.proofs.lemmas.Bool.{ne_eqb}
@@ -9,70 +10,71 @@ module _ (size : List ℕ → ℕ) where
   -- what is still of the piece before is passed over
   passed : (k : ℕ) (xs : List ℕ) → k ≤ length xs → pieces size k xs ≡ k + pieces size 0 (drop k xs)
   passed zero xs within = omega arith
-  passed (suc k) [] within = absurd (omega (arith, within))
-  passed (suc k) (c ∷ cs) within = let more = passed k cs (omega (arith, within)) in omega (arith, more)
+  passed (suc k) [] within = absurd (omega arith)
+  passed (suc k) (c ∷ cs) within = omega (arith, passed k cs (omega arith))
 
   -- it is counted
   pub pieces_of_before : (k : ℕ) (xs : List ℕ) → k ≤ length xs → k ≤ pieces size k xs
-  pieces_of_before k xs within = let whole = passed k xs within in omega (arith, whole)
+  pieces_of_before k xs within = omega (arith, passed k xs within)
 
   -- a piece, and those behind it
-  pub first_piece : (xs : List ℕ) → 0 < size xs → size xs ≤ length xs → pieces size 0 xs ≡ size xs + pieces size 0 (drop (size xs) xs)
-  first_piece [] some within = absurd (omega (arith, some, within))
+  pub first_piece : (xs : List ℕ) → 0 < size xs → size xs ≤ length xs
+      → pieces size 0 xs ≡ size xs + pieces size 0 (drop (size xs) xs)
+  first_piece [] some within = absurd (omega arith)
   first_piece (c ∷ cs) some within = by (size (c ∷ cs)) some within
     where
-      by : (n : ℕ) → 0 < n → n ≤ length (c ∷ cs) → cond (nat_eq n 0) 0 (pieces size (n - 1) cs + 1) ≡ n + pieces size 0 (drop n (c ∷ cs))
-      by zero some within = absurd (omega (arith, some))
+      by : (n : ℕ) → 0 < n → n ≤ length (c ∷ cs)
+          → cond (nat_eq n 0) 0 (pieces size (n - 1) cs + 1) ≡ n + pieces size 0 (drop n (c ∷ cs))
+      by zero some within = absurd (omega arith)
       by (suc n) some within =
           let here : cond (nat_eq (suc n) 0) 0 (pieces size (suc n - 1) cs + 1) ≡ pieces size n cs + 1 =
           let one : suc n - 1 ≡ n = omega arith in
-          rw (ne_eqb (suc n) 0 (λ e. omega (arith, e))) (ap (λ (k : ℕ). pieces size k cs + 1) one) in
-          let more = passed n cs (omega (arith, within)) in omega (arith, here, more)
+          rw (ne_eqb (suc n) 0 (λ e. omega arith)) (ap (λ (k : ℕ). pieces size k cs + 1) one) in
+          omega (arith, passed n cs (omega arith))
 
   -- there is none
   pub no_piece : (xs : List ℕ) → size xs ≡ 0 → pieces size 0 xs ≡ 0
   no_piece [] none = refl
-  no_piece (c ∷ cs) none = rw none refl
+  no_piece (c ∷ cs) none = rw none
 
 -- pieces lie within the text
 pub pieces_within : (size : List ℕ → ℕ) (left : ℕ) (xs : List ℕ) → pieces size left xs ≤ length xs
 pieces_within size left [] = omega arith
-pieces_within size (suc left) (c ∷ cs) = let more = pieces_within size left cs in omega (arith, more)
-pieces_within size zero (c ∷ cs) = by (nat_eq (size (c ∷ cs)) 0) (pieces_within size (size (c ∷ cs) - 1) cs)
-  where
-    by : (b : Bool) → pieces size (size (c ∷ cs) - 1) cs ≤ length cs → cond b 0 (pieces size (size (c ∷ cs) - 1) cs + 1) ≤ suc (length cs)
-    by true more = omega arith
-    by false more = omega (arith, more)
+pieces_within size (suc left) (c ∷ cs) = omega (arith, pieces_within size left cs)
+pieces_within size zero (c ∷ cs) = grind (arith, pieces_within size (size (c ∷ cs) - 1) cs)
 
 -- the rest of a text, as a slice of it is seen
 abbrev pub rest_at : ℕ → List ℕ → List ℕ
 rest_at at text = take (length text - at) (drop at text)
 
 pub rest-is : (at : ℕ) (text : List ℕ) → rest_at at text ≡ drop at text
-rest-is at text = take_all (length text - at) (drop at text) (let long = length-drop at text in omega (arith, long))
+rest-is at text = take_all _ (drop at text) (omega (arith, length-drop at text))
 
 pub length-rest_at : (at : ℕ) (text : List ℕ) → length (rest_at at text) ≡ length text - at
-length-rest_at at text = ap length (rest-is at text) ∙ length-drop at text
+length-rest_at at text = rw rest-is (length-drop at text)
 
-module _ (size : List ℕ → ℕ) (text : List ℕ) (at : ℕ) (whole : at + pieces size 0 (drop at text) ≡ pieces size 0 text) where
+module _ (size : List ℕ → ℕ) (text : List ℕ) (at : ℕ) (whole : at + pieces size 0 (drop at text)
+    ≡ pieces size 0 text) where
   -- behind a piece
-  pub behind_piece : (n : ℕ) → n ≡ size (rest_at at text) → 0 < n → n ≤ length (rest_at at text) → (at + n) + pieces size 0 (drop (at + n) text) ≡ pieces size 0 text
+  pub behind_piece : (n : ℕ) → n ≡ size (rest_at at text) → 0 < n → n ≤ length (rest_at at text)
+      → (at + n) + pieces size 0 (drop (at + n) text) ≡ pieces size 0 text
   behind_piece n is some within =
       let same : n ≡ size (drop at text) = is ∙ ap size (rest-is at text) in
-      let long : n ≤ length (drop at text) = subst (λ (r : List ℕ). n ≤ length r) (rest-is at text) within in
-      let step = first_piece size (drop at text) (subst (λ (k : ℕ). 0 < k) same some) (subst (λ (k : ℕ). k ≤ length (drop at text)) same long) in
-      let behind : drop (size (drop at text)) (drop at text) ≡ drop (at + n) text = drop-drop (size (drop at text)) at text ∙ ap (λ (k : ℕ). drop (at + k) text) (sym same) in
-      let more : pieces size 0 (drop (size (drop at text)) (drop at text)) ≡ pieces size 0 (drop (at + n) text) = ap (pieces size 0) behind in
-      omega (arith, step, same, more, whole)
+      let long : n ≤ length (drop at text) = rw (← rest-is at text) within in
+      let step = first_piece size (drop at text) (rw (← same) some) (rw (← same) long) in
+      let behind : drop (size (drop at text)) (drop at text) ≡ drop (at + n) text =
+      drop-drop (size (drop at text)) at text ∙ ap (λ (k : ℕ). drop (at + k) text) (sym same) in
+      let more : pieces size 0 (drop (size (drop at text)) (drop at text))
+      ≡ pieces size 0 (drop (at + n) text) = ap (pieces size 0) behind in
+      omega arith
 
   -- where no piece stands
   pub end_of_pieces : (n : ℕ) → n ≡ size (rest_at at text) → n ≡ 0 → at ≡ pieces size 0 text
   end_of_pieces n is none =
-      let ends = no_piece size (drop at text) (sym (is ∙ ap size (rest-is at text)) ∙ none) in
-      omega (arith, ends, whole)
+      omega (arith, no_piece size (drop at text) (sym (is ∙ ap size (rest-is at text)) ∙ none))
 
   -- where the text ends
   pub ends_with_text : length text ≤ at → at ≡ pieces size 0 text
   ends_with_text over =
       let ends : pieces size 0 (drop at text) ≡ 0 = ap (pieces size 0) (drop_all at text over) in
-      omega (arith, ends, whole)
+      omega arith

@@ -221,7 +221,7 @@ impl<T: Eq + Hash> PartialEq for KeySet<T> {
 
     ghost laws = { Cmp.partial_equiv_from_equiv (set_eq_equiv T.eq T.Eq.laws) };
 
-    #[tactic(auto, using(crate::proofs::SameLength::sets_of_one_length, crate::proofs::SameLength::sets_of_two_lengths))]
+    #[tactic(auto, using(crate::proofs::SameLength::sets_by_length))]
     fn eq(&self, other: &KeySet<T>) -> bool {
         self.len() == other.len() && self.has_its_keys_in(other)
     }

@@ -318,7 +318,7 @@ impl<K: Eq + Hash, V: PartialEq> PartialEq for Table<K, V> {
           trans = λ a b c. hash_map_eq_trans K.eq V.eq K.Eq.laws v.trans (as_map a) (as_map b) (as_map c);
         } };
 
-    #[tactic(auto, using(crate::proofs::SameLength::tables_of_one_length, crate::proofs::SameLength::tables_of_two_lengths))]
+    #[tactic(auto, using(crate::proofs::SameLength::tables_by_length))]
     fn eq(&self, other: &Table<K, V>) -> bool {
         self.len() == other.len() && self.has_its_values_in(other)
     }

@@ -1,4 +1,5 @@
-use Rattle.graphql_ast.proofs.DocumentEquality.{variable_definitions, operation_definitions, fragment_definitions, definitions, documents}
+use Rattle.graphql_ast.proofs.DocumentEquality.{variable_definitions, operation_definitions}
+use Rattle.graphql_ast.proofs.DocumentEquality.{fragment_definitions, definitions, documents}
 use Rattle.graphql_ast.proofs.laws.equality_of_documents.Goals as goal
 
 pub returns-clause-variable_definition : goal.returns-clause-variable_definition

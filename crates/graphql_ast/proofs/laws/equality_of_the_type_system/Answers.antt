@@ -1,4 +1,12 @@
-use Rattle.graphql_ast.proofs.TypeSystemEquality.{field_definitions, input_value_definitions, enum_value_definitions, directive_definitions, schema_definitions, scalar_type_definitions, object_type_definitions, interface_type_definitions, union_type_definitions, enum_type_definitions, input_object_type_definitions, schema_extensions, scalar_type_extensions, object_type_extensions, interface_type_extensions, union_type_extensions, enum_type_extensions, input_object_type_extensions}
+use Rattle.graphql_ast.proofs.TypeSystemEquality.{field_definitions, input_value_definitions}
+use Rattle.graphql_ast.proofs.TypeSystemEquality.{enum_value_definitions, directive_definitions}
+use Rattle.graphql_ast.proofs.TypeSystemEquality.{schema_definitions, scalar_type_definitions}
+use Rattle.graphql_ast.proofs.TypeSystemEquality.{object_type_definitions, interface_type_definitions}
+use Rattle.graphql_ast.proofs.TypeSystemEquality.{union_type_definitions, enum_type_definitions}
+use Rattle.graphql_ast.proofs.TypeSystemEquality.{input_object_type_definitions, schema_extensions}
+use Rattle.graphql_ast.proofs.TypeSystemEquality.{scalar_type_extensions, object_type_extensions}
+use Rattle.graphql_ast.proofs.TypeSystemEquality.{interface_type_extensions, union_type_extensions}
+use Rattle.graphql_ast.proofs.TypeSystemEquality.{enum_type_extensions, input_object_type_extensions}
 use Rattle.graphql_ast.proofs.laws.equality_of_the_type_system.Goals as goal
 
 pub returns-clause-field_definition : goal.returns-clause-field_definition

@@ -1,29 +1,35 @@
 -- What stands at the front of a text comes first.
-use Rattle.std.proofs.Common.{◌-◌, Option, Ok, List, [], ◌∷◌, ap, sym, ◌∙◌}
+use Rattle.std.proofs.Common.{◌-◌, Option, Ok, ap, sym, ◌∙◌}
 use Rattle.graphql_tokens.specs.First.{seen, seen_first}
 use Rattle.graphql_tokens.specs.declared.first.FirstToken.{FirstToken}
-use Rattle.graphql_grammar.specs.Words.{WordView, word_view}
-use Rattle.graphql_grammar.specs.WordsOfText.{words_at}
-use Rattle.graphql_grammar.proofs.WordLemmas.{next_left, none_left, none_of_nothing, too_many_left, wrong_left}
+use Rattle.graphql_grammar.proofs.WordLemmas.{next_left, none_left, none_of_nothing, too_many_left}
+use Rattle.graphql_grammar.proofs.WordLemmas.{wrong_left}
 use Rattle.graphql_grammar.proofs.words.split_first.Goals as goal
 
 pub returns-in-Ok-None : goal.returns-in-Ok-None
-returns-in-Ok-None c =
-    sym (none_left c.args.allowed c.args.total c.args.text.now (ap (λ (o : Option FirstToken). seen_first (Ok o)) (sym c.in-Ok-None.field-0-is) ∙ c.in-Ok-None.ensures))
+returns-in-Ok-None c = sym (none_left c.args.allowed c.args.total c.args.text.now
+    (ap (λ (o : Option FirstToken). seen_first (Ok o)) (sym c.in-Ok-None.field-0-is) ∙ c.in-Ok-None.ensures))
 
 pub returns-in-Ok-Some : goal.returns-in-Ok-Some
-returns-in-Ok-Some c =
-    ap (λ (ws : List WordView). word_view c.too_many.result ∷ ws) (none_of_nothing (c.args.allowed - 1) c.args.total)
-    ∙ ap (λ (w : WordView). w ∷ []) c.too_many.ensures
-    ∙ sym (too_many_left c.args.allowed c.args.total c.args.text.now (seen c.in-Ok-Some.token) c.if-allowed-eq0.true (ap (λ (o : Option FirstToken). seen_first (Ok o)) (sym c.in-Ok-Some.field-0-is) ∙ c.in-Ok-Some.ensures))
+returns-in-Ok-Some c = simp (
+  none_of_nothing (c.args.allowed - 1) c.args.total,
+  c.too_many.ensures,
+  too_many_left c.args.allowed c.args.total c.args.text.now (seen c.in-Ok-Some.token) c.if-allowed-eq0.true
+      (ap (λ (o : Option FirstToken). seen_first (Ok o)) (sym c.in-Ok-Some.field-0-is)
+      ∙ c.in-Ok-Some.ensures),
+)
 
 pub returns-in-Ok-Some-2 : goal.returns-in-Ok-Some-2
-returns-in-Ok-Some-2 c =
-    ap (λ (w : WordView). w ∷ words_at (c.args.allowed - 1) c.args.total c.in-Ok-Some.token.rest.now) c.word_of.ensures
-    ∙ sym (next_left c.args.allowed c.args.total c.args.text.now (seen c.in-Ok-Some.token) c.if-allowed-eq0.false (ap (λ (o : Option FirstToken). seen_first (Ok o)) (sym c.in-Ok-Some.field-0-is) ∙ c.in-Ok-Some.ensures))
+returns-in-Ok-Some-2 c = simp (
+  c.word_of.ensures,
+  next_left c.args.allowed c.args.total c.args.text.now (seen c.in-Ok-Some.token)
+      c.if-allowed-eq0.false (ap (λ (o : Option FirstToken). seen_first (Ok o)) (sym c.in-Ok-Some.field-0-is)
+      ∙ c.in-Ok-Some.ensures),
+)
 
 pub returns-in-Err : goal.returns-in-Err
-returns-in-Err c =
-    ap (λ (ws : List WordView). word_view c.wrong.result ∷ ws) (none_of_nothing (c.args.allowed - 1) c.args.total)
-    ∙ ap (λ (w : WordView). w ∷ []) c.wrong.ensures
-    ∙ sym (wrong_left c.args.allowed c.args.total c.args.text.now c.in-Err.error c.in-Err.ensures)
+returns-in-Err c = simp (
+  none_of_nothing (c.args.allowed - 1) c.args.total,
+  c.wrong.ensures,
+  wrong_left c.args.allowed c.args.total c.args.text.now c.in-Err.error c.in-Err.ensures,
+)

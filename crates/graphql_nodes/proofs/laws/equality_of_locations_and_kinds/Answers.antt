@@ -2,7 +2,8 @@ use Rattle.graphql_nodes.specs.contracts.operation_type.OperationType as operati
 use Rattle.graphql_nodes.specs.contracts.type_kind.TypeKind as kind
 use Rattle.graphql_nodes.specs.contracts.directive_location.DirectiveLocation as location
 use Rattle.graphql_nodes.proofs.Comparisons.{kinds}
-use Rattle.graphql_nodes.proofs.LocationEquality.{file_ids, source_spans, line_columns, source_files, hash_keys}
+use Rattle.graphql_nodes.proofs.LocationEquality.{file_ids, source_spans, line_columns, source_files}
+use Rattle.graphql_nodes.proofs.LocationEquality.{hash_keys}
 use Rattle.graphql_nodes.proofs.laws.equality_of_locations_and_kinds.Goals as goal
 
 pub returns-clause-file_id : goal.returns-clause-file_id

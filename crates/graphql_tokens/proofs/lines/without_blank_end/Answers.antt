@@ -11,8 +11,8 @@ returns-then-not-is_blank_line c =
     let rest = c.lines.rest.now in
     let none : Bor (List ℕ) = record { ref_ptr = (0, 0); now = [] } in
     sym (last_of_lines rest none c.is_blank_line.result c.is_blank_line.ensures c.in-len1-up.len_at_least
-    ∙ ap (λ (b : Bool). cond b (without_blank_end (texts_of (take (length rest - 1) rest))) (texts_of rest)) c.if-not-is_blank_line.true)
-    ∙ c.lines.invariant.same
+    ∙ ap (λ (b : Bool). cond b (without_blank_end (texts_of (take (length rest - 1) rest)))
+    (texts_of rest)) c.if-not-is_blank_line.true) ∙ c.lines.invariant.same
 
 pub lines-preserved : goal.lines-preserved
 lines-preserved c =
@@ -21,9 +21,9 @@ lines-preserved c =
     let less : length rest - 1 ≤ length rest = omega arith in
     let long = length-take-le (length rest - 1) rest less in
     record {
-      within = omega (arith, long, less, c.lines.invariant.within);
-      same =
-          sym (last_of_lines rest none c.is_blank_line.result c.is_blank_line.ensures c.in-len1-up.len_at_least
-          ∙ ap (λ (b : Bool). cond b (without_blank_end (texts_of (take (length rest - 1) rest))) (texts_of rest)) c.if-not-is_blank_line.false)
-          ∙ c.lines.invariant.same;
+      within = omega (arith, c.lines.invariant.within);
+      same = sym (last_of_lines rest none c.is_blank_line.result c.is_blank_line.ensures
+          c.in-len1-up.len_at_least
+          ∙ ap (λ (b : Bool). cond b (without_blank_end (texts_of (take (length rest - 1) rest)))
+          (texts_of rest)) c.if-not-is_blank_line.false) ∙ c.lines.invariant.same;
     }

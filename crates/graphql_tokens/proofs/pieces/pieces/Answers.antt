@@ -10,17 +10,18 @@ pieces-preserved g c =
     let old = c.pieces.invariant in
     let long = length-rest_at c.pieces.at c.args.text.now in
     record {
-      within = omega (arith, old.within, c.size-size.ensures.within, long);
-      whole = behind_piece g.P.Piece.size c.args.text.now c.pieces.at old.whole c.size-size.result c.size-size.ensures.same
-          (omega (arith, c.if-size-eq0.false)) c.size-size.ensures.within;
+      within = omega (arith, old.within, c.size-size.ensures.within);
+      whole = behind_piece g.P.Piece.size c.args.text.now c.pieces.at old.whole c.size-size.result
+          c.size-size.ensures.same (omega (arith, c.if-size-eq0.false)) c.size-size.ensures.within;
     }
 
 pub returns-then-size-eq0-clause-same : goal.returns-then-size-eq0-clause-same
-returns-then-size-eq0-clause-same g c =
-    end_of_pieces g.P.Piece.size c.args.text.now c.pieces.at c.pieces.invariant.whole c.size-size.result c.size-size.ensures.same c.if-size-eq0.true
+returns-then-size-eq0-clause-same g c = end_of_pieces g.P.Piece.size c.args.text.now c.pieces.at
+    c.pieces.invariant.whole c.size-size.result c.size-size.ensures.same c.if-size-eq0.true
 
 pub returns-clause-same : goal.returns-clause-same
-returns-clause-same g c = ends_with_text g.P.Piece.size c.args.text.now c.pieces.at c.pieces.invariant.whole (omega (arith, c.pieces-test.false))
+returns-clause-same g c = ends_with_text g.P.Piece.size c.args.text.now c.pieces.at c.pieces.invariant.whole
+    (omega (arith, c.pieces-test.false))
 
 pub returns-clause-within : goal.returns-clause-within
 returns-clause-within g c = c.pieces.invariant.within

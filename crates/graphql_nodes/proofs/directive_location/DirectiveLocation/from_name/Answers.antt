@@ -32,9 +32,10 @@ of_each P all at.InputObject = all 17 at.InputObject (lit< tt)
 of_each P all at.InputFieldDefinition = all 18 at.InputFieldDefinition (lit< tt)
 
 pub loop-location-preserved : goal.loop-location-preserved
-loop-location-preserved c =
-    All-more (λ location. location_text location ≢ c.args.name.now) _ c.loop-location.location-index _ c.loop-location-test.true c.loop-location.invariant (λ e. other_text _ _ c.if-eq.ensures (c.name.ensures ∙ e))
+loop-location-preserved c = All-more (λ location. location_text location ≢ c.args.name.now) _
+    c.loop-location.location-index _ c.loop-location-test.true c.loop-location.invariant
+    (λ e. other_text _ _ c.if-eq.ensures (c.name.ensures ∙ e))
 
 pub returns : goal.returns
-returns c =
-    of_each (λ location. location_text location ≢ c.args.name.now) (λ k d lt. grind (arith, take_all, c.loop-location.invariant k d))
+returns c = of_each (λ location. location_text location ≢ c.args.name.now) (λ k d lt.
+    grind (arith, take_all, c.loop-location.invariant k d))

@@ -1,4 +1,4 @@
-use Rattle.std.proofs.Common.{◌≡◌, ◌++◌, ◌≤◌, List, ℕ, length, ap, ◌∙◌, arith}
+use Rattle.std.proofs.Common.{◌≡◌, ◌≤◌, length, arith}
 use Rattle.std.specs.Prelude.{string_bytes}
 use Rattle.std.specs.List.{prefix_len}
 use Rattle.graphql_tokens.specs.StringValues.{bytes_of, characters_say, escaped, is_plain}
@@ -8,37 +8,36 @@ use Rattle.graphql_tokens.proofs.StringLemmas.{escape_cut, escape_said, plain_cu
 use Rattle.graphql_tokens.proofs.values.CharactersSays.push.Goals as goal
 
 pub range-requires-clause-end_boundary : goal.range-requires-clause-end_boundary
-range-requires-clause-end_boundary c =
-    let is : c.plain_bytes-plain.result ≡ prefix_len is_plain c.args.text.now = c.plain_bytes-plain.ensures.same ∙ ap (prefix_len is_plain) c.as_bytes.ensures.value in
-    plain_cut c.args.text.now c.plain_bytes-plain.result is
+range-requires-clause-end_boundary c = plain_cut c.args.text.now c.plain_bytes-plain.result cc
 
 pub range_from-requires : goal.range_from-requires
-range_from-requires c =
-    let is : c.plain_bytes-plain.result ≡ prefix_len is_plain c.args.text.now = c.plain_bytes-plain.ensures.same ∙ ap (prefix_len is_plain) c.as_bytes.ensures.value in
-    λ _. plain_cut c.args.text.now c.plain_bytes-plain.result is
+range_from-requires c = λ _. plain_cut c.args.text.now c.plain_bytes-plain.result cc
 
 pub returns-then-plain-gt0-clause-said : goal.returns-then-plain-gt0-clause-said
 returns-then-plain-gt0-clause-said c =
     let text = c.args.text.now in
-    let is : c.plain_bytes-plain.result ≡ prefix_len is_plain text = c.plain_bytes-plain.ensures.same ∙ ap (prefix_len is_plain) c.as_bytes.ensures.value in
-    run_said characters_say text (string_bytes c.args.value.now) (string_bytes c.push_str.new.self) c.range.result.now c.range_from.result.now c.plain_bytes-plain.result (prefix_len is_plain text)
+    let is : c.plain_bytes-plain.result ≡ prefix_len is_plain text = cc in
+    run_said characters_say text (string_bytes c.args.value.now) (string_bytes c.push_str.new.self)
+    c.range.result.now c.range_from.result.now c.plain_bytes-plain.result (prefix_len is_plain text)
     (plain_run text) is c.range.ensures.value c.range_from.ensures.value c.in_ok-push_str.ensures.bytes
 
 pub range_from-requires-2 : goal.range_from-requires-2
 range_from-requires-2 c =
     let text = c.args.text.now in
-    let is : c.plain_bytes-plain.result ≡ prefix_len is_plain text = c.plain_bytes-plain.ensures.same ∙ ap (prefix_len is_plain) c.as_bytes.ensures.value in
-    let none : prefix_len is_plain text ≡ 0 = omega (arith, is, c.if-plain-gt0.false) in
-    let size : c.size-size.result ≡ character_size text = c.size-size.ensures.same ∙ ap character_size c.as_bytes-2.ensures.value in
-    λ _. escape_cut text c.size-size.result c.utf8.text none size (omega (arith, c.if-size-eq0.false))
+    let is : c.plain_bytes-plain.result ≡ prefix_len is_plain text = cc in
+    let size : c.size-size.result ≡ character_size text = cc in
+    λ _. escape_cut text c.size-size.result c.utf8.text (omega (arith, is, c.if-plain-gt0.false)) size
+    (omega (arith, c.if-size-eq0.false))
 
 pub returns-clause-said : goal.returns-clause-said
 returns-clause-said c =
     let text = c.args.text.now in
-    let is : c.plain_bytes-plain.result ≡ prefix_len is_plain text = c.plain_bytes-plain.ensures.same ∙ ap (prefix_len is_plain) c.as_bytes.ensures.value in
+    let is : c.plain_bytes-plain.result ≡ prefix_len is_plain text = cc in
     let none : prefix_len is_plain text ≡ 0 = omega (arith, is, c.if-plain-gt0.false) in
-    let size : c.size-size.result ≡ character_size text = c.size-size.ensures.same ∙ ap character_size c.as_bytes-2.ensures.value in
-    let within : c.size-size.result ≤ length text = omega (arith, c.size-size.ensures.within, c.as_bytes-2.ensures.len) in
-    said_more characters_say text (string_bytes c.args.value.now) (string_bytes c.push_escaped.new.value) (bytes_of (escaped text)) c.range_from-2.result.now
-    (escape_said text c.range_from-2.result.now c.size-size.result none size (omega (arith, c.if-size-eq0.false)) within c.range_from-2.ensures.value)
-    (c.in_ok-push_escaped.ensures ∙ ap (λ (b : List ℕ). string_bytes c.args.value.now ++ bytes_of (escaped b)) c.as_bytes-3.ensures.value)
+    let size : c.size-size.result ≡ character_size text = cc in
+    let within : c.size-size.result ≤ length text =
+    omega (arith, c.size-size.ensures.within, c.as_bytes-2.ensures.len) in
+    said_more characters_say text (string_bytes c.args.value.now) (string_bytes c.push_escaped.new.value)
+    (bytes_of (escaped text)) c.range_from-2.result.now (escape_said text c.range_from-2.result.now
+    c.size-size.result none size (omega (arith, c.if-size-eq0.false)) within c.range_from-2.ensures.value)
+    (cc (c.in_ok-push_escaped.ensures, c.as_bytes-3.ensures.value))

@@ -6,7 +6,11 @@ use Rattle.graphql_nodes.proofs.collections.hash_keys.KeyedHasherHasher.write.Go
 
 pub returns-then-len-le8 : goal.returns-then-len-le8
 unfolding write
-returns-then-len-le8 c = rw (c.folded_multiply-self.ensures, c.read_short.ensures, le-leb (length c.args.bytes.now) 8 c.if-len-le8.true)
+returns-then-len-le8 c = rw (
+  c.folded_multiply-self.ensures,
+  c.read_short.ensures,
+  le-leb (length c.args.bytes.now) 8 c.if-len-le8.true,
+)
 
 pub loop-at-init : goal.loop-at-init
 unfolding mix_blocks
@@ -27,5 +31,12 @@ pub returns : goal.returns
 unfolding write
 returns c =
     let n : ℕ = length c.args.bytes.now in
-    let count : (n - 1) / 16 ≡ c.loop-at.at / 16 = omega (arith, c.loop-at.invariant.0, c.loop-at.invariant.1, c.loop-at-test.false) in
-    rw (lt-leb n 8 c.if-len-le8.false, count, ← c.loop-at.invariant.2, c.mix-self.ensures, c.saturating_sub.ensures)
+    let count : (n - 1) / 16 ≡ c.loop-at.at / 16 =
+    omega (arith, c.loop-at.invariant.0, c.loop-at.invariant.1, c.loop-at-test.false) in
+    rw (
+      lt-leb n 8 c.if-len-le8.false,
+      count,
+      ← c.loop-at.invariant.2,
+      c.mix-self.ensures,
+      c.saturating_sub.ensures,
+    )

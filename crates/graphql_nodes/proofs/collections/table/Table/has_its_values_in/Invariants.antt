@@ -6,4 +6,5 @@ use Rattle.graphql_nodes.specs.Tables.{keys_of, lookup}
 use Rattle.graphql_nodes.proofs.collections.table.Table.has_its_values_in.Given as goal
 
 abbrev pub invariant-loop-place : goal.invariant-loop-place
-invariant-loop-place g l = list_all (λ k. option_eq g.V.PartialEq.eq (lookup (g.K.PartialEq.eq k) l.self) (lookup (g.K.PartialEq.eq k) l.other)) (keys_of (take l.place l.self)) ≡ true
+invariant-loop-place g l = list_all (λ k. option_eq g.V.PartialEq.eq (lookup (g.K.PartialEq.eq k) l.self)
+    (lookup (g.K.PartialEq.eq k) l.other)) (keys_of (take l.place l.self)) ≡ true
