@@ -1,5 +1,6 @@
 -- Block strings of descriptions are read back: GraphQL specification of October 2021, section 2.9.4.
-use Rattle.std.proofs.Common.{◌≡◌, ◌+◌, ℕ, true, false, List, [], ◌∷◌, ◌++◌, Ok, Some, length, drop, refl, sym, ap, ◌∙◌, arith, append_assoc, length-append}
+use Rattle.std.proofs.Common.{◌≡◌, ◌+◌, ℕ, true, false, List, [], ◌∷◌, ◌++◌, Ok, Some, length, drop, refl}
+use Rattle.std.proofs.Common.{sym, ap, ◌∙◌, arith, append_assoc, length-append}
 use Rattle.std.specs.Prelude.{not}
 use Rattle.std.proofs.lemmas.Bool.{and_parts, not-true}
 use Rattle.std.proofs.lemmas.List.{drop_at, take_at}
@@ -14,15 +15,19 @@ use Rattle.graphql_printing.proofs.BlockValue.{block_says}
 use lib.Pointwise.{bytes_decides}
 
 printable : (text : List ℕ) → is_block text ≡ true → has_unprintable text ≡ false
-printable text h = not-true (has_unprintable text) (and_parts (reads_back text) (not (has_unprintable text)) h).1
+printable text h = not-true _ (and_parts _ _ h).1
 
 -- characters with quotes behind them
-token_of_characters : (characters rest : List ℕ) → block_characters (characters ++ 34 ∷ 34 ∷ 34 ∷ rest) ≡ length characters
-    → block_string_token (characters ++ 34 ∷ 34 ∷ 34 ∷ rest) ≡ Ok (record { kind = k.BlockString; size = length characters + 6 })
-token_of_characters characters rest counts = rw (counts, drop_at characters (34 ∷ 34 ∷ 34 ∷ rest) (length characters) refl) refl
+token_of_characters : (characters rest : List ℕ)
+    → block_characters (characters ++ 34 ∷ 34 ∷ 34 ∷ rest) ≡ length characters
+    → block_string_token (characters ++ 34 ∷ 34 ∷ 34 ∷ rest)
+    ≡ Ok (record { kind = k.BlockString; size = length characters + 6 })
+token_of_characters characters rest counts = rw (counts, drop_at characters _ _ refl) refl
 
 -- a block string is one token, whatever stands behind it
-pub block_is_a_token : (indent : ℕ) (text rest : List ℕ) → is_block text ≡ true → lexeme (block indent text ++ rest) ≡ Ok (record { kind = k.BlockString; size = length (block indent text) })
+pub block_is_a_token : (indent : ℕ) (text rest : List ℕ) → is_block text ≡ true
+    → lexeme (block indent text ++ rest)
+    ≡ Ok (record { kind = k.BlockString; size = length (block indent text) })
 block_is_a_token indent text rest h =
     let characters = with_marks 0 (body indent text) in
     let counts = (body_spelled indent text rest (printable text h)).counts in
@@ -36,20 +41,28 @@ block_is_a_token indent text rest h =
 
 -- it stands first
 pub first_is_block : (indent : ℕ) (text rest : List ℕ) → is_block text ≡ true
-    → first_of (block indent text ++ rest) ≡ Ok (Some (record { passed = 0; kind = k.BlockString; text = block indent text; rest = rest }))
+    → first_of (block indent text ++ rest)
+    ≡ Ok (Some (record { passed = 0; kind = k.BlockString; text = block indent text; rest = rest }))
 first_is_block indent text rest h =
     let token = block indent text in
     ap (λ (t : List ℕ). first_of (t ++ rest)) (block_is indent text)
     ∙ ap (λ (t : List ℕ). read_behind 0 (t ++ rest) (lexeme (t ++ rest))) (sym (block_is indent text))
-    ∙ ap (read_behind 0 (token ++ rest)) (block_is_a_token indent text rest h)
-    ∙ ap (λ (t : List ℕ). Ok (Some (record { passed = 0; kind = k.BlockString; text = t; rest = drop (length token) (token ++ rest) }))) (take_at token rest (length token) refl)
-    ∙ ap (λ (t : List ℕ). Ok (Some (record { passed = 0; kind = k.BlockString; text = token; rest = t }))) (drop_at token rest (length token) refl)
+    ∙ ap (read_behind 0 (token ++ rest)) (block_is_a_token indent text rest h) ∙ ap (λ (t : List ℕ). Ok
+    (Some (record {
+      passed = 0;
+      kind = k.BlockString;
+      text = t;
+      rest = drop (length token) (token ++ rest);
+    }))) (take_at token rest (length token) refl)
+    ∙ ap (λ (t : List ℕ). Ok (Some (record { passed = 0; kind = k.BlockString; text = token; rest = t })))
+    (drop_at token rest (length token) refl)
 
 -- and says the text, however far in it stands
-pub block_says_the_text : (indent : ℕ) (text : List ℕ) → is_block text ≡ true → block_string_value (block indent text) ≡ text
+pub block_says_the_text : (indent : ℕ) (text : List ℕ) → is_block text ≡ true
+    → block_string_value (block indent text) ≡ text
 unfolding reads_back
 block_says_the_text indent text h =
     let plain = printable text h in
-    block_says indent text plain
-    ∙ sym (block_says 0 text plain)
-    ∙ (bytes_decides (block_string_value (block 0 text)) text).0 (and_parts (reads_back text) (not (has_unprintable text)) h).0
+    block_says indent text plain ∙ sym (block_says 0 text plain)
+    ∙ (bytes_decides (block_string_value (block 0 text)) text).0 (and_parts (reads_back text)
+    (not (has_unprintable text)) h).0

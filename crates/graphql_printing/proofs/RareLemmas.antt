@@ -15,5 +15,5 @@ common c cs h =
 pub none_rare : (text : List ℕ) → list_any is_rare text ≡ false → has_unprintable text ≡ false
 none_rare [] h = refl
 none_rare (c ∷ cs) h =
-    let parts = or_parts (is_rare c) (list_any is_rare cs) h in
+    let parts = or_parts _ _ h in
     rw (common c cs parts.0) (none_rare cs parts.1)

@@ -16,7 +16,8 @@ use Rattle.graphql_productions.specs.WellFormed.{IsWellFormedPart}
 use Rattle.graphql_productions.proofs.NameTexts.{name_text}
 use Rattle.graphql_productions.proofs.PartLaws.{Serves}
 
-split_all : {X : Type 0} (P : X → Type 0) (xs ys : List X) → AllByRecursion P (xs ++ ys) → AllByRecursion P xs × AllByRecursion P ys
+split_all : {X : Type 0} (P : X → Type 0) (xs ys : List X) → AllByRecursion P (xs ++ ys)
+    → AllByRecursion P xs × AllByRecursion P ys
 split_all P [] ys all = (tt, all)
 split_all P (x ∷ xs) ys all = let rest = split_all P xs ys all.1 in ((all.0, rest.0), rest.1)
 
@@ -41,7 +42,8 @@ well_formed file = record {
   split = split_all HasItsText;
   node = λ w ws known. tt;
   name = λ w known h. named names.Any w known.0 h;
-  fragment_name = λ w known h. (named names.Fragment w known.0 h, is_no names.Fragment w known.0 h (codes "on") refl);
+  fragment_name = λ w known h.
+      (named names.Fragment w known.0 h, is_no names.Fragment w known.0 h (codes "on") refl);
   enum_name = λ w known h. (
     named names.EnumValue w known.0 h,
     is_no names.EnumValue w known.0 h (codes "true") refl,

@@ -10,21 +10,26 @@ use Rattle.graphql_grammar.proofs.ReadingLemmas.{ok_is}
 use Rattle.graphql_text.specs.Parses.{Answers, IsRefused, Parsed}
 use Rattle.graphql_text.specs.declared.parse_error.ParseError.{ParseError}
 
-module _ {A : Type 0} {p : Piece A} {spells further : A → List WordView → Type 0} (law : Judged p spells further) (file : FileId) (total : ℕ) (words left : List WordView) where
-  pub found : (r : Result A ReadError) (answer : Result A ParseError) → GivesAll r left (read_all p words) → Parsed file total left r answer → IfOk answer (λ x. spells x words)
+module _ {A : Type 0} {p : Piece A} {spells further : A → List WordView → Type 0}
+    (law : Judged p spells further) (file : FileId) (total : ℕ) (words left : List WordView) where
+  pub found : (r : Result A ReadError) (answer : Result A ParseError) → GivesAll r left (read_all p words)
+      → Parsed file total left r answer → IfOk answer (λ x. spells x words)
   found (Ok x) (Ok y) gives parsed = subst (λ (z : A). spells z words) (sym parsed) (law.found words x gives)
   found (Ok x) (Err e) gives parsed = tt
   found (Err error) (Ok y) gives parsed = absurd parsed
   found (Err error) (Err e) gives parsed = tt
 
-  pub only : (r : Result A ReadError) (answer : Result A ParseError) → GivesAll r left (read_all p words) → Parsed file total left r answer → (x : A) → spells x words → Answers x answer
+  pub only : (r : Result A ReadError) (answer : Result A ParseError) → GivesAll r left (read_all p words)
+      → Parsed file total left r answer → (x : A) → spells x words → Answers x answer
   only (Ok y) (Ok z) gives parsed x h = parsed ∙ ok_is y x (sym gives ∙ law.only words x h)
   only (Ok y) (Err e) gives parsed x h = absurd parsed
   only (Err error) (Ok z) gives parsed x h = absurd parsed
   only (Err errors.Memory) (Err e) gives parsed x h = parsed
-  only (Err (errors.Fault kind)) (Err e) gives parsed x h = absurd (let w = sym gives ∙ law.only words x h in cc)
+  only (Err (errors.Fault kind)) (Err e) gives parsed x h =
+      absurd (let w = sym gives ∙ law.only words x h in cc)
 
-  pub refused : (r : Result A ReadError) (answer : Result A ParseError) → GivesAll r left (read_all p words) → Parsed file total left r answer → IfErr answer (IsRefused p spells further file total words)
+  pub refused : (r : Result A ReadError) (answer : Result A ParseError) → GivesAll r left (read_all p words)
+      → Parsed file total left r answer → IfErr answer (IsRefused p spells further file total words)
   refused (Ok x) (Ok y) gives parsed = tt
   refused (Ok x) (Err e) gives parsed = absurd parsed
   refused (Err error) (Ok y) gives parsed = tt
@@ -33,5 +38,11 @@ module _ {A : Type 0} {p : Piece A} {spells further : A → List WordView → Ty
       let r : Refusal = record { kind = kind; left = left } in
       elim parsed [
         | inl memory ↦ inl memory
-        | inr reports ↦ inr (inr (record { refusal = r; first = gives; ruled_out = law.ruled_out words r gives; can_go_on = law.can_go_on words r gives; reports = reports }))
+        | inr reports ↦ inr (inr (record {
+          refusal = r;
+          first = gives;
+          ruled_out = law.ruled_out words r gives;
+          can_go_on = law.can_go_on words r gives;
+          reports = reports;
+        }))
       ]

@@ -6,7 +6,7 @@ ghost use Rattle.graphql_grammar.specs.Standing.{standing};
 ghost use Rattle.graphql_grammar.specs.declared.kind.Kind.TheVariants.{At};
 ghost use Rattle.graphql_productions.specs.Directives.{argument_node, arguments, directive_node, directives};
 ghost use Rattle.graphql_productions.specs.Directives.{no_argument, no_directive};
-ghost use Rattle.graphql_productions.proofs.DirectiveLaws.{argument_law, directive_law};
+ghost use Rattle.graphql_productions.proofs.DirectiveLaws.{argument_tame, directive_tame};
 
 use crate::reading::lists::{Read, optional_items, push_items};
 use crate::reading::target::{Target, sign};
@@ -25,7 +25,7 @@ impl Read for Node<Argument> {
 
     ghost wrong = { no_argument };
 
-    ghost law = { argument_law };
+    ghost law = { λ file constant depth. (argument_tame file constant depth).law };
 
     fn begins(kind: Kind) -> bool {
         kind.is_name()
@@ -64,7 +64,7 @@ impl Read for Node<Directive> {
 
     ghost wrong = { no_directive };
 
-    ghost law = { directive_law };
+    ghost law = { λ file constant depth. (directive_tame file constant depth).law };
 
     fn begins(kind: Kind) -> bool {
         kind.is(Kind::At)

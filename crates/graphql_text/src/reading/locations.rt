@@ -4,7 +4,7 @@ ghost use Rattle.graphql_grammar.specs.Standing.{standing};
 ghost use Rattle.graphql_productions.specs.Locations.{location_of};
 ghost use Rattle.graphql_productions.specs.TypeSystem.{location, no_location};
 ghost use Rattle.graphql_text.specs.Seen.{next_location};
-ghost use Rattle.graphql_productions.proofs.DefinitionLaws.{location_law};
+ghost use Rattle.graphql_productions.proofs.DefinitionLaws.{location_tame};
 
 use crate::reading::separated::Single;
 use crate::reading::target::Target;
@@ -44,7 +44,7 @@ fn next_location(words: &Words<'_>) -> Option<DirectiveLocation>
 impl Single for DirectiveLocation {
     ghost piece = { λ _. location };
 
-    ghost law = { λ _. location_law };
+    ghost law = { λ _. location_tame.law };
 
     #[tactic(auto, unfolding(graphql_productions::specs::TypeSystem::location))]
     fn read(_target: Target, words: &mut Words<'_>) -> Result<DirectiveLocation, ReadError> {

@@ -8,7 +8,7 @@ ghost use Rattle.graphql_productions.specs.Operations.{default_value, fragment_d
 ghost use Rattle.graphql_productions.specs.Operations.{operation, operation_name, operation_type, shorthand};
 ghost use Rattle.graphql_productions.specs.Operations.{typed, variable_node, variables};
 ghost use Rattle.graphql_text.specs.Seen.{seen_typed};
-ghost use Rattle.graphql_productions.proofs.OperationLaws.{variable_definition_law};
+ghost use Rattle.graphql_productions.proofs.OperationLaws.{variable_definition_tame};
 
 use crate::reading::directives::directives;
 use crate::reading::lists::{Read, optional_items};
@@ -100,7 +100,7 @@ impl Read for Node<VariableDefinition> {
 
     ghost wrong = { no_variable };
 
-    ghost law = { λ file _ depth. variable_definition_law file depth };
+    ghost law = { λ file _ depth. (variable_definition_tame file depth).law };
 
     fn begins(kind: Kind) -> bool {
         kind.is(Kind::Dollar)

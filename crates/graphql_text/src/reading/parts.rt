@@ -10,8 +10,8 @@ ghost use Rattle.graphql_productions.specs.TypeSystem.{enum_value_name, enum_val
 ghost use Rattle.graphql_productions.specs.TypeSystem.{expecting, field_node, fielded, fields, input_node};
 ghost use Rattle.graphql_productions.specs.TypeSystem.{input_values, is_described_name, is_enum_value};
 ghost use Rattle.graphql_productions.specs.TypeSystem.{names_behind, no_enum_value, parts, root_node, roots};
-ghost use Rattle.graphql_productions.proofs.TypeSystemLaws.{enum_value_law, field_definition_law};
-ghost use Rattle.graphql_productions.proofs.TypeSystemLaws.{input_value_law, root_law};
+ghost use Rattle.graphql_productions.proofs.TypeSystemLaws.{enum_value_tame, field_definition_tame};
+ghost use Rattle.graphql_productions.proofs.TypeSystemLaws.{input_value_tame, root_tame};
 ghost use Rattle.graphql_grammar.specs.declared.fault.Item.TheVariants.{FieldDefinition as FieldItem};
 ghost use Rattle.graphql_grammar.specs.declared.fault.Item.TheVariants.{InputValue};
 
@@ -44,7 +44,7 @@ impl Read for Node<InputValueDefinition> {
 
     ghost wrong = { expecting InputValue };
 
-    ghost law = { λ file _ depth. input_value_law file depth };
+    ghost law = { λ file _ depth. (input_value_tame file depth).law };
 
     fn begins(kind: Kind) -> bool {
         is_described_name(kind)
@@ -99,7 +99,7 @@ impl Read for Node<FieldDefinition> {
 
     ghost wrong = { expecting FieldItem };
 
-    ghost law = { λ file _ depth. field_definition_law file depth };
+    ghost law = { λ file _ depth. (field_definition_tame file depth).law };
 
     fn begins(kind: Kind) -> bool {
         is_described_name(kind)
@@ -167,7 +167,7 @@ impl Read for Node<EnumValueDefinition> {
 
     ghost wrong = { no_enum_value };
 
-    ghost law = { λ file _ depth. enum_value_law file depth };
+    ghost law = { λ file _ depth. (enum_value_tame file depth).law };
 
     fn begins(kind: Kind) -> bool {
         Names::EnumValue.has(kind) || is_description(kind)
@@ -210,7 +210,7 @@ impl Read for Node<(OperationType, NamedType)> {
 
     ghost wrong = { no_root };
 
-    ghost law = { λ file _ _. root_law file };
+    ghost law = { λ file _ _. (root_tame file).law };
 
     fn begins(kind: Kind) -> bool {
         kind.is(Kind::Query) || kind.is(Kind::Mutation) || kind.is(Kind::Subscription)

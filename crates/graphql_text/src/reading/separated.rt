@@ -7,7 +7,7 @@ ghost use Rattle.graphql_grammar.specs.Standing.{standing};
 ghost use Rattle.graphql_grammar.proofs.PieceLaws.{Lawful};
 ghost use Rattle.graphql_productions.specs.Nodes.{name};
 ghost use Rattle.graphql_productions.specs.TypeSystem.{names_behind, names_body};
-ghost use Rattle.graphql_productions.proofs.NodeLaws.{name_law};
+ghost use Rattle.graphql_productions.proofs.NodeLaws.{name_tame};
 ghost use Rattle.graphql_text.specs.Seen.{seen_flag};
 
 use crate::reading::target::{Target, sign};
@@ -33,7 +33,7 @@ pub(crate) trait Single: Drop {
 impl Single for Name {
     ghost piece = { name };
 
-    ghost law = { name_law };
+    ghost law = { λ file. (name_tame file).law };
 
     fn read(target: Target, words: &mut Words<'_>) -> Result<Name, ReadError> {
         target.name(words)

@@ -11,7 +11,7 @@ ghost use Rattle.graphql_productions.specs.Documents.{spells_document};
 ghost use Rattle.graphql_productions.specs.Types.{type};
 ghost use Rattle.graphql_productions.specs.TypeSystem.{expecting};
 ghost use Rattle.graphql_productions.specs.Values.{value_node};
-ghost use Rattle.graphql_productions.proofs.DocumentLaws.{one_law};
+ghost use Rattle.graphql_productions.proofs.DefinitionLaws.{one_tame};
 ghost use Rattle.graphql_productions.proofs.JudgedProductions.{document_judged, selections_judged};
 ghost use Rattle.graphql_productions.proofs.JudgedProductions.{type_judged, value_node_judged};
 
@@ -110,7 +110,7 @@ impl Read for Definition {
 
     ghost wrong = { expecting DefinitionItem };
 
-    ghost law = { λ file _ depth. one_law file depth };
+    ghost law = { λ file _ depth. (one_tame file depth).law };
 
     fn begins(_kind: Kind) -> bool {
         true

@@ -10,7 +10,8 @@ returns-then-not-is_white c =
     let s = c.args.text.now in
     let i = c.loop-byte.byte-index in
     let held = rw (drop_more s i 0 c.loop-byte-test.true) at c.loop-byte.invariant in
-    let other = first_at_other (get_or s i 0) (drop (i + 1) s) (sym c.is_white.ensures ∙ c.if-not-is_white.true) in
+    let other = first_at_other (get_or s i 0) (drop (i + 1) s) (sym c.is_white.ensures
+    ∙ c.if-not-is_white.true) in
     ap not (c.is_line_end.ensures ∙ sym other ∙ held)
 
 pub loop-byte-preserved : goal.loop-byte-preserved
@@ -18,4 +19,5 @@ loop-byte-preserved c =
     let s = c.args.text.now in
     let i = c.loop-byte.byte-index in
     let held = rw (drop_more s i 0 c.loop-byte-test.true) at c.loop-byte.invariant in
-    sym (first_behind_white (get_or s i 0) (drop (i + 1) s) (sym c.is_white.ensures ∙ c.if-not-is_white.false)) ∙ held
+    sym (first_behind_white (get_or s i 0) (drop (i + 1) s) (sym c.is_white.ensures
+    ∙ c.if-not-is_white.false)) ∙ held

@@ -9,12 +9,13 @@ returns-then-stands_out c =
     let s = c.args.text.now in
     let i = c.loop-byte.byte-index in
     let held = rw (drop_more s i 0 c.loop-byte-test.true) at c.loop-byte.invariant in
-    sym (outer_found c.loop-byte.begins (get_or s i 0) (drop (i + 1) s) (sym c.stands_out.ensures ∙ c.if-stands_out.true)) ∙ held
+    sym (outer_found c.loop-byte.begins (get_or s i 0) (drop (i + 1) s) (sym c.stands_out.ensures
+    ∙ c.if-stands_out.true)) ∙ held
 
 pub loop-byte-preserved : goal.loop-byte-preserved
 loop-byte-preserved c =
     let s = c.args.text.now in
     let i = c.loop-byte.byte-index in
     let held = rw (drop_more s i 0 c.loop-byte-test.true) at c.loop-byte.invariant in
-    rw c.is_line_end-begins.ensures
-    (sym (outer_further c.loop-byte.begins (get_or s i 0) (drop (i + 1) s) (sym c.stands_out.ensures ∙ c.if-stands_out.false)) ∙ held)
+    rw c.is_line_end-begins.ensures (sym (outer_further c.loop-byte.begins (get_or s i 0) (drop (i + 1) s)
+    (sym c.stands_out.ensures ∙ c.if-stands_out.false)) ∙ held)

@@ -1,18 +1,28 @@
 -- A line feed and the first of three quotes are written at once, with what is wanted there; any other byte
 -- waits.
-use Rattle.std.proofs.Common.{◌≡◌, ◌+◌, ◌-◌, ◌<◌, false, true, [], ◌∷◌, ◌++◌, length, get_or, nat_eq, take, drop, refl, rules, arith, append_assoc, length-drop}
+use Rattle.std.proofs.Common.{◌≡◌, ◌-◌, ◌<◌, false, true, [], ◌∷◌, ◌++◌, length, get_or, nat_eq, take, drop}
+use Rattle.std.proofs.Common.{refl, rules, arith, append_assoc, length-drop}
 use Rattle.std.proofs.lemmas.Grind.{common_steps}
-use Rattle.std.proofs.lemmas.Str.{IsCharBoundary-start, IsCharBoundary-after_ascii, IsCharBoundary-before_ascii}
+use Rattle.std.proofs.lemmas.Str.{IsCharBoundary-start, IsCharBoundary-after_ascii}
+use Rattle.std.proofs.lemmas.Str.{IsCharBoundary-before_ascii}
 use Rattle.std.proofs.Output.{has_written_append, has_written_of_eq}
 use Rattle.graphql_tokens.specs.Strings.{begins_with_quotes}
 use Rattle.graphql_printing.specs.Layout.{line_end}
 use Rattle.graphql_printing.proofs.InsideLemmas.{feed_at, no_quotes_at, plain_at, quotes_at, quotes_long}
 use Rattle.graphql_printing.proofs.Runs.{kept, replaced, replaced_before}
 use Rattle.graphql_printing.proofs.descriptions.write_inside.Goals as goal
-use Rattle.graphql_printing.proofs.descriptions.write_inside.Goals.{else-byte-eq34-via-then-byte-eq34+else-begins_with_quotes, else-byte-eq34-via-else-byte-eq34}
+use Rattle.graphql_printing.proofs.descriptions.write_inside.Goals.{else-byte-eq34-via-then-byte-eq34+else-begins_with_quotes}
+use Rattle.graphql_printing.proofs.descriptions.write_inside.Goals.{else-byte-eq34-via-else-byte-eq34}
 
 pub bytes-init : goal.bytes-init
-bytes-init g c = (omega arith, omega arith, IsCharBoundary-start c.args.text.now c.utf8.text, [], refl, search rules)
+bytes-init g c = (
+  omega arith,
+  omega arith,
+  IsCharBoundary-start c.args.text.now c.utf8.text,
+  [],
+  refl,
+  search rules,
+)
 
 pub bytes-preserved-then-byte-eq10 : goal.bytes-preserved-then-byte-eq10
 bytes-preserved-then-byte-eq10 g c =
@@ -27,12 +37,13 @@ bytes-preserved-then-byte-eq10 g c =
       omega (arith, within),
       IsCharBoundary-after_ascii s l.at c.utf8.text within (omega (arith, feed)),
       done ++ (run ++ line_end indent),
-      replaced s done _ _ (line_end indent) _ l.start l.at (l.at + 1) (feed_at s indent l.at within feed) whole,
+      replaced s done _ _ _ _ l.start l.at _ (feed_at s indent l.at within feed) whole,
       λ plain.
           let sofar = wrote plain in
           let one = c.write_str.ensures.writes sofar.plain (search rules) in
           let two = c.write_line_end.ensures one.plain (search rules) in
-          has_written_of_eq _ _ _ _ _ (grind (arith, common_steps, append_assoc)) (has_written_append _ _ _ _ _ _ (has_written_append _ _ _ _ _ _ sofar one) two),
+          has_written_of_eq _ _ _ _ _ (grind (arith, common_steps, append_assoc))
+          (has_written_append _ _ _ _ _ _ (has_written_append _ _ _ _ _ _ sofar one) two),
     )
 
 pub bytes-preserved-then-begins_with_quotes : goal.bytes-preserved-then-begins_with_quotes
@@ -55,7 +66,8 @@ bytes-preserved-then-begins_with_quotes g c =
           let sofar = wrote plain in
           let one = c.write_str-then-begins_with_quotes.ensures.writes sofar.plain (search rules) in
           let two = c.write_str-then-begins_with_quotes-2.ensures.writes one.plain (search rules) in
-          has_written_of_eq _ _ _ _ _ (grind (arith, common_steps, append_assoc)) (has_written_append _ _ _ _ _ _ (has_written_append _ _ _ _ _ _ sofar one) two),
+          has_written_of_eq _ _ _ _ _ (grind (arith, common_steps, append_assoc))
+          (has_written_append _ _ _ _ _ _ (has_written_append _ _ _ _ _ _ sofar one) two),
     )
 
 pub bytes-preserved : goal.bytes-preserved
@@ -66,8 +78,7 @@ bytes-preserved g c =
     let (low, most, bound, done, whole, wrote) = l.invariant in
     let within : l.at < length s = grind (arith, common_steps) in
     let other : nat_eq (get_or s l.at 0) 10 ≡ false = grind (arith, common_steps) in
-    let none : begins_with_quotes (drop l.at s) ≡ false =
-    elim c.else-byte-eq34.branch [
+    let none : begins_with_quotes (drop l.at s) ≡ false = elim c.else-byte-eq34.branch [
       | else-byte-eq34-via-then-byte-eq34+else-begins_with_quotes w ↦ grind (arith, common_steps)
       | else-byte-eq34-via-else-byte-eq34 w ↦ no_quotes_at s l.at within (grind (arith, common_steps))
     ] in (

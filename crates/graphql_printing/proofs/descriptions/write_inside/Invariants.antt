@@ -6,10 +6,10 @@ use Rattle.graphql_printing.specs.Descriptions.{further_in, inside, with_marks}
 use Rattle.graphql_printing.proofs.descriptions.write_inside.Given as goal
 
 abbrev pub invariant-bytes : goal.invariant-bytes
-invariant-bytes g l =
-    (l.start ≤ l.at) × (l.at ≤ length l.fn.text) × IsCharBoundary l.fn.text l.start × (done : List ℕ)
-    × (done ++ (take (l.at - l.start) (drop l.start l.fn.text) ++ further_in l.fn.indent (with_marks 0 (drop l.at l.fn.text))) ≡ inside l.fn.indent l.fn.text)
-    × (IsPlainFormatter l.initial.f → HasWritten g.W.Write.write_str_gives l.initial.f done l.f)
+invariant-bytes g l = (l.start ≤ l.at) × (l.at ≤ length l.fn.text) × IsCharBoundary l.fn.text l.start
+    × (done : List ℕ) × (done ++ (take (l.at - l.start) (drop l.start l.fn.text) ++ further_in l.fn.indent
+    (with_marks 0 (drop l.at l.fn.text))) ≡ inside l.fn.indent l.fn.text) × (IsPlainFormatter l.initial.f
+    → HasWritten g.W.Write.write_str_gives l.initial.f done l.f)
 
 abbrev pub decreases-bytes : goal.decreases-bytes
 decreases-bytes g l = length l.fn.text - l.at

@@ -12,11 +12,13 @@ pub loop-left-preserved : goal.loop-left-preserved
 loop-left-preserved g c =
     let next = c.min-next.result in
     let (done, all, wrote) = c.loop-left.invariant in
-    let text : c.range.result.now ≡ replicate next 32 = c.range.ensures.value ∙ blanks_cut next (omega arith) in (
+    let text : c.range.result.now ≡ replicate next 32 = c.range.ensures.value
+    ∙ blanks_cut next (omega arith) in (
       done + next,
       omega arith,
       λ plain.
           let before = wrote plain in
-          has_written_of_eq _ _ _ _ _ (ap (λ (t : List ℕ). replicate done 32 ++ t) text ∙ replicate-append-replicate done next 32)
+          has_written_of_eq _ _ _ _ _ (ap (λ (t : List ℕ). replicate done 32 ++ t) text
+          ∙ replicate-append-replicate done next 32)
           (has_written_append _ _ _ _ _ _ before (c.write_str.ensures.writes before.plain (search rules))),
     )

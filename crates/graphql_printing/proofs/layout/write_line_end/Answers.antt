@@ -14,7 +14,9 @@ returns g c plain ok =
     let indent = c.args.indent in
     let first = c.min-first.result in
     let all : first + (indent - first) ≡ indent = omega arith in
-    let text : c.range.result.now ≡ line_end first = c.range.ensures.value ∙ line_end_cut first (omega arith) in
+    let text : c.range.result.now ≡ line_end first = c.range.ensures.value
+    ∙ line_end_cut first (omega arith) in
     let start = c.write_str.ensures.writes plain (search rules) in
-    has_written_of_eq _ _ _ _ _ (ap (λ (t : List ℕ). t ++ replicate (indent - first) 32) text ∙ ap (λ (t : List ℕ). 10 ∷ t) (replicate-append-replicate first (indent - first) 32) ∙ ap line_end all)
-    (has_written_append _ _ _ _ _ _ start (c.write_blanks.ensures start.plain ok))
+    has_written_of_eq _ _ _ _ _ (ap (λ (t : List ℕ). t ++ replicate (indent - first) 32) text
+    ∙ ap (λ (t : List ℕ). 10 ∷ t) (replicate-append-replicate first _ 32)
+    ∙ ap line_end all) (has_written_append _ _ _ _ _ _ start (c.write_blanks.ensures start.plain ok))

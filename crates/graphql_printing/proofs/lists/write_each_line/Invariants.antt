@@ -5,5 +5,5 @@ use Rattle.graphql_printing.specs.Layout.{each_behind, line_end}
 use Rattle.graphql_printing.proofs.lists.write_each_line.Given as goal
 
 abbrev pub invariant-loop-item : goal.invariant-loop-item
-invariant-loop-item g l =
-    IsPlainFormatter l.initial.f → HasWritten g.W.Write.write_str_gives l.initial.f (each_behind (line_end l.indent) (g.T.Written.text l.indent) (take l.item-index l.items)) l.f
+invariant-loop-item g l = IsPlainFormatter l.initial.f → HasWritten g.W.Write.write_str_gives l.initial.f
+    (each_behind (line_end l.indent) (g.T.Written.text l.indent) (take l.item-index l.items)) l.f

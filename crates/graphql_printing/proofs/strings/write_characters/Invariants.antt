@@ -9,7 +9,7 @@ abbrev pub decreases-bytes : goal.decreases-bytes
 decreases-bytes g l = length l.fn.text - l.at
 
 abbrev pub invariant-bytes : goal.invariant-bytes
-invariant-bytes g l =
-    (l.start ≤ l.at) × (l.at ≤ length l.fn.text) × IsCharBoundary l.fn.text l.start × (done : List ℕ)
-    × (done ++ (take (l.at - l.start) (drop l.start l.fn.text) ++ quoted_bytes (drop l.at l.fn.text)) ≡ quoted_bytes l.fn.text)
-    × (IsPlainFormatter l.initial.f → HasWritten g.W.Write.write_str_gives l.initial.f done l.f)
+invariant-bytes g l = (l.start ≤ l.at) × (l.at ≤ length l.fn.text) × IsCharBoundary l.fn.text l.start
+    × (done : List ℕ) × (done ++ (take (l.at - l.start) (drop l.start l.fn.text)
+    ++ quoted_bytes (drop l.at l.fn.text)) ≡ quoted_bytes l.fn.text) × (IsPlainFormatter l.initial.f
+    → HasWritten g.W.Write.write_str_gives l.initial.f done l.f)

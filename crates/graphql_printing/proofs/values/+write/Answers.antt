@@ -14,10 +14,10 @@ write_value-returns-in_ok-write_items-in-List g t c plain ok =
     let one = c.write_str-in-List.ensures.writes plain (search rules) in
     let two = c.write_items.ensures one.plain (search rules) in
     let three = c.write_str-in-List-2.ensures.writes two.plain ok in
-    has_written_of_eq _ _ _ _ _
-    (ap (λ (xs : List (NodeView Value)). codes "[" ++ separated (codes ", ") item_text xs ++ codes "]") c.as_slice.ensures
-    ∙ sym (list_says c.in-List.items) ∙ sym (ap value_text c.in-List.is))
-    (has_written_append _ _ _ _ _ _ (has_written_append _ _ _ _ _ _ one two) three)
+    has_written_of_eq _ _ _ _ _ (ap (λ (xs : List (NodeView Value)). codes "[" ++ separated (codes ", ")
+    item_text xs ++ codes "]") c.as_slice.ensures ∙ sym (list_says c.in-List.items)
+    ∙ sym (ap value_text c.in-List.is)) (has_written_append _ _ _ _ _ _ (has_written_append _ _ _ _ _ _
+    one two) three)
 
 pub write_value-returns-in_ok-write_members-in-Object : goal.write_value-returns-in_ok-write_members-in-Object
 write_value-returns-in_ok-write_members-in-Object g t c plain ok =
@@ -25,6 +25,7 @@ write_value-returns-in_ok-write_members-in-Object g t c plain ok =
     let two = c.write_members.ensures one.plain (search rules) in
     let three = c.write_str-in-Object-2.ensures.writes two.plain ok in
     has_written_of_eq _ _ _ _ _
-    (ap (λ (xs : List (NameView × NodeView Value)). codes "{" ++ separated (codes ", ") member_text xs ++ codes "}") c.as_slice-in-Object.ensures
-    ∙ sym (object_says c.in-Object.members) ∙ sym (ap value_text c.in-Object.is))
-    (has_written_append _ _ _ _ _ _ (has_written_append _ _ _ _ _ _ one two) three)
+    (ap (λ (xs : List (NameView × NodeView Value)). codes "{" ++ separated (codes ", ") member_text xs
+    ++ codes "}") c.as_slice-in-Object.ensures ∙ sym (object_says c.in-Object.members)
+    ∙ sym (ap value_text c.in-Object.is)) (has_written_append _ _ _ _ _ _ (has_written_append _ _ _ _ _ _
+    one two) three)

@@ -1,8 +1,7 @@
 -- What is read of all words is answered.
-use Rattle.std.proofs.Common.{length, subst}
+use Rattle.std.proofs.Common.{subst}
 use Rattle.graphql_grammar.specs.Pieces.{GivesAll, State, read_whole}
 use Rattle.graphql_grammar.specs.Standing.{standing}
-use Rattle.graphql_grammar.specs.WordsOfText.{words_of}
 use Rattle.graphql_text.proofs.Answered.{found, only, refused}
 use Rattle.graphql_text.proofs.parsing.parse.Goals as goal
 
@@ -10,19 +9,22 @@ pub returns-clause-found : goal.returns-clause-found
 returns-clause-found g c =
     let left = (standing c.whole-read.new.words).left in
     let p = g.T.Tree.piece c.args.file c.args.options.max_depth in
-    found (g.met.T.Tree.law c.args.file c.args.options.max_depth) c.args.file (length c.args.text.now) (words_of c.args.options.max_tokens c.args.text.now) left c.whole-read.result c.parsed.result
-    (subst (λ (s : State). GivesAll c.whole-read.result left (read_whole p s)) c.new-words.ensures c.whole-read.ensures) c.parsed.ensures
+    found (g.met.T.Tree.law c.args.file c.args.options.max_depth) _ _ _ _ _ _
+    (subst (λ (s : State). GivesAll c.whole-read.result left (read_whole p s)) c.new-words.ensures
+    c.whole-read.ensures) c.parsed.ensures
 
 pub returns-clause-only : goal.returns-clause-only
 returns-clause-only g c = λ read real h.
     let left = (standing c.whole-read.new.words).left in
     let p = g.T.Tree.piece c.args.file c.args.options.max_depth in
-    only (g.met.T.Tree.law c.args.file c.args.options.max_depth) c.args.file (length c.args.text.now) (words_of c.args.options.max_tokens c.args.text.now) left c.whole-read.result c.parsed.result
-    (subst (λ (s : State). GivesAll c.whole-read.result left (read_whole p s)) c.new-words.ensures c.whole-read.ensures) c.parsed.ensures read h
+    only (g.met.T.Tree.law c.args.file c.args.options.max_depth) _ _ _ _ _ _
+    (subst (λ (s : State). GivesAll c.whole-read.result left (read_whole p s)) c.new-words.ensures
+    c.whole-read.ensures) c.parsed.ensures read h
 
 pub returns-clause-refused : goal.returns-clause-refused
 returns-clause-refused g c =
     let left = (standing c.whole-read.new.words).left in
     let p = g.T.Tree.piece c.args.file c.args.options.max_depth in
-    refused (g.met.T.Tree.law c.args.file c.args.options.max_depth) c.args.file (length c.args.text.now) (words_of c.args.options.max_tokens c.args.text.now) left c.whole-read.result c.parsed.result
-    (subst (λ (s : State). GivesAll c.whole-read.result left (read_whole p s)) c.new-words.ensures c.whole-read.ensures) c.parsed.ensures
+    refused (g.met.T.Tree.law c.args.file c.args.options.max_depth) _ _ _ _ _ _
+    (subst (λ (s : State). GivesAll c.whole-read.result left (read_whole p s)) c.new-words.ensures
+    c.whole-read.ensures) c.parsed.ensures

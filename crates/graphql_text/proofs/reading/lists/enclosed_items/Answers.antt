@@ -8,5 +8,6 @@ use Rattle.graphql_text.proofs.reading.lists.enclosed_items.Goals as goal
 pub returns : goal.returns
 returns g c =
     let t = c.args.target in
-    rw (one_nested t.depth (λ inside. between c.args.opening c.args.closing g.R.Read.wrong (some (item g.R.Read.first g.R.Read.wrong (g.R.Read.piece t.file t.constant inside)))) (standing c.args.words.now) c.if-target-eq0.false)
-    c.between_items.ensures
+    rw (one_nested t.depth (λ inside. between c.args.opening c.args.closing g.R.Read.wrong
+    (some (item g.R.Read.first g.R.Read.wrong (g.R.Read.piece t.file t.constant inside))))
+    (standing c.args.words.now) c.if-target-eq0.false) c.between_items.ensures

@@ -36,8 +36,11 @@ decreases-selection_set l = 8 * l.target.depth + 0
 
 abbrev pub invariant-push_selections-selections : goal.invariant-push_selections-selections
 invariant-push_selections-selections l =
-    with_front l.selections ((many (selection l.target.file l.target.depth (selection_set l.target.file l.target.depth))).read (standing l.words))
-    ≡ with_front l.initial.selections ((many (selection l.target.file l.target.depth (selection_set l.target.file l.target.depth))).read (standing l.fn.words))
+    with_front l.selections
+    ((many (selection l.target.file l.target.depth (selection_set l.target.file l.target.depth))).read
+    (standing l.words)) ≡ with_front l.initial.selections
+    ((many (selection l.target.file l.target.depth (selection_set l.target.file l.target.depth))).read
+    (standing l.fn.words))
 
 abbrev pub decreases-push_selections-selections : goal.decreases-push_selections-selections
 decreases-push_selections-selections l = length (standing l.words).left

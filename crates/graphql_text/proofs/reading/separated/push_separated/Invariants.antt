@@ -5,8 +5,11 @@ use Rattle.graphql_text.proofs.reading.separated.push_separated.Given as goal
 
 abbrev pub invariant-items : goal.invariant-items
 invariant-items g l =
-    with_front l.items ((many (mapped behind_sign (seq (sign l.separator) (g.S.Single.piece l.target.file)))).read (standing l.words))
-    ≡ with_front l.initial.items ((many (mapped behind_sign (seq (sign l.separator) (g.S.Single.piece l.target.file)))).read (standing l.fn.words))
+    with_front l.items ((many
+    (mapped behind_sign (seq (sign l.separator) (g.S.Single.piece l.target.file)))).read (standing l.words))
+    ≡ with_front l.initial.items
+    ((many (mapped behind_sign (seq (sign l.separator) (g.S.Single.piece l.target.file)))).read
+    (standing l.fn.words))
 
 abbrev pub decreases-items : goal.decreases-items
 decreases-items g l = length (standing l.words).left

@@ -33,16 +33,19 @@ decreases-member l = 8 * l.target.depth + 4
 
 abbrev pub invariant-values-values : goal.invariant-values-values
 invariant-values-values l =
-    with_front l.values ((many (value_node l.target.file l.target.constant l.target.depth)).read (standing l.words))
-    ≡ (many (value_node l.target.file l.target.constant l.target.depth)).read (standing l.fn.words)
+    with_front l.values ((many (value_node l.target.file l.target.constant l.target.depth)).read
+    (standing l.words)) ≡ (many (value_node l.target.file l.target.constant l.target.depth)).read
+    (standing l.fn.words)
 
 abbrev pub decreases-values-values : goal.decreases-values-values
 decreases-values-values l = length (standing l.words).left
 
 abbrev pub invariant-members-members : goal.invariant-members-members
 invariant-members-members l =
-    with_front l.members ((many (member l.target.file (value_node l.target.file l.target.constant l.target.depth))).read (standing l.words))
-    ≡ (many (member l.target.file (value_node l.target.file l.target.constant l.target.depth))).read (standing l.fn.words)
+    with_front l.members ((many (member l.target.file (value_node l.target.file l.target.constant
+    l.target.depth))).read (standing l.words))
+    ≡ (many (member l.target.file (value_node l.target.file l.target.constant l.target.depth))).read
+    (standing l.fn.words)
 
 abbrev pub decreases-members-members : goal.decreases-members-members
 decreases-members-members l = length (standing l.words).left
