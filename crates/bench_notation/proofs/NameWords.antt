@@ -1,5 +1,5 @@
 -- Each text is a name or none, so one that is not none is a name.
-use Rattle.std.proofs.Common.{ℕ, ◌⊎◌, List, [], ◌∷◌, arith, get_or, inl, inr}
+use Rattle.std.proofs.Common.{ℕ, ◌⊎◌, List, [], ◌∷◌, arith, inl, inr}
 use Rattle.std.proofs.lemmas.Bool.{cases_lt}
 use Rattle.graphql_nodes.specs.NameSyntax.{IsName, IsNameContinue, IsNameStart}
 
@@ -44,5 +44,5 @@ pub not_no_name : (text : List ℕ) → ¬ ¬ IsName text → IsName text
 not_no_name [] some = some (λ h. h)
 not_no_name (c ∷ cs) some = (
   not_none (start_or_not c) (λ none. some (λ h. none h.0)),
-  λ i d lt. not_none (continue_or_not (get_or cs i d)) (λ none. some (λ h. none (h.1 i d lt))),
+  λ i d lt. not_none (continue_or_not _) (λ none. some (λ h. none (h.1 i d lt))),
 )

@@ -53,16 +53,6 @@ impl Role {
     }
 }
 
-/// The kinds of type, each of which has a word.
-const KINDS: [TypeKind; 6] = [
-    TypeKind::Scalar,
-    TypeKind::Object,
-    TypeKind::Interface,
-    TypeKind::Union,
-    TypeKind::Enum,
-    TypeKind::InputObject,
-];
-
 /// The word of a kind, as `input`.
 pub fn kind_word(kind: TypeKind) -> &'static str
     ensures { result.now ≡ kind_word kind }
@@ -82,12 +72,15 @@ pub fn kind_of_word(word: &str) -> Option<TypeKind>
     ensures { MatchOption result ((kind : TypeKind) → kind_word kind ≢ word.now) (λ kind. kind_word kind
         ≡ word.now) }
 {
-    for kind in KINDS {
-        if kind_word(kind) == word {
-            return Some(kind);
-        }
+    match word {
+        "scalar" => Some(TypeKind::Scalar),
+        "object" => Some(TypeKind::Object),
+        "interface" => Some(TypeKind::Interface),
+        "union" => Some(TypeKind::Union),
+        "enum" => Some(TypeKind::Enum),
+        "input" => Some(TypeKind::InputObject),
+        _ => None,
     }
-    None
 }
 
 /// The kind of operation of this word, and none for any other word.

@@ -5,7 +5,8 @@ use Rattle.bench_notation.specs.Documents.{LeadTo}
 use Rattle.bench_notation.specs.declared.documents.DocumentReader.{DocumentReader}
 use Rattle.bench_notation.proofs.documents.take_lines.Given as goal
 
-pub record HasRead (text : List ℕ) (start : DocumentReader) (number : ℕ) (left : Option (Bor (List ℕ))) (reader : DocumentReader) : Type 0 where
+pub record HasRead (text : List ℕ) (start : DocumentReader) (number : ℕ) (left : Option (Bor (List ℕ)))
+    (reader : DocumentReader) : Type 0 where
   pub read : All IsLine (take number (lines_of text))
   pub led : LeadTo 1 (take number (lines_of text)) start reader
   pub rest : drop number (lines_of text) ≡ pieces_left 10 left

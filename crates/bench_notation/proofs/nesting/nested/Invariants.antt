@@ -7,4 +7,5 @@ use Rattle.bench_notation.specs.declared.selection_line.SelectionLine.{Selection
 use Rattle.bench_notation.proofs.nesting.nested.Given as goal
 
 abbrev pub invariant-loop-line : goal.invariant-loop-line
-invariant-loop-line l = (lines : List SelectionLine) → combined l.nesting lines ≡ selections_at 0 (l.yielded ++ lines)
+invariant-loop-line l = (lines : List SelectionLine) → combined l.nesting lines
+    ≡ selections_at 0 (l.yielded ++ lines)

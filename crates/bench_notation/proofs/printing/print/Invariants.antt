@@ -4,4 +4,5 @@ use Rattle.bench_notation.specs.Text.{printed_definitions}
 use Rattle.bench_notation.proofs.printing.print.Given as goal
 
 abbrev pub invariant-loop-definition : goal.invariant-loop-definition
-invariant-loop-definition l = string_bytes l.text ≡ printed_definitions (take l.definition-index l.definitions)
+invariant-loop-definition l = string_bytes l.text
+    ≡ printed_definitions (take l.definition-index l.definitions)

@@ -5,4 +5,5 @@ use Rattle.bench_notation.specs.Text.{field_definition_text}
 use Rattle.bench_notation.proofs.printing.push_fields.Given as goal
 
 abbrev pub invariant-loop-field : goal.invariant-loop-field
-invariant-loop-field l = string_bytes l.text ≡ string_bytes l.initial.text ++ flat_map field_definition_text (take l.field-index l.fields)
+invariant-loop-field l = string_bytes l.text ≡ string_bytes l.initial.text ++ flat_map field_definition_text
+    (take l.field-index l.fields)

@@ -4,4 +4,5 @@ use Rattle.bench_notation.specs.Text.{names_text}
 use Rattle.bench_notation.proofs.printing.push_names.Given as goal
 
 abbrev pub invariant-loop-name : goal.invariant-loop-name
-invariant-loop-name l = string_bytes l.text ≡ string_bytes l.initial.text ++ names_text l.word (take l.name-index l.names)
+invariant-loop-name l = string_bytes l.text ≡ string_bytes l.initial.text
+    ++ names_text l.word (take l.name-index l.names)

@@ -1,5 +1,5 @@
 use Rattle.graphql_round_trip.proofs.BareDocumentTexts.{one_text}
-use Rattle.graphql_round_trip.proofs.BareSelectionTexts.{one_selections_text}
+use Rattle.graphql_round_trip.proofs.BareTexts.{one_selections_text}
 use Rattle.graphql_round_trip.proofs.BareTexts.{one_type_text, one_value_text}
 use Rattle.graphql_round_trip.proofs.laws.equal_trees_have_one_text.Goals as goal
 

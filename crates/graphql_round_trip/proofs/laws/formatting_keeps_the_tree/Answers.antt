@@ -1,4 +1,5 @@
-use Rattle.graphql_round_trip.proofs.WholeLaws.{printed_once, spelled_again, spelled_selections_again, spelled_type_again, spelled_value_again}
+use Rattle.graphql_round_trip.proofs.WholeLaws.{printed_once, spelled_again, spelled_selections_again}
+use Rattle.graphql_round_trip.proofs.WholeLaws.{spelled_type_again, spelled_value_again}
 use Rattle.graphql_round_trip.proofs.laws.formatting_keeps_the_tree.Goals as goal
 
 pub returns-clause-document : goal.returns-clause-document

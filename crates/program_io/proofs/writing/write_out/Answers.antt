@@ -11,4 +11,14 @@ pub returns-clause-begun : goal.returns-clause-begun
 returns-clause-begun g c =
     let contents = g.O.Write.contents in
     let text = c.args.text.now in
-    at_any_error c.flush.result ([], (text, (Appends-kept (contents c.args.output.now) (contents c.write_text.new.output) (contents c.flush.new.self) text c.in_ok-write_text.ensures.written c.flush.ensures.bytes, sym (append-nil text))))
+    at_any_error c.flush.result (
+      [],
+      (
+        text,
+        (
+          Appends-kept (contents c.args.output.now) (contents c.write_text.new.output)
+              (contents c.flush.new.self) text c.in_ok-write_text.ensures.written c.flush.ensures.bytes,
+          sym (append-nil text),
+        ),
+      ),
+    )

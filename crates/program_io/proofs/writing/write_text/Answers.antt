@@ -11,5 +11,7 @@ pub loop-left-preserved : goal.loop-left-preserved
 loop-left-preserved g c =
     let left = c.loop-left.left.now in
     let n = c.in_ok-count.count in
-    goes-further c.args.text.now (g.O.Write.contents c.args.output.now) (g.O.Write.contents c.loop-left.output) (g.O.Write.contents c.write_some.new.output) left (take (length left - n) (drop n left)) c.loop-left.invariant
+    goes-further c.args.text.now (g.O.Write.contents c.args.output.now)
+    (g.O.Write.contents c.loop-left.output) (g.O.Write.contents c.write_some.new.output) left
+    (take (length left - n) (drop n left)) c.loop-left.invariant
     (take n left, (c.in_ok-count.ensures.bytes, taken left n))

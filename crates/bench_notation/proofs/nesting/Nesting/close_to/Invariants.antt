@@ -6,7 +6,8 @@ use Rattle.bench_notation.specs.declared.selection_line.SelectionLine.{Selection
 use Rattle.bench_notation.proofs.nesting.Nesting.close_to.Given as goal
 
 abbrev pub invariant-loop-alloc : goal.invariant-loop-alloc
-invariant-loop-alloc l = (lines : List SelectionLine) → ((depth : ℕ) → l.most < depth → selections_at depth lines ≡ []) → combined l.self lines ≡ combined l.initial.self lines
+invariant-loop-alloc l = (lines : List SelectionLine) → ((depth : ℕ) → l.most < depth
+    → selections_at depth lines ≡ []) → combined l.self lines ≡ combined l.initial.self lines
 
 abbrev pub decreases-loop-alloc : goal.decreases-loop-alloc
 decreases-loop-alloc l = length l.self.path.items
