@@ -33,9 +33,8 @@ component_names = of_part (λ (c : ComponentName). c.name) names
 
 pub sets_of_component_names : Compares (set_eq component_name.ghosts.eq)
     (members_by_text (λ (c : ComponentName). c.name))
-sets_of_component_names =
-    by_texts (λ text. record { origin = Definition; name = plain_name text }) (λ c. c.name.text) (λ _ _. refl)
-    (sets (on_equiv (λ (c : ComponentName). c.name.text) nat_list_eq_equiv))
+sets_of_component_names = by_texts (λ text. record { origin = Definition; name = plain_name text })
+    (λ c. c.name.text) (λ _ _. refl) (sets (on_equiv (λ (c : ComponentName). c.name.text) nat_list_eq_equiv))
 
 pub directive_lists : Compares directive_list.ghosts.eq bare_directives
 directive_lists = of_part (λ (l : DirectiveList). l.0) (lists (components directives))
@@ -49,8 +48,7 @@ ids_spent_errors = record { at = λ a b. (λ _. refl, λ _. refl) }
 origin_at : (a b : ComponentOrigin) → At component_origin.ghosts.eq bare_origin a b
 origin_at Definition Definition = (λ _. refl, λ _. refl)
 origin_at (Extension a) (Extension b) = let t = extension_ids.at a b in (λ h. ap Some (t.0 h), λ h. t.1 cc)
-origin_at Definition (Extension b) = (λ h. cc, λ h. cc)
-origin_at (Extension a) Definition = (λ h. cc, λ h. cc)
+origin_at _ _ = (λ h. cc, λ h. cc)
 
 pub origins : Compares component_origin.ghosts.eq bare_origin
 origins = record { at = origin_at }

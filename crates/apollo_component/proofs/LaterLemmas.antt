@@ -1,8 +1,7 @@
 -- What `first_of_each` drops, by places of the whole list.
-use Rattle.std.proofs.Common.{◌≡◌, ℕ, ◌+◌, Bool, true, cond, not, List, [], ◌∷◌, ◌++◌, length, map}
-use Rattle.std.proofs.Common.{take}
-use Rattle.std.proofs.Common.{drop, is_some, filter, refl, sym, ap, ◌∙◌, subst, append_assoc, length-append}
-use Rattle.std.proofs.Common.{arith}
+use Rattle.std.proofs.Common.{◌≡◌, ℕ, ◌+◌, Bool, true, not, List, [], ◌∷◌, ◌++◌, length, map, take}
+use Rattle.std.proofs.Common.{arith, drop, is_some, filter, refl, ap, subst, append_assoc}
+use Rattle.std.proofs.Common.{length-append}
 use Rattle.std.specs.List.{All, enumerate_from, find, list_any}
 use Rattle.std.specs.Option.{option_map_or}
 use Rattle.std.specs.Cmp.{IsEquivalence}
@@ -16,11 +15,7 @@ use Rattle.apollo_component.specs.EachAfter.{each_after}
 use Rattle.apollo_component.specs.FirstOfEach.{first_of_each, is_later, later_of_each, kept_for}
 use Rattle.apollo_component.proofs.FirstOfEachLemmas.{list_any-first_of_each, first_of_each-push_new}
 use Rattle.apollo_component.proofs.FirstOfEachLemmas.{first_of_each-push_old, find-first_of_each}
-
--- something is found where something passes
-pub found-any : {X : Type 0} (test : X → Bool) (xs : List X) → is_some (find test xs) ≡ list_any test xs
-found-any test [] = refl
-found-any test (x ∷ xs) = grind (arith, found-any test xs)
+pub use Rattle.apollo_component.proofs.FirstOfEachLemmas.{found-any}
 
 -- the first ones among these of the whole list, and the later ones, where these begin at this place
 abbrev first_from : {X : Type 0} → (X → X → Bool) → List X → ℕ → List X → List X
@@ -46,33 +41,23 @@ module _ {X : Type 0} (same : X → X → Bool) (before : List X) (x : X) (xs : 
 
   -- x is the first of those that it is the same as, or a later one, by those before it
   later-here : is_later same whole (length before, x) ≡ list_any (same x) before
-  later-here = ap (list_any (same x)) (take-append_seam before (x ∷ xs))
-
-  first-step : first_from same whole (length before) (x ∷ xs)
-      ≡ cond (list_any (same x) before) (first_from same whole next xs) (x ∷ first_from same whole next xs)
-  first-step = grind (arith, later-here)
-
-  later-step : later_from same whole (length before) (x ∷ xs)
-      ≡ cond (list_any (same x) before) (x ∷ later_from same whole next xs) (later_from same whole next xs)
-  later-step = grind (arith, later-here)
+  later-here = ap (list_any (same x)) (take-append_seam before _)
 
   -- what is said of the elements after x, where x is the last of those before them
   moved : (P : List X → ℕ → Type 0) → P ((before ++ x ∷ []) ++ xs) (length (before ++ x ∷ [])) → P whole next
-  moved P h =
-      subst (P whole) (length-append before (x ∷ []))
-      (subst (λ l. P l (length (before ++ x ∷ []))) (append_assoc before (x ∷ []) xs) h)
+  moved P h = subst (P whole) (length-append before _)
+      (subst (λ l. P l (length (before ++ x ∷ []))) (append_assoc before _ xs) h)
 
 module _ {X : Type 0} (same : X → X → Bool) (laws : IsEquivalence same) where
-  first-of : (before xs : List X) → first_of_each same (before ++ xs)
-      ≡ first_of_each same before ++ first_from same (before ++ xs) (length before) xs
-  first-of before [] =
-      ap (first_of_each same) (append-nil before) ∙ sym (append-nil (first_of_each same before))
+  first-of : (before xs : List X)
+      → first_of_each same (before ++ xs) ≡ first_of_each same before
+      ++ first_from same (before ++ xs) (length before) xs
+  first-of before [] = simp append-nil
   first-of before (x ∷ xs) = grind (
     arith,
     moved same before x xs (λ l n. first_of_each same l
-        ≡ first_of_each same (before ++ x ∷ []) ++ first_from same l n xs)
-        (first-of (before ++ x ∷ []) xs),
-    first-step same before x xs,
+        ≡ first_of_each same (before ++ x ∷ []) ++ first_from same l n xs) (first-of (before ++ x ∷ []) xs),
+    later-here same before x xs,
     first_of_each-push_old same laws before x,
     first_of_each-push_new same laws before x,
     append_assoc (first_of_each same before) (x ∷ [])
@@ -86,10 +71,8 @@ module _ {X : Type 0} (same : X → X → Bool) (laws : IsEquivalence same) wher
   -- each of the later ones is the same as one that is kept
   pub later-kept : (xs : List X)
       → All (λ x. is_some (find (same x) (first_of_each same xs)) ≡ true) (later_of_each same xs)
-  later-kept xs =
-      All-map (λ x. is_some (find (same x) (first_of_each same xs)) ≡ true) (λ p. p.1) _
-      (All-weaker (λ p. is_later same xs p ≡ true) _ kept _
-      (filter_passes (is_later same xs) (enumerate_from 0 xs)))
+  later-kept xs = All-map (λ x. is_some (find (same x) (first_of_each same xs)) ≡ true) _ _
+      (All-weaker _ _ kept _ (filter_passes _ (enumerate_from 0 xs)))
     where
       kept : (p : ℕ × X) → list_any (same p.1) (take p.0 xs) ≡ true
           → is_some (find (same p.1) (first_of_each same xs)) ≡ true
@@ -112,7 +95,7 @@ module _ {X : Type 0} (same : X → X → Bool) (laws : IsEquivalence same) wher
         ap length (first_of_each-by_place xs),
         length-map (filter (λ p. not (is_later same xs p)) places) (λ p. p.1),
         length-map (filter (is_later same xs) places) (λ p. p.1),
-        length-filter_both (is_later same xs) (λ p. not (is_later same xs p)) (λ p. refl) places,
+        length-filter_both _ (λ p. not (is_later same xs p)) (λ p. refl) places,
         length-enumerate_from 0 xs,
       )
 
@@ -128,12 +111,13 @@ module _ {X : Type 0} (same : X → X → Bool) (laws : IsEquivalence same) wher
       arith,
       moved same before x xs (λ l n. said same say (before ++ x ∷ []) xs ≡ told l (later_from same l n xs))
           (said-of (before ++ x ∷ []) xs),
-      later-step same before x xs,
+      later-here same before x xs,
       found-any (same x) before,
       find-first_of_each same laws x (before ++ x ∷ xs),
       find-append (same x) before (x ∷ xs),
     )
 
-    pub said-later : (xs : List X) → said same say [] xs
-        ≡ map (λ x. say (kept_for same (first_of_each same xs) x) x) (later_of_each same xs)
+    pub said-later : (xs : List X)
+        → said same say [] xs ≡ map (λ x. say (kept_for same (first_of_each same xs) x) x)
+        (later_of_each same xs)
     said-later xs = said-of [] xs

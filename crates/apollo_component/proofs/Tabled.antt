@@ -1,7 +1,7 @@
 -- Tables that have at each key what a function gives of it. Tables with the same under each key. What tables
 -- give, key by key.
-use Rattle.std.proofs.Common.{◌≡◌, Bool, true, false, cond, not, List, [], ◌∷◌, ◌++◌, Option, Some, None}
-use Rattle.std.proofs.Common.{map, filter, refl, sym, ap, subst, ◌∙◌, arith}
+use Rattle.std.proofs.Common.{◌≡◌, Bool, true, false, cond, not, List, [], ◌∷◌, ◌++◌, Option, Some, None, map}
+use Rattle.std.proofs.Common.{filter, refl, sym, ap, subst, ◌∙◌, arith}
 use Rattle.std.specs.List.{list_any, flat_map, IsDistinct, AllByRecursion}
 use Rattle.std.specs.Map.{lookup, set_value}
 use Rattle.std.specs.Cmp.{IsEquivalence}
@@ -22,25 +22,19 @@ module _ {K : Type 0} (same : K → K → Bool) where
   filter-distinct : (p : K → Bool) (ks : List K) → IsDistinct same ks → IsDistinct same (filter p ks)
   unfolding IsDistinct
   filter-distinct p [] d = tt
-  filter-distinct p (k ∷ ks) d = by (p k) (filter-distinct p ks d.1)
-    where
-      by : (b : Bool) → IsDistinct same (filter p ks)
-          → IsDistinct same (cond b (k ∷ filter p ks) (filter p ks))
-      by true rest = (
-        each-weaken _ (λ y. same k y ≡ false) (λ y h. h.0) _
-            (each-filter (λ y. same k y ≡ false) p ks d.0),
-        rest,
-      )
-      by false rest = rest
+  filter-distinct p (k ∷ ks) d =
+      let rest = filter-distinct p ks d.1 in
+      let apart = each-weaken _ _ (λ y h. h.0) _ (each-filter _ p ks d.0) in
+      bool_cases (p k) (λ e. rw e (apart, rest)) (λ e. rw e rest)
 
   -- those that are left differ
   pub first_of_each-distinct : (xs : List K) → IsDistinct same (first_of_each same xs)
   unfolding IsDistinct
   first_of_each-distinct [] = tt
   first_of_each-distinct (x ∷ xs) = (
-    each-weaken (λ y. not (same x y) ≡ true) (λ y. same x y ≡ false) (λ y h. grind (arith, h)) _
-        (recursion_from_All _ _ (filter_passes (λ y. not (same x y)) (first_of_each same xs))),
-    filter-distinct (λ y. not (same x y)) (first_of_each same xs) (first_of_each-distinct xs),
+    each-weaken (λ y. not (same x y) ≡ true) _ (λ y h. grind (arith, h)) _
+        (recursion_from_All _ _ (filter_passes _ (first_of_each same xs))),
+    filter-distinct _ _ (first_of_each-distinct xs),
   )
 
 -- a table that has at each key what f gives of it
@@ -74,9 +68,7 @@ module _ {K : Type 0} (same : K → K → Bool) (laws : IsEquivalence same) wher
         grind (arith, agree k, one k, others, tabled-insert f g c agree one ks d.1)
       where
         others : same c k ≡ true → tabled f ks ≡ tabled g ks
-        others p = tabled-apart f g c agree ks
-            (each-weaken (λ y. same k y ≡ false) (λ y. same c y ≡ false)
-            (λ y h. laws.congr c k y p ∙ h) ks d.0)
+        others p = tabled-apart f g c agree ks (each-weaken _ _ (λ y h. laws.congr c k y p ∙ h) ks d.0)
 
     -- what stands at a key of the table
     pub lookup-tabled : (f : K → V) (c : K) → ((k : K) → same c k ≡ true → f k ≡ f c) → (ks : List K)
@@ -98,8 +90,7 @@ entries_from_lookups laws [] [] apart keys each = refl
 entries_from_lookups laws [] (f ∷ fs) apart keys each = cc
 entries_from_lookups laws (e ∷ es) [] apart keys each = cc
 entries_from_lookups {K} {V} {eq} laws (e ∷ es) (f ∷ fs) apart keys each =
-    let rest =
-    entries_from_lookups laws es fs (IsDistinct-tail eq e.0 (keys_of es) apart) other_keys others in
+    let rest = entries_from_lookups laws es fs (IsDistinct-tail eq e.0 _ apart) other_keys others in
     λ i. (key i, value i) ∷ rest i
   where
     key : f.0 ≡ e.0
@@ -113,10 +104,9 @@ entries_from_lookups {K} {V} {eq} laws (e ∷ es) (f ∷ fs) apart keys each =
 
     -- the first entry hides nothing under another key, and under its own there is nothing else
     others : (k : K) → lookup (eq k) fs ≡ lookup (eq k) es
-    others k = bool_cases (eq k e.0)
-        (λ own. lookup-none (eq k) fs
-        (none_past_head laws k f fs (subst (IsDistinct eq) (sym keys) apart) (ap (eq k) key ∙ own))
-        ∙ sym (lookup-none (eq k) es (none_past_head laws k e es apart own)))
+    others k = bool_cases _
+        (λ own. lookup-none _ fs (none_past_head laws k f fs (subst (IsDistinct eq) (sym keys) apart)
+        (ap (eq k) key ∙ own)) ∙ sym (lookup-none _ es (none_past_head laws k e es apart own)))
         (λ other. grind (arith, key, other, each k))
 
 -- what a table gives, entry by entry, is what it gives under its keys
@@ -125,15 +115,9 @@ pub given-by_keys : {K V X : Type 0} {same : K → K → Bool} → IsEquivalence
     → flat_map (λ e. give e.0 (Some e.1)) es ≡ flat_map (λ k. give k (lookup (same k) es)) (keys_of es)
 given-by_keys laws give [] unique = refl
 given-by_keys {K} {V} {X} {same} laws give (e ∷ es) unique =
-    grind (
-      arith,
-      laws.refl e.0,
-      given-by_keys laws give es (IsDistinct-tail same e.0 (keys_of es) unique),
-      later,
-    )
+    grind (arith, laws.refl e.0, given-by_keys laws give es (IsDistinct-tail same e.0 _ unique), later)
   where
     later : flat_map (λ k. give k (lookup (same k) es)) (keys_of es)
         ≡ flat_map (λ k. give k (lookup (same k) (e ∷ es))) (keys_of es)
-    later = flat_map-each (λ k. same e.0 k ≡ false) _ _
-        (λ k apart. ap (λ b. give k (cond b (Some e.1) (lookup (same k) es))) (sym (laws.symm k e.0 ∙ apart)))
-        (keys_of es) (IsDistinct-head same e.0 (keys_of es) unique)
+    later = flat_map-each _ _ _ (λ k apart. ap (λ b. give k (cond b (Some e.1) (lookup (same k) es)))
+        (sym (laws.symm k e.0 ∙ apart))) _ (IsDistinct-head same e.0 _ unique)

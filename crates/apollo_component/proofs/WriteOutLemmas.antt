@@ -1,6 +1,6 @@
 -- What one more component adds to the parts of each origin.
-use Rattle.std.proofs.Common.{◌≡◌, false, List, [], ◌∷◌, ◌++◌, Option, true, map, refl, sym}
-use Rattle.std.proofs.Common.{ap, ◌∙◌, arith, filter}
+use Rattle.std.proofs.Common.{◌≡◌, false, List, [], ◌∷◌, ◌++◌, Option, true, map, refl, sym, ap, ◌∙◌, arith}
+use Rattle.std.proofs.Common.{filter}
 use Rattle.std.specs.List.{filter_map, list_any}
 use Rattle.std.specs.Map.{lookup}
 use Rattle.std.specs.Prelude.{unwrap_or}
@@ -22,8 +22,7 @@ use Rattle.apollo_component.specs.declared.parts_by_origin.PartsByOrigin.{PartsB
 use Rattle.apollo_component.proofs.FirstOfEachLemmas.{list_any-first_of_each}
 use Rattle.apollo_component.proofs.Lists.Ends.{filter-push_dropped, filter-push_kept}
 use Rattle.apollo_component.proofs.Tabled.{tabled, first_of_each-distinct, first_of_each-insert}
-use Rattle.apollo_component.proofs.Tabled.{tabled-insert}
-use Rattle.apollo_component.proofs.Tabled.{lookup-tabled}
+use Rattle.apollo_component.proofs.Tabled.{tabled-insert, lookup-tabled}
 
 same_id-equiv : IsEquivalence same_id
 same_id-equiv = on_equiv number_of nat_eq_equiv
@@ -36,10 +35,9 @@ filter_map-push which xs x =
 
 module _ (cs : List SourcedPart) (c : SourcedPart) where
   -- so with identities
-  ids-push : filter_map id_of (origins_in (cs ++ c ∷ []))
-      ≡ with_some (id_of c.0) (filter_map id_of (origins_in cs))
-  ids-push =
-      ap (filter_map id_of) (map-append (λ c. c.0) cs (c ∷ [])) ∙ filter_map-push id_of (origins_in cs) c.0
+  ids-push : filter_map id_of (origins_in (cs ++ c ∷ [])) ≡ with_some (id_of c.0)
+      (filter_map id_of (origins_in cs))
+  ids-push = simp (map-append, filter_map-push)
 
   module _ (origin : ComponentOrigin) where
     abbrev its : List SourcedPart
@@ -48,15 +46,13 @@ module _ (cs : List SourcedPart) (c : SourcedPart) where
     -- a component is of its origin, the last part of its sort
     of_origin-own : same_origin origin c.0 ≡ true
         → of_origin origin (cs ++ c ∷ []) ≡ with_part c.1 (of_origin origin cs)
-    of_origin-own e =
-        ap (λ l. parts_of (map (λ c. c.1) l)) (filter-push_kept (λ c. same_origin origin c.0) cs c e)
-        ∙ ap parts_of (map-append (λ c. c.1) its (c ∷ []))
+    of_origin-own e = ap (λ l. parts_of (map (λ c. c.1) l)) (filter-push_kept _ cs c e)
+        ∙ ap parts_of (map-append _ its _)
         ∙ (λ i. with_lists (λ s. filter_map-push (of_sort s) (map (λ c. c.1) its) c.1 i))
 
     -- and of no other
     of_origin-other : same_origin origin c.0 ≡ false → of_origin origin (cs ++ c ∷ []) ≡ of_origin origin cs
-    of_origin-other e =
-        ap (λ l. parts_of (map (λ c. c.1) l)) (filter-push_dropped (λ c. same_origin origin c.0) cs c e)
+    of_origin-other e = ap (λ l. parts_of (map (λ c. c.1) l)) (filter-push_dropped _ cs c e)
 
 -- identities of one number have the same parts
 of_origin-number : (cs : List SourcedPart) (a b : ExtensionId) → same_id a b ≡ true
@@ -103,14 +99,11 @@ module _ (b : PartsByOrigin) (cs : List SourcedPart) (was : b ≡ by_origin cs) 
     -- it is put at its identity
     of_extensions-insert : insert_entry same_id (of_extensions cs) id (with_part p (before id))
         ≡ of_extensions (cs ++ (Extension id, p) ∷ [])
-    of_extensions-insert =
-        ap (insert_entry same_id (of_extensions cs) id)
+    of_extensions-insert = ap (insert_entry same_id (of_extensions cs) id)
         (sym (of_origin-own cs (Extension id, p) (Extension id) (same_id-equiv.refl id)))
         ∙ tabled-insert same_id same_id-equiv before after id
-        (λ e apart. sym (of_origin-other cs (Extension id, p) (Extension e)
-        (same_id-equiv.symm e id ∙ apart)))
-        (of_origin-number (cs ++ (Extension id, p) ∷ []) id) (first_of_each same_id ids)
-        (first_of_each-distinct same_id ids)
+        (λ e apart. sym (of_origin-other cs (Extension id, p) (Extension e) (same_id-equiv.symm e id
+        ∙ apart))) (of_origin-number (cs ++ (Extension id, p) ∷ []) id) _ (first_of_each-distinct same_id ids)
         ∙ ap (tabled after) (sym (first_of_each-insert same_id same_id-equiv ids id)
         ∙ ap (first_of_each same_id) (sym (ids-push cs (Extension id, p))))
 

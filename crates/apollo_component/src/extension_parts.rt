@@ -94,7 +94,12 @@ impl ExtensionParts {
                 written.push(extension_of_type(alloc, kind, name, id.location(), parts)?)?;
                 Ok(())
             }
-            HeldParts::Many(table) => write_types_of(alloc, table, kind, name, written),
+            HeldParts::Many(table) => {
+                for (id, parts) in table.into_index_map() {
+                    written.push(extension_of_type(alloc, kind, name, id.location(), parts)?)?;
+                }
+                Ok(())
+            }
         }
     }
 
@@ -158,25 +163,6 @@ impl HeldParts {
             HeldParts::Many(table) => Ok(table),
         }
     }
-}
-
-/// Adds each, in order, as an extension of a type of this kind and name.
-fn write_types_of(
-    alloc: Global,
-    extensions: Table<ExtensionId, Parts>,
-    kind: TypeKind,
-    name: &Name,
-    written: &mut Vec<Definition>,
-) -> Result<(), AllocError>
-    ensures added { OnOk result (written.new.items
-        ≡ written.old.items
-        ++ map (λ e. type_extension kind name.now e.1 (extension_location e.0)) extensions) }
-    ensures kept { Begins written.old.items written.new.items }
-{
-    for (id, parts) in extensions.into_index_map() {
-        written.push(extension_of_type(alloc, kind, name, id.location(), parts)?)?;
-    }
-    Ok(())
 }
 
 /// The extension of a type of this kind and name, at this location, with these parts. The error is out of

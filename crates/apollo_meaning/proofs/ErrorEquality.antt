@@ -1,5 +1,6 @@
 -- Equality of the errors of a build.
-use Rattle.apollo_meaning.proofs.Prelude.{◌≡◌, Bool, true, ◌&&◌, refl, ap, subst, Option, NameView, same_text, Compares}
+use Rattle.apollo_meaning.proofs.Prelude.{◌≡◌, Bool, true, ◌&&◌, refl, ap, subst, Option, NameView, same_text}
+use Rattle.apollo_meaning.proofs.Prelude.{Compares}
 use Rattle.std.specs.Option.{option_eq}
 use Rattle.std.proofs.lemmas.Iterator.Adapters.{option_map_id}
 use Rattle.graphql_nodes.specs.Comparing.{bare_name}
@@ -16,9 +17,8 @@ locations : Compares (option_eq span.ghosts.eq) (λ (location : Option SourceSpa
 locations = subst (Compares (option_eq span.ghosts.eq)) (λ i location. option_map_id location i)
     (options source_spans)
 
-two_names : Compares {B = NameView × NameView}
-    (λ (a b : NameView × NameView). same_text a.0 b.0 && same_text a.1 b.1)
-    (λ a. (bare_name a.0, bare_name a.1))
+two_names : Compares {B = NameView × NameView} (λ (a b : NameView × NameView). same_text a.0 b.0
+    && same_text a.1 b.1) (λ a. (bare_name a.0, bare_name a.1))
 two_names = pairs names names
 
 -- errors of one kind are equal where what they hold is
@@ -41,9 +41,8 @@ error_at e.OrphanSchemaExtension e.OrphanSchemaExtension = (λ _. refl, λ _. re
 error_at (e.OrphanTypeExtension n) (e.OrphanTypeExtension n') =
     kind names e.OrphanTypeExtension n n' (λ h. cc)
 error_at (e.TypeExtensionKindMismatch n x p d) (e.TypeExtensionKindMismatch n' x' p' d') =
-    kind (pairs names (pairs texts (pairs locations texts)))
-    (λ q. e.TypeExtensionKindMismatch q.0 q.1.0 q.1.1.0 q.1.1.1) (n, (x, (p, d))) (n', (x', (p', d')))
-    (λ h. cc)
+    kind (pairs names (pairs texts (pairs locations texts))) (λ q. e.TypeExtensionKindMismatch q.0 q.1.0
+    q.1.1.0 q.1.1.1) (n, (x, (p, d))) (n', (x', (p', d'))) (λ h. cc)
 error_at (e.DuplicateRootOperation p o) (e.DuplicateRootOperation p' o') =
     kind (pairs locations texts) (λ q. e.DuplicateRootOperation q.0 q.1) (p, o) (p', o') (λ h. cc)
 error_at (e.DuplicateImplementsInterfaceInObject n t) (e.DuplicateImplementsInterfaceInObject n' t') =

@@ -1,4 +1,3 @@
-pub mod ComponentLemmas
 pub mod DroppedLemmas
 pub mod FoundLemmas
 pub mod KeptLemmas

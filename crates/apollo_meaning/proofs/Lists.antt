@@ -1,5 +1,6 @@
 -- What is added by the elements of a list, and what an option gives.
-use Rattle.std.proofs.Common.{◌≡◌, Bool, cond, ◌&&◌, List, [], ◌∷◌, Option, Some, None, filter, is_some, map, slice_get, true, refl, arith}
+use Rattle.std.proofs.Common.{◌≡◌, Bool, cond, ◌&&◌, List, [], ◌∷◌, Option, filter, is_some, map, slice_get}
+use Rattle.std.proofs.Common.{true, refl, arith}
 use Rattle.std.specs.List.{find, flat_map, list_any}
 use Rattle.std.specs.Option.{option_map, option_map_or}
 
@@ -30,13 +31,6 @@ pub any-given : {X : Type 0} (p : X → Bool) (xs : List X)
 any-given p [] = refl
 any-given p (x ∷ xs) = grind (arith, any-given p xs)
 
--- an option that a function is applied to before
-pub option_map_or-map : {X Y Z : Type 0} (k : Y → Z) (f : X → Y) (z : Z) (o : Option X)
-    → option_map_or k (option_map f o) z ≡ option_map_or (λ x. k (f x)) o z
-option_map_or-map k f z None = refl
-option_map_or-map k f z (Some x) = refl
-
 -- nothing is given, whether there is something or not
 pub nothing : {X Y : Type 0} (o : Option X) → option_map_or {U = List Y} (λ _. []) o [] ≡ []
-nothing None = refl
-nothing (Some x) = refl
+nothing o = grind arith

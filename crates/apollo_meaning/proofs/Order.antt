@@ -3,4 +3,3 @@ pub mod FoldingLemmas
 pub mod MomentLemmas
 pub mod OnceLemmas
 pub mod PlaceLemmas
-pub mod SaidLemmas

@@ -6,7 +6,7 @@
 -- `__Type`, `__TypeKind`, `__Field`, `__InputValue`, `__EnumValue`, `__Directive` and `__DirectiveLocation`.
 -- All these have no descriptions, and every node and name in them is in file number 0.
 use Prim.Native.String.{String}
-use Rattle.std.specs.Prelude.{List, [], ◌∷◌, ◌++◌, None, Some, false, map, codes}
+use Rattle.std.specs.Prelude.{ℕ, List, [], ◌∷◌, ◌++◌, None, Some, false, map, codes}
 use Rattle.graphql_nodes.specs.NodeView.{NodeView}
 use Rattle.graphql_nodes.specs.declared.directive_location.DirectiveLocation.TheVariants as at
 use Rattle.graphql_ast.specs.declared.type_reference.Type.{«Type» as TypeReference}
@@ -47,16 +47,9 @@ abbrev pub built_in_scalars : List Definition
 built_in_scalars =
     map (λ text. nodes.scalar (codes text)) ("Int" ∷ "Float" ∷ "String" ∷ "Boolean" ∷ "ID" ∷ [])
 
--- `directive @skip(if: Boolean!) on FIELD | FRAGMENT_SPREAD | INLINE_FRAGMENT`
-abbrev pub skip_directive : Definition
-skip_directive = nodes.directive (codes "skip")
-    (nodes.argument (codes "if") (non_null "Boolean") None)
-    (at.Field ∷ at.FragmentSpread ∷ at.InlineFragment ∷ [])
-
--- `directive @include(if: Boolean!) on FIELD | FRAGMENT_SPREAD | INLINE_FRAGMENT`
-abbrev pub include_directive : Definition
-include_directive = nodes.directive (codes "include")
-    (nodes.argument (codes "if") (non_null "Boolean") None)
+-- a directive of selections: `directive @text(if: Boolean!) on FIELD | FRAGMENT_SPREAD | INLINE_FRAGMENT`
+abbrev pub condition_directive : List ℕ → Definition
+condition_directive text = nodes.directive text (nodes.argument (codes "if") (non_null "Boolean") None)
     (at.Field ∷ at.FragmentSpread ∷ at.InlineFragment ∷ [])
 
 -- `directive @deprecated(reason: String = "No longer supported") on FIELD_DEFINITION | ENUM_VALUE`
@@ -73,7 +66,9 @@ specified_by_directive = nodes.directive (codes "specifiedBy")
 
 -- the directives `@skip`, `@include`, `@deprecated` and `@specifiedBy`
 abbrev pub built_in_directives : List Definition
-built_in_directives = skip_directive ∷ include_directive ∷ deprecated_directive ∷ specified_by_directive ∷ []
+built_in_directives =
+    condition_directive (codes "skip") ∷ condition_directive (codes "include") ∷ deprecated_directive
+    ∷ specified_by_directive ∷ []
 
 -- `__Schema`: what introspection says of the schema
 abbrev pub schema_type : Definition

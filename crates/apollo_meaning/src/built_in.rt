@@ -1,12 +1,12 @@
 //! The definitions that every schema has: GraphQL specification of October 2021, sections 3.5 (scalars), 3.13
 //! (directives) and 4.2 (schema introspection).
-ghost use Rattle.std.specs.Prelude.{◌≡◌, ◌++◌, map, IfOk, OnOk};
-ghost use Rattle.apollo_meaning.specs.BuiltInNodes as nodes;
+ghost use Rattle.std.specs.Prelude.{◌≡◌, ◌++◌, IfOk, OnOk};
 ghost use Rattle.apollo_meaning.specs.BuiltInTable as table;
 
+use crate::built_in_nodes::DefinitionRow::{Enumeration, Object, Scalar};
 use crate::built_in_nodes::FieldRow::{Field, Filtered};
 use crate::built_in_nodes::TypeRow::{ListOf, Named, NonNull, NonNullListOf};
-use crate::built_in_nodes::{argument, directive, enumeration, object, scalar};
+use crate::built_in_nodes::{DefinitionRow, add_definitions, argument, directive};
 use graphql_ast::definition::Definition;
 use graphql_ast::value::Value;
 use graphql_nodes::collections::items::Items;
@@ -14,23 +14,124 @@ use graphql_nodes::collections::text::Text;
 use graphql_nodes::directive_location::DirectiveLocation;
 use std::alloc::{AllocError, Global};
 
-/// Adds scalar types at the end, in order.
-fn add_scalars(
-    alloc: Global,
-    definitions: &mut Items<Definition>,
-    texts: &[&str],
-) -> Result<(), AllocError>
-    ensures { OnOk result (definitions.new
-        ≡ definitions.old ++ map (λ text. nodes.scalar text.now) texts.now) }
-{
-    for text in texts {
-        definitions.push(scalar(alloc, text)?)?;
-    }
-    Ok(())
-}
+/// The scalar types.
+const SCALARS: [DefinitionRow; 5] = [
+    Scalar("Int"),
+    Scalar("Float"),
+    Scalar("String"),
+    Scalar("Boolean"),
+    Scalar("ID"),
+];
 
-fn skip_directive(alloc: Global) -> Result<Definition, AllocError>
-    ensures { IfOk result (λ made. made ≡ table.skip_directive) }
+/// The types of introspection.
+const INTROSPECTION_TYPES: [DefinitionRow; 8] = [
+    Object(
+        "__Schema",
+        &[
+            Field("description", Named("String")),
+            Field("types", NonNullListOf("__Type")),
+            Field("queryType", NonNull("__Type")),
+            Field("mutationType", Named("__Type")),
+            Field("subscriptionType", Named("__Type")),
+            Field("directives", NonNullListOf("__Directive")),
+        ],
+    ),
+    Object(
+        "__Type",
+        &[
+            Field("kind", NonNull("__TypeKind")),
+            Field("name", Named("String")),
+            Field("description", Named("String")),
+            Filtered("fields", ListOf("__Field")),
+            Field("interfaces", ListOf("__Type")),
+            Field("possibleTypes", ListOf("__Type")),
+            Filtered("enumValues", ListOf("__EnumValue")),
+            Field("inputFields", ListOf("__InputValue")),
+            Field("ofType", Named("__Type")),
+            Field("specifiedByURL", Named("String")),
+        ],
+    ),
+    Enumeration(
+        "__TypeKind",
+        &[
+            "SCALAR",
+            "OBJECT",
+            "INTERFACE",
+            "UNION",
+            "ENUM",
+            "INPUT_OBJECT",
+            "LIST",
+            "NON_NULL",
+        ],
+    ),
+    Object(
+        "__Field",
+        &[
+            Field("name", NonNull("String")),
+            Field("description", Named("String")),
+            Field("args", NonNullListOf("__InputValue")),
+            Field("type", NonNull("__Type")),
+            Field("isDeprecated", NonNull("Boolean")),
+            Field("deprecationReason", Named("String")),
+        ],
+    ),
+    Object(
+        "__InputValue",
+        &[
+            Field("name", NonNull("String")),
+            Field("description", Named("String")),
+            Field("type", NonNull("__Type")),
+            Field("defaultValue", Named("String")),
+        ],
+    ),
+    Object(
+        "__EnumValue",
+        &[
+            Field("name", NonNull("String")),
+            Field("description", Named("String")),
+            Field("isDeprecated", NonNull("Boolean")),
+            Field("deprecationReason", Named("String")),
+        ],
+    ),
+    Object(
+        "__Directive",
+        &[
+            Field("name", NonNull("String")),
+            Field("description", Named("String")),
+            Field("locations", NonNullListOf("__DirectiveLocation")),
+            Field("args", NonNullListOf("__InputValue")),
+            Field("isRepeatable", NonNull("Boolean")),
+        ],
+    ),
+    Enumeration(
+        "__DirectiveLocation",
+        &[
+            "QUERY",
+            "MUTATION",
+            "SUBSCRIPTION",
+            "FIELD",
+            "FRAGMENT_DEFINITION",
+            "FRAGMENT_SPREAD",
+            "INLINE_FRAGMENT",
+            "VARIABLE_DEFINITION",
+            "SCHEMA",
+            "SCALAR",
+            "OBJECT",
+            "FIELD_DEFINITION",
+            "ARGUMENT_DEFINITION",
+            "INTERFACE",
+            "UNION",
+            "ENUM",
+            "ENUM_VALUE",
+            "INPUT_OBJECT",
+            "INPUT_FIELD_DEFINITION",
+        ],
+    ),
+];
+
+/// A directive of selections that has the argument `if: Boolean!`.
+fn condition_directive(alloc: Global, text: &str) -> Result<Definition, AllocError>
+    ensures { IfOk result (λ made. made ≡ table.condition_directive text.now) }
 {
     let locations = vec![in alloc;
         DirectiveLocation::Field,
@@ -38,19 +139,7 @@ fn skip_directive(alloc: Global) -> Result<Definition, AllocError>
         DirectiveLocation::InlineFragment,
     ]?;
     let argument = argument(alloc, "if", NonNull("Boolean"), None)?;
-    directive(alloc, "skip", argument, locations)
-}
-
-fn include_directive(alloc: Global) -> Result<Definition, AllocError>
-    ensures { IfOk result (λ made. made ≡ table.include_directive) }
-{
-    let locations = vec![in alloc;
-        DirectiveLocation::Field,
-        DirectiveLocation::FragmentSpread,
-        DirectiveLocation::InlineFragment,
-    ]?;
-    let argument = argument(alloc, "if", NonNull("Boolean"), None)?;
-    directive(alloc, "include", argument, locations)
+    directive(alloc, text, argument, locations)
 }
 
 fn deprecated_directive(alloc: Global) -> Result<Definition, AllocError>
@@ -77,178 +166,10 @@ fn specified_by_directive(alloc: Global) -> Result<Definition, AllocError>
 fn add_directives(alloc: Global, definitions: &mut Items<Definition>) -> Result<(), AllocError>
     ensures { OnOk result (definitions.new ≡ definitions.old ++ table.built_in_directives) }
 {
-    definitions.push(skip_directive(alloc)?)?;
-    definitions.push(include_directive(alloc)?)?;
+    definitions.push(condition_directive(alloc, "skip")?)?;
+    definitions.push(condition_directive(alloc, "include")?)?;
     definitions.push(deprecated_directive(alloc)?)?;
     definitions.push(specified_by_directive(alloc)?)?;
-    Ok(())
-}
-
-fn schema_type(alloc: Global) -> Result<Definition, AllocError>
-    ensures { IfOk result (λ made. made ≡ table.schema_type) }
-{
-    object(
-        alloc,
-        "__Schema",
-        &[
-            Field("description", Named("String")),
-            Field("types", NonNullListOf("__Type")),
-            Field("queryType", NonNull("__Type")),
-            Field("mutationType", Named("__Type")),
-            Field("subscriptionType", Named("__Type")),
-            Field("directives", NonNullListOf("__Directive")),
-        ],
-    )
-}
-
-fn type_type(alloc: Global) -> Result<Definition, AllocError>
-    ensures { IfOk result (λ made. made ≡ table.type_type) }
-{
-    object(
-        alloc,
-        "__Type",
-        &[
-            Field("kind", NonNull("__TypeKind")),
-            Field("name", Named("String")),
-            Field("description", Named("String")),
-            Filtered("fields", ListOf("__Field")),
-            Field("interfaces", ListOf("__Type")),
-            Field("possibleTypes", ListOf("__Type")),
-            Filtered("enumValues", ListOf("__EnumValue")),
-            Field("inputFields", ListOf("__InputValue")),
-            Field("ofType", Named("__Type")),
-            Field("specifiedByURL", Named("String")),
-        ],
-    )
-}
-
-fn type_kind_type(alloc: Global) -> Result<Definition, AllocError>
-    ensures { IfOk result (λ made. made ≡ table.type_kind_type) }
-{
-    enumeration(
-        alloc,
-        "__TypeKind",
-        &[
-            "SCALAR",
-            "OBJECT",
-            "INTERFACE",
-            "UNION",
-            "ENUM",
-            "INPUT_OBJECT",
-            "LIST",
-            "NON_NULL",
-        ],
-    )
-}
-
-fn field_type(alloc: Global) -> Result<Definition, AllocError>
-    ensures { IfOk result (λ made. made ≡ table.field_type) }
-{
-    object(
-        alloc,
-        "__Field",
-        &[
-            Field("name", NonNull("String")),
-            Field("description", Named("String")),
-            Field("args", NonNullListOf("__InputValue")),
-            Field("type", NonNull("__Type")),
-            Field("isDeprecated", NonNull("Boolean")),
-            Field("deprecationReason", Named("String")),
-        ],
-    )
-}
-
-fn input_value_type(alloc: Global) -> Result<Definition, AllocError>
-    ensures { IfOk result (λ made. made ≡ table.input_value_type) }
-{
-    object(
-        alloc,
-        "__InputValue",
-        &[
-            Field("name", NonNull("String")),
-            Field("description", Named("String")),
-            Field("type", NonNull("__Type")),
-            Field("defaultValue", Named("String")),
-        ],
-    )
-}
-
-fn enum_value_type(alloc: Global) -> Result<Definition, AllocError>
-    ensures { IfOk result (λ made. made ≡ table.enum_value_type) }
-{
-    object(
-        alloc,
-        "__EnumValue",
-        &[
-            Field("name", NonNull("String")),
-            Field("description", Named("String")),
-            Field("isDeprecated", NonNull("Boolean")),
-            Field("deprecationReason", Named("String")),
-        ],
-    )
-}
-
-fn directive_type(alloc: Global) -> Result<Definition, AllocError>
-    ensures { IfOk result (λ made. made ≡ table.directive_type) }
-{
-    object(
-        alloc,
-        "__Directive",
-        &[
-            Field("name", NonNull("String")),
-            Field("description", Named("String")),
-            Field("locations", NonNullListOf("__DirectiveLocation")),
-            Field("args", NonNullListOf("__InputValue")),
-            Field("isRepeatable", NonNull("Boolean")),
-        ],
-    )
-}
-
-fn directive_location_type(alloc: Global) -> Result<Definition, AllocError>
-    ensures { IfOk result (λ made. made ≡ table.directive_location_type) }
-{
-    enumeration(
-        alloc,
-        "__DirectiveLocation",
-        &[
-            "QUERY",
-            "MUTATION",
-            "SUBSCRIPTION",
-            "FIELD",
-            "FRAGMENT_DEFINITION",
-            "FRAGMENT_SPREAD",
-            "INLINE_FRAGMENT",
-            "VARIABLE_DEFINITION",
-            "SCHEMA",
-            "SCALAR",
-            "OBJECT",
-            "FIELD_DEFINITION",
-            "ARGUMENT_DEFINITION",
-            "INTERFACE",
-            "UNION",
-            "ENUM",
-            "ENUM_VALUE",
-            "INPUT_OBJECT",
-            "INPUT_FIELD_DEFINITION",
-        ],
-    )
-}
-
-/// Adds the types of introspection at the end.
-fn add_introspection_types(
-    alloc: Global,
-    definitions: &mut Items<Definition>,
-) -> Result<(), AllocError>
-    ensures { OnOk result (definitions.new ≡ definitions.old ++ table.introspection_types) }
-{
-    definitions.push(schema_type(alloc)?)?;
-    definitions.push(type_type(alloc)?)?;
-    definitions.push(type_kind_type(alloc)?)?;
-    definitions.push(field_type(alloc)?)?;
-    definitions.push(input_value_type(alloc)?)?;
-    definitions.push(enum_value_type(alloc)?)?;
-    definitions.push(directive_type(alloc)?)?;
-    definitions.push(directive_location_type(alloc)?)?;
     Ok(())
 }
 
@@ -263,12 +184,8 @@ pub fn built_in_definitions(alloc: Global) -> Result<Items<Definition>, AllocErr
     ensures { IfOk result (λ definitions. definitions ≡ table.built_in_definitions) }
 {
     let mut definitions = Items::new(alloc);
-    add_scalars(
-        alloc,
-        &mut definitions,
-        &["Int", "Float", "String", "Boolean", "ID"],
-    )?;
+    add_definitions(alloc, &mut definitions, &SCALARS)?;
     add_directives(alloc, &mut definitions)?;
-    add_introspection_types(alloc, &mut definitions)?;
+    add_definitions(alloc, &mut definitions, &INTROSPECTION_TYPES)?;
     Ok(definitions)
 }

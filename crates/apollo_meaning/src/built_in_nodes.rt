@@ -1,8 +1,8 @@
 //! Nodes in the file of built-in definitions, with no description and no directive. Each error is out of
 //! memory.
-ghost use Rattle.std.specs.Prelude.{◌≡◌, ◌∷◌, [], map, option_map, IfOk};
+ghost use Rattle.std.specs.Prelude.{◌≡◌, ◌∷◌, [], ◌++◌, map, option_map, IfOk, OnOk};
 ghost use Rattle.apollo_meaning.specs.BuiltInNodes as nodes;
-ghost use Rattle.apollo_meaning.specs.BuiltInRows.{row_type, row_field};
+ghost use Rattle.apollo_meaning.specs.BuiltInRows.{row_type, row_field, row_definition};
 ghost use Rattle.apollo_meaning.specs.BuiltInTable.{include_deprecated};
 
 use graphql_ast::definition::Definition;
@@ -41,6 +41,14 @@ pub enum TypeRow {
 pub enum FieldRow {
     Field(&'static str, TypeRow),
     Filtered(&'static str, TypeRow),
+}
+
+/// The definition of a type as a row of the table: its name, and its fields or values.
+#[derive(Clone, Copy)]
+pub enum DefinitionRow {
+    Scalar(&'static str),
+    Object(&'static str, &'static [FieldRow]),
+    Enumeration(&'static str, &'static [&'static str]),
 }
 
 /// A node in the file of built-in definitions.
@@ -176,7 +184,7 @@ fn fields(alloc: Global, rows: &[FieldRow]) -> Result<Items<Node<FieldDefinition
 }
 
 /// An object type with the fields of these rows.
-pub fn object(alloc: Global, text: &str, rows: &[FieldRow]) -> Result<Definition, AllocError>
+fn object(alloc: Global, text: &str, rows: &[FieldRow]) -> Result<Definition, AllocError>
     ensures { IfOk result (λ made. made ≡ nodes.object text.now (map row_field rows.now)) }
 {
     let fields = fields(alloc, rows)?;
@@ -217,7 +225,7 @@ fn enum_values(
 }
 
 /// An enum type with these values.
-pub fn enumeration(alloc: Global, text: &str, values: &[&str]) -> Result<Definition, AllocError>
+fn enumeration(alloc: Global, text: &str, values: &[&str]) -> Result<Definition, AllocError>
     ensures { IfOk result (λ made. made
         ≡ nodes.enumeration text.now (map (λ value. nodes.enum_value value.now) values.now)) }
 {
@@ -232,7 +240,7 @@ pub fn enumeration(alloc: Global, text: &str, values: &[&str]) -> Result<Definit
 }
 
 /// A scalar type.
-pub fn scalar(alloc: Global, text: &str) -> Result<Definition, AllocError>
+fn scalar(alloc: Global, text: &str) -> Result<Definition, AllocError>
     ensures { IfOk result (λ made. made ≡ nodes.scalar text.now) }
 {
     let definition = ScalarTypeDefinition {
@@ -241,6 +249,31 @@ pub fn scalar(alloc: Global, text: &str) -> Result<Definition, AllocError>
         directives: DirectiveList::new(alloc),
     };
     Ok(Definition::ScalarTypeDefinition(node(alloc, definition)?))
+}
+
+/// The definition that a row writes.
+fn definition(alloc: Global, row: DefinitionRow) -> Result<Definition, AllocError>
+    ensures { IfOk result (λ made. made ≡ row_definition row) }
+{
+    match row {
+        DefinitionRow::Scalar(text) => scalar(alloc, text),
+        DefinitionRow::Object(text, rows) => object(alloc, text, rows),
+        DefinitionRow::Enumeration(text, values) => enumeration(alloc, text, values),
+    }
+}
+
+/// Adds the definitions that rows write at the end, in order.
+pub fn add_definitions(
+    alloc: Global,
+    definitions: &mut Items<Definition>,
+    rows: &[DefinitionRow],
+) -> Result<(), AllocError>
+    ensures { OnOk result (definitions.new ≡ definitions.old ++ map row_definition rows.now) }
+{
+    for row in rows {
+        definitions.push(definition(alloc, *row)?)?;
+    }
+    Ok(())
 }
 
 /// A directive with one argument, at these locations.

@@ -18,6 +18,18 @@ pub enum Collection {
     InputFields,
 }
 
+/// The error that stands beside the collection, with these names.
+macro_rules! collision_by {
+    ($collection:expr, $kept:expr, $type_name:expr; $($sort:ident => $error:ident,)*) => {
+        match $collection {
+            $(Collection::$sort => BuildError::$error {
+                name_at_previous_location: $kept,
+                type_name: $type_name,
+            },)*
+        }
+    };
+}
+
 impl Collection {
     /// The fault of a component whose name is kept already, in a definition or extension of this type name.
     /// It is that of its collection, with copies of both names. The error is out of memory.
@@ -26,35 +38,14 @@ impl Collection {
     {
         let name_at_previous_location = kept.clone()?;
         let type_name = type_name.clone()?;
-        Ok(match self {
-            Collection::ObjectInterfaces => BuildError::DuplicateImplementsInterfaceInObject {
-                name_at_previous_location,
-                type_name,
-            },
-            Collection::InterfaceInterfaces => BuildError::DuplicateImplementsInterfaceInInterface {
-                name_at_previous_location,
-                type_name,
-            },
-            Collection::ObjectFields => BuildError::ObjectFieldNameCollision {
-                name_at_previous_location,
-                type_name,
-            },
-            Collection::InterfaceFields => BuildError::InterfaceFieldNameCollision {
-                name_at_previous_location,
-                type_name,
-            },
-            Collection::EnumValues => BuildError::EnumValueNameCollision {
-                name_at_previous_location,
-                type_name,
-            },
-            Collection::UnionMembers => BuildError::UnionMemberNameCollision {
-                name_at_previous_location,
-                type_name,
-            },
-            Collection::InputFields => BuildError::InputFieldNameCollision {
-                name_at_previous_location,
-                type_name,
-            },
-        })
+        Ok(collision_by!(self, name_at_previous_location, type_name;
+            ObjectInterfaces => DuplicateImplementsInterfaceInObject,
+            InterfaceInterfaces => DuplicateImplementsInterfaceInInterface,
+            ObjectFields => ObjectFieldNameCollision,
+            InterfaceFields => InterfaceFieldNameCollision,
+            EnumValues => EnumValueNameCollision,
+            UnionMembers => UnionMemberNameCollision,
+            InputFields => InputFieldNameCollision,
+        ))
     }
 }

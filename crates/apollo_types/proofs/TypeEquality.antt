@@ -48,22 +48,21 @@ plain kind description name directives = record {
 }
 
 -- the description and the name, and then what follows
-headed : {T R : Type 0} {E : T → T → Bool} {f : T → R} (description : T → Option NameView)
-    (name : T → NameView) → Compares E f → Compares {B = Option NameView × (NameView × R)}
-    (λ a b. option_eq (λ m n. pointwise nat_eq m.text n.text) (description a) (description b)
-    && (pointwise nat_eq (name a).text (name b).text && E a b))
+headed : {T R : Type 0} {E : T → T → Bool} {f : T → R} (description : T → Option NameView) (name : T
+    → NameView) → Compares E f
+    → Compares {B = Option NameView × (NameView × R)} (λ a b. option_eq (λ m n. pointwise nat_eq m.text
+    n.text) (description a) (description b) && (pointwise nat_eq (name a).text (name b).text && E a b))
     (λ t. (option_map bare_name (description t), (bare_name (name t), f t)))
-headed description name rest =
-    and_then (of_part description (options names)) (and_then (of_part name names) rest)
+headed description name rest = and_then (of_part description (options names)) (and_then (of_part name names)
+    rest)
 
 pub scalars : Compares scalar.ghosts.eq bare_scalar
-scalars = made (λ p. plain k.Scalar p.0 p.1.0 p.1.1)
-    (λ t. (t.description, (t.name, t.directives))) (λ _. refl)
-    (headed (λ t. t.description) (λ t. t.name) (of_part (λ (t : ScalarType). t.directives) directive_lists))
+scalars = made (λ p. plain k.Scalar p.0 p.1.0 p.1.1) (λ t. (t.description, (t.name, t.directives)))
+    (λ _. refl) (headed (λ t. t.description) (λ t. t.name) (of_part (λ (t : ScalarType). t.directives)
+    directive_lists))
 
 pub objects : Compares object.ghosts.eq bare_object
-objects = made
-    (λ p. record (plain k.Object p.0 p.1.0 p.1.1.1.0) { names = p.1.1.0; fields = p.1.1.1.1 })
+objects = made (λ p. record (plain k.Object p.0 p.1.0 p.1.1.1.0) { names = p.1.1.0; fields = p.1.1.1.1 })
     (λ t. (t.description, (t.name, (t.names, (t.directives, t.fields))))) (λ _. refl)
     (headed (λ t. t.description) (λ t. t.name)
     (and_then (of_part (λ (t : ObjectType). t.implements_interfaces) sets_of_component_names)
@@ -71,8 +70,8 @@ objects = made
     (of_part (λ (t : ObjectType). t.fields) (tables_of_names (components field_definitions))))))
 
 pub interfaces : Compares interface.ghosts.eq bare_interface
-interfaces = made
-    (λ p. record (plain k.Interface p.0 p.1.0 p.1.1.1.0) { names = p.1.1.0; fields = p.1.1.1.1 })
+interfaces = made (λ p. record (plain k.Interface p.0 p.1.0 p.1.1.1.0)
+    { names = p.1.1.0; fields = p.1.1.1.1 })
     (λ t. (t.description, (t.name, (t.names, (t.directives, t.fields))))) (λ _. refl)
     (headed (λ t. t.description) (λ t. t.name)
     (and_then (of_part (λ (t : InterfaceType). t.implements_interfaces) sets_of_component_names)
@@ -81,23 +80,20 @@ interfaces = made
 
 pub unions : Compares union.ghosts.eq bare_union
 unions = made (λ p. record (plain k.Union p.0 p.1.0 p.1.1.0) { names = p.1.1.1 })
-    (λ t. (t.description, (t.name, (t.directives, t.names)))) (λ _. refl)
-    (headed (λ t. t.description) (λ t. t.name)
-    (and_then (of_part (λ (t : UnionType). t.directives) directive_lists)
+    (λ t. (t.description, (t.name, (t.directives, t.names)))) (λ _. refl) (headed (λ t. t.description)
+    (λ t. t.name) (and_then (of_part (λ (t : UnionType). t.directives) directive_lists)
     (of_part (λ (t : UnionType). t.members) sets_of_component_names)))
 
 pub enums : Compares enum.ghosts.eq bare_enum
 enums = made (λ p. record (plain k.Enum p.0 p.1.0 p.1.1.0) { values = p.1.1.1 })
-    (λ t. (t.description, (t.name, (t.directives, t.values)))) (λ _. refl)
-    (headed (λ t. t.description) (λ t. t.name)
-    (and_then (of_part (λ (t : EnumType). t.directives) directive_lists)
+    (λ t. (t.description, (t.name, (t.directives, t.values)))) (λ _. refl) (headed (λ t. t.description)
+    (λ t. t.name) (and_then (of_part (λ (t : EnumType). t.directives) directive_lists)
     (of_part (λ (t : EnumType). t.values) (tables_of_names (components enum_value_definitions)))))
 
 pub input_objects : Compares input_object.ghosts.eq bare_input_object
 input_objects = made (λ p. record (plain k.InputObject p.0 p.1.0 p.1.1.0) { input_fields = p.1.1.1 })
-    (λ t. (t.description, (t.name, (t.directives, t.input_fields)))) (λ _. refl)
-    (headed (λ t. t.description) (λ t. t.name)
-    (and_then (of_part (λ (t : InputObjectType). t.directives) directive_lists)
+    (λ t. (t.description, (t.name, (t.directives, t.input_fields)))) (λ _. refl) (headed (λ t. t.description)
+    (λ t. t.name) (and_then (of_part (λ (t : InputObjectType). t.directives) directive_lists)
     (of_part (λ (t : InputObjectType). t.fields) (tables_of_names (components input_value_definitions)))))
 
 type_at : (a b : ExtendedType) → At extended.ghosts.eq bare_extended_type a b
@@ -119,8 +115,7 @@ schema_definitions = made (λ p. record {
   query = p.1.1.0;
   mutation = p.1.1.1.0;
   subscription = p.1.1.1.1;
-})
-    (λ d. (d.description, (d.directives, (d.query, (d.mutation, d.subscription))))) (λ _. refl)
+}) (λ d. (d.description, (d.directives, (d.query, (d.mutation, d.subscription))))) (λ _. refl)
     (and_then (of_part (λ (d : SchemaDefinition). d.description) (options names))
     (and_then (of_part (λ (d : SchemaDefinition). d.directives) directive_lists)
     (and_then (of_part (λ (d : SchemaDefinition). d.query) (options component_names))

@@ -23,8 +23,6 @@ use Rattle.apollo_component.specs.declared.component.Component.{Component}
 use Rattle.apollo_component.specs.declared.component.ComponentName.{ComponentName}
 use Rattle.apollo_component.specs.declared.extension.ComponentOrigin.{ComponentOrigin}
 use Rattle.apollo_types.specs.SchemaRoots.{deref_root}
-use Rattle.apollo_types.specs.declared.components.ComponentRef.{ComponentRef}
-use Rattle.apollo_types.specs.declared.components.ComponentRef.TheVariants as refs
 use Rattle.apollo_types.specs.declared.components.Rest.{Rest}
 use Rattle.apollo_types.specs.declared.components.Rest.TheVariants.{Nothing, Names, Fields, EnumValues}
 use Rattle.apollo_types.specs.declared.components.Rest.TheVariants.{InputFields, Roots}
@@ -57,15 +55,6 @@ root_node r = record { value = (r.0, r.1.name); location = r.1.name.location }
 abbrev pub of_root : OperationType × ComponentName → SourcedPart
 of_root r = (r.1.origin, parts.Root (root_node r))
 
--- what a reference to a component shows
-abbrev pub component_seen : ComponentRef → SourcedPart
-component_seen (refs.Directive c) = of_directive c.now
-component_seen (refs.Name c) = of_name c.now
-component_seen (refs.Field c) = of_field c.now
-component_seen (refs.EnumValue c) = of_value c.now
-component_seen (refs.InputField c) = of_input_field c.now
-component_seen (refs.Root operation c) = of_root (operation, c.now)
-
 -- what is left of one collection
 abbrev pub rest_components : Rest → List SourcedPart
 rest_components Nothing = []
@@ -74,10 +63,6 @@ rest_components (Fields fields) = map of_field fields
 rest_components (EnumValues values) = map of_value values
 rest_components (InputFields fields) = map of_input_field fields
 rest_components (Roots roots) = map of_root roots
-
--- each run of `next` of an iterator of components shows what was left, in order
-abbrev pub ComponentsInOrder : Type 0
-ComponentsInOrder = ShowsInOrder component_seen
 
 -- each run of `next` of an iterator of origins shows what was left, in order
 abbrev pub OriginsInOrder : Type 0

@@ -2,10 +2,9 @@
 ghost use Rattle.std.specs.Prelude.{◌≡◌, List, ◌++◌, length, map, IfOk, OnOk, IfSome};
 ghost use Rattle.std.specs.Iterator.{UpTo, at_most};
 ghost use Rattle.std.specs.Iterator.SizeHint.{IsWithinCount, IsExactHint};
-ghost use Rattle.std.specs.Map.Iter.{TakesFirst};
-ghost use Rattle.apollo_component.specs.WriteOut.{SourcedPart, by_origin};
-ghost use Rattle.apollo_types.specs.Components.{of_directive, of_field, of_value, of_input_field, of_root};
-ghost use Rattle.apollo_types.specs.Components.{component_seen, rest_components, ComponentsInOrder};
+ghost use Rattle.std.specs.Map.Iter.{TakesFirst, deref};
+ghost use Rattle.apollo_component.specs.WriteOut.{SourcedPart, by_origin, origins_in};
+ghost use Rattle.apollo_types.specs.Components.{of_directive, of_root, rest_components};
 
 use crate::root_operations::RootOperations;
 use apollo_component::component::{Component, ComponentName};
@@ -20,37 +19,8 @@ use graphql_nodes::node::Node;
 use graphql_nodes::operation_type::OperationType;
 use indexmap::map::Values;
 use std::alloc::{AllocError, Global};
-use std::iter::FusedIterator;
 use std::marker::Model;
 use std::slice::Iter;
-
-/// A component.
-#[derive(Clone, Copy)]
-pub enum ComponentRef<'a> {
-    Directive(&'a Component<Directive>),
-    /// An interface or a member of a union.
-    Name(&'a ComponentName),
-    Field(&'a Component<FieldDefinition>),
-    EnumValue(&'a Component<EnumValueDefinition>),
-    InputField(&'a Component<InputValueDefinition>),
-    Root(OperationType, &'a ComponentName),
-}
-
-impl<'a> ComponentRef<'a> {
-    /// The definition or extension that it comes from.
-    pub(crate) fn origin(self) -> &'a ComponentOrigin
-        ensures { result.now ≡ (component_seen self.entry).0 }
-    {
-        match self {
-            ComponentRef::Directive(directive) => &directive.origin,
-            ComponentRef::Name(name) => &name.origin,
-            ComponentRef::Field(field) => &field.origin,
-            ComponentRef::EnumValue(value) => &value.origin,
-            ComponentRef::InputField(field) => &field.origin,
-            ComponentRef::Root(_, name) => &name.origin,
-        }
-    }
-}
 
 /// What is left of one collection of components.
 #[derive(Drop)]
@@ -64,20 +34,18 @@ pub(crate) enum Rest<'a> {
 }
 
 impl<'a> Rest<'a> {
-    /// The next component, if there is one.
-    fn next(&mut self) -> Option<ComponentRef<'a>>
-        ensures { TakesFirst component_seen (rest_components self.old) result (rest_components self.new) }
+    /// The origin of the next component, if there is one.
+    fn next_origin(&mut self) -> Option<&'a ComponentOrigin>
+        ensures { TakesFirst deref (origins_in (rest_components self.old)) result
+            (origins_in (rest_components self.new)) }
     {
         match self {
             Rest::Nothing => None,
-            Rest::Names(names) => Some(ComponentRef::Name(names.next()?)),
-            Rest::Fields(fields) => Some(ComponentRef::Field(fields.next()?)),
-            Rest::EnumValues(values) => Some(ComponentRef::EnumValue(values.next()?)),
-            Rest::InputFields(fields) => Some(ComponentRef::InputField(fields.next()?)),
-            Rest::Roots(roots) => {
-                let (operation_type, root) = roots.next()?;
-                Some(ComponentRef::Root(operation_type, root))
-            }
+            Rest::Names(names) => Some(&names.next()?.origin),
+            Rest::Fields(fields) => Some(&fields.next()?.origin),
+            Rest::EnumValues(values) => Some(&values.next()?.origin),
+            Rest::InputFields(fields) => Some(&fields.next()?.origin),
+            Rest::Roots(roots) => Some(&roots.next()?.1.origin),
         }
     }
 
@@ -163,9 +131,8 @@ impl<'a> Components<'a> {
         names: Rest<'a>,
         values: Rest<'a>,
     ) -> Components<'a>
-        ensures rest { result ≡ (map of_directive directives.now.0 ++ rest_components names.entry)
+        ensures { result ≡ (map of_directive directives.now.0 ++ rest_components names.entry)
             ++ rest_components values.entry }
-        ensures runs { ComponentsInOrder }
     {
         Components {
             directives: directives.iter(),
@@ -184,29 +151,23 @@ impl<'a> Components<'a> {
         self.values.add_to(alloc, &mut parts)?;
         Ok(parts)
     }
-}
 
-impl<'a> Iterator for Components<'a> {
-    type Item = ComponentRef<'a>;
-
-    ghost next_gives = { TakesFirst component_seen };
-
-    ghost remaining = { λ left. at_most (length left) };
-
-    /// The first component that is left, after which the rest is left. Once none is left it answers none,
-    /// from then on too.
-    fn next(&mut self) -> Option<ComponentRef<'a>> {
+    /// The origin of the first component that is left, after which the rest is left. Once none is left it
+    /// answers none, from then on too.
+    pub(crate) fn next_origin(&mut self) -> Option<&'a ComponentOrigin>
+        ensures { TakesFirst deref (origins_in self.old) result (origins_in self.new) }
+    {
         if let Some(directive) = self.directives.next() {
-            return Some(ComponentRef::Directive(directive));
+            return Some(&directive.origin);
         }
-        if let Some(name) = self.names.next() {
-            return Some(name);
+        if let Some(origin) = self.names.next_origin() {
+            return Some(origin);
         }
-        self.values.next()
+        self.values.next_origin()
     }
 
     /// How many components are left, as both bounds; without an upper one where a `usize` can't say it.
-    fn size_hint(&self) -> (usize, Option<usize>)
+    pub(crate) fn size_hint(&self) -> (usize, Option<usize>)
         ensures lower { IsWithinCount result.0 (at_most (length self.now)) }
         ensures upper { IfSome result.1 (UpTo (at_most (length self.now))) }
         ensures exact { IsExactHint result (length self.now) }
@@ -220,5 +181,3 @@ impl<'a> Iterator for Components<'a> {
         }
     }
 }
-
-impl<'a> FusedIterator for Components<'a> {}

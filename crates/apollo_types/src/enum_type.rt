@@ -75,10 +75,6 @@ impl TypeOfKind for EnumType {
     ghost name = { λ ty. ty.name };
 
     fn head(&self) -> Head<'_> {
-        Head {
-            kind: TypeKind::Enum,
-            description: self.description.as_ref(),
-            name: &self.name,
-        }
+        Head::new(TypeKind::Enum, &self.description, &self.name)
     }
 }

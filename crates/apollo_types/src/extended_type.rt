@@ -20,6 +20,20 @@ use graphql_nodes::source::SourceSpan;
 use graphql_nodes::type_kind::TypeKind;
 use std::alloc::{AllocError, Global};
 
+/// What is made of the node that a type holds, whatever its kind.
+macro_rules! of_held {
+    ($ty:expr, $node:ident => $made:expr) => {
+        match $ty {
+            ExtendedType::Scalar($node) => $made,
+            ExtendedType::Object($node) => $made,
+            ExtendedType::Interface($node) => $made,
+            ExtendedType::Union($node) => $made,
+            ExtendedType::Enum($node) => $made,
+            ExtendedType::InputObject($node) => $made,
+        }
+    };
+}
+
 /// A type of a schema, by its kind. `From` of a node is the type of its kind, which holds this node.
 ///
 /// Equality is that of the kind and of the held type: locations and origins are left out.
@@ -212,70 +226,35 @@ impl ExtendedType {
     pub fn name(&self) -> &Name
         ensures { result.now ≡ type_name self.now }
     {
-        match self {
-            ExtendedType::Scalar(node) => &node.name,
-            ExtendedType::Object(node) => &node.name,
-            ExtendedType::Interface(node) => &node.name,
-            ExtendedType::Union(node) => &node.name,
-            ExtendedType::Enum(node) => &node.name,
-            ExtendedType::InputObject(node) => &node.name,
-        }
+        of_held!(self, node => &node.name)
     }
 
     /// Where the type is defined in a source, if it is known.
     pub fn location(&self) -> Option<SourceSpan>
         ensures { result ≡ type_location self.now }
     {
-        match self {
-            ExtendedType::Scalar(node) => node.location(),
-            ExtendedType::Object(node) => node.location(),
-            ExtendedType::Interface(node) => node.location(),
-            ExtendedType::Union(node) => node.location(),
-            ExtendedType::Enum(node) => node.location(),
-            ExtendedType::InputObject(node) => node.location(),
-        }
+        of_held!(self, node => node.location())
     }
 
     /// Whether the type's location is in the file of the built-in definitions.
     pub fn is_built_in(&self) -> bool
         ensures { result ≡ is_built_in (type_location self.now) }
     {
-        match self {
-            ExtendedType::Scalar(node) => node.is_built_in(),
-            ExtendedType::Object(node) => node.is_built_in(),
-            ExtendedType::Interface(node) => node.is_built_in(),
-            ExtendedType::Union(node) => node.is_built_in(),
-            ExtendedType::Enum(node) => node.is_built_in(),
-            ExtendedType::InputObject(node) => node.is_built_in(),
-        }
+        of_held!(self, node => node.is_built_in())
     }
 
     /// The directives applied to the type, those of its extensions included.
     pub fn directives(&self) -> &DirectiveList
         ensures { result.now ≡ type_directives self.now }
     {
-        match self {
-            ExtendedType::Scalar(node) => &node.directives,
-            ExtendedType::Object(node) => &node.directives,
-            ExtendedType::Interface(node) => &node.directives,
-            ExtendedType::Union(node) => &node.directives,
-            ExtendedType::Enum(node) => &node.directives,
-            ExtendedType::InputObject(node) => &node.directives,
-        }
+        of_held!(self, node => &node.directives)
     }
 
     /// The description of the type, if it has one.
     pub fn description(&self) -> Option<&NodeStr>
         ensures { option_copied result ≡ type_description self.now }
     {
-        match self {
-            ExtendedType::Scalar(node) => node.description.as_ref(),
-            ExtendedType::Object(node) => node.description.as_ref(),
-            ExtendedType::Interface(node) => node.description.as_ref(),
-            ExtendedType::Union(node) => node.description.as_ref(),
-            ExtendedType::Enum(node) => node.description.as_ref(),
-            ExtendedType::InputObject(node) => node.description.as_ref(),
-        }
+        of_held!(self, node => node.description.as_ref())
     }
 
     /// What stands before the components.
@@ -325,13 +304,6 @@ impl Extensible for ExtendedType {
     /// The components: directives, then interfaces, then fields; or directives, then members, values or input
     /// fields.
     fn components(&self) -> Components<'_> {
-        match self {
-            ExtendedType::Scalar(node) => node.components(),
-            ExtendedType::Object(node) => node.components(),
-            ExtendedType::Interface(node) => node.components(),
-            ExtendedType::Union(node) => node.components(),
-            ExtendedType::Enum(node) => node.components(),
-            ExtendedType::InputObject(node) => node.components(),
-        }
+        of_held!(self, node => node.components())
     }
 }

@@ -1,7 +1,7 @@
 //! What extensions add to: GraphQL specification of October 2021, sections 3.3.2 and 3.4.3.
 ghost use Rattle.std.specs.Prelude.{◌≡◌, IfOk};
 ghost use Rattle.apollo_component.specs.WriteOut.{origins_in, identities};
-ghost use Rattle.apollo_types.specs.Components.{ComponentsInOrder, OriginsInOrder};
+ghost use Rattle.apollo_types.specs.Components.{OriginsInOrder};
 
 use crate::components::Components;
 use crate::origins::Origins;
@@ -22,8 +22,7 @@ pub trait Extensible {
     /// The components, in order: directives, then interfaces and fields, or members, values, input fields or
     /// roots.
     fn components(&self) -> Components<'_>
-        ensures rest { result ≡ sourced self.now }
-        ensures runs { ComponentsInOrder };
+        ensures { result ≡ sourced self.now };
 
     /// The origins of the components, in their order. They are those of directives, then of interfaces and
     /// fields, or of members, values, input fields, or the roots of query, mutation and subscription.

@@ -75,10 +75,6 @@ impl TypeOfKind for InputObjectType {
     ghost name = { λ ty. ty.name };
 
     fn head(&self) -> Head<'_> {
-        Head {
-            kind: TypeKind::InputObject,
-            description: self.description.as_ref(),
-            name: &self.name,
-        }
+        Head::new(TypeKind::InputObject, &self.description, &self.name)
     }
 }

@@ -80,10 +80,6 @@ impl TypeOfKind for InterfaceType {
     ghost name = { λ ty. ty.name };
 
     fn head(&self) -> Head<'_> {
-        Head {
-            kind: TypeKind::Interface,
-            description: self.description.as_ref(),
-            name: &self.name,
-        }
+        Head::new(TypeKind::Interface, &self.description, &self.name)
     }
 }

@@ -80,10 +80,6 @@ impl TypeOfKind for ObjectType {
     ghost name = { λ ty. ty.name };
 
     fn head(&self) -> Head<'_> {
-        Head {
-            kind: TypeKind::Object,
-            description: self.description.as_ref(),
-            name: &self.name,
-        }
+        Head::new(TypeKind::Object, &self.description, &self.name)
     }
 }

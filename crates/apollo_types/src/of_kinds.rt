@@ -59,9 +59,6 @@ impl ExtendedType {
 }
 
 impl From<Node<ScalarType>> for ExtendedType {
-    ghost use Rattle.std.specs.Prelude.{◌≡◌};
-    ghost use Rattle.apollo_types.specs.declared.extended_type.ExtendedType.TheVariants.{Scalar};
-
     ghost from_gives = { λ node ty. ty ≡ Scalar node };
 
     fn from(node: Node<ScalarType>) -> ExtendedType {
@@ -70,9 +67,6 @@ impl From<Node<ScalarType>> for ExtendedType {
 }
 
 impl From<Node<ObjectType>> for ExtendedType {
-    ghost use Rattle.std.specs.Prelude.{◌≡◌};
-    ghost use Rattle.apollo_types.specs.declared.extended_type.ExtendedType.TheVariants.{Object};
-
     ghost from_gives = { λ node ty. ty ≡ Object node };
 
     fn from(node: Node<ObjectType>) -> ExtendedType {
@@ -81,9 +75,6 @@ impl From<Node<ObjectType>> for ExtendedType {
 }
 
 impl From<Node<InterfaceType>> for ExtendedType {
-    ghost use Rattle.std.specs.Prelude.{◌≡◌};
-    ghost use Rattle.apollo_types.specs.declared.extended_type.ExtendedType.TheVariants.{Interface};
-
     ghost from_gives = { λ node ty. ty ≡ Interface node };
 
     fn from(node: Node<InterfaceType>) -> ExtendedType {
@@ -92,9 +83,6 @@ impl From<Node<InterfaceType>> for ExtendedType {
 }
 
 impl From<Node<UnionType>> for ExtendedType {
-    ghost use Rattle.std.specs.Prelude.{◌≡◌};
-    ghost use Rattle.apollo_types.specs.declared.extended_type.ExtendedType.TheVariants.{Union};
-
     ghost from_gives = { λ node ty. ty ≡ Union node };
 
     fn from(node: Node<UnionType>) -> ExtendedType {
@@ -103,9 +91,6 @@ impl From<Node<UnionType>> for ExtendedType {
 }
 
 impl From<Node<EnumType>> for ExtendedType {
-    ghost use Rattle.std.specs.Prelude.{◌≡◌};
-    ghost use Rattle.apollo_types.specs.declared.extended_type.ExtendedType.TheVariants.{Enum};
-
     ghost from_gives = { λ node ty. ty ≡ Enum node };
 
     fn from(node: Node<EnumType>) -> ExtendedType {
@@ -114,9 +99,6 @@ impl From<Node<EnumType>> for ExtendedType {
 }
 
 impl From<Node<InputObjectType>> for ExtendedType {
-    ghost use Rattle.std.specs.Prelude.{◌≡◌};
-    ghost use Rattle.apollo_types.specs.declared.extended_type.ExtendedType.TheVariants.{InputObject};
-
     ghost from_gives = { λ node ty. ty ≡ InputObject node };
 
     fn from(node: Node<InputObjectType>) -> ExtendedType {

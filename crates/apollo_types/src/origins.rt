@@ -54,7 +54,7 @@ impl<'a> Iterator for Origins<'a> {
     /// The first origin that is left, after which the rest is left. Once none is left it answers none, from
     /// then on too.
     fn next(&mut self) -> Option<&'a ComponentOrigin> {
-        Some(self.components.next()?.origin())
+        self.components.next_origin()
     }
 
     /// How many origins are left, as both bounds; without an upper one where a `usize` can't say it.

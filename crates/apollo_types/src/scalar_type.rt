@@ -66,10 +66,6 @@ impl TypeOfKind for ScalarType {
     ghost name = { λ ty. ty.name };
 
     fn head(&self) -> Head<'_> {
-        Head {
-            kind: TypeKind::Scalar,
-            description: self.description.as_ref(),
-            name: &self.name,
-        }
+        Head::new(TypeKind::Scalar, &self.description, &self.name)
     }
 }

@@ -74,10 +74,6 @@ impl TypeOfKind for UnionType {
     ghost name = { λ ty. ty.name };
 
     fn head(&self) -> Head<'_> {
-        Head {
-            kind: TypeKind::Union,
-            description: self.description.as_ref(),
-            name: &self.name,
-        }
+        Head::new(TypeKind::Union, &self.description, &self.name)
     }
 }

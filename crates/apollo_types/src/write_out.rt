@@ -1,5 +1,6 @@
 //! Types, and the schema's definition, as syntax.
 ghost use Rattle.std.specs.Prelude.{◌≡◌, List, ◌∷◌, [], ◌++◌, IfOk, OnOk};
+ghost use Rattle.std.specs.Option.{option_copied};
 ghost use Rattle.apollo_component.specs.Beginnings.{Begins};
 ghost use Rattle.apollo_component.specs.WriteOut.{identities};
 ghost use Rattle.apollo_component.specs.declared.extension.ComponentOrigin.{ComponentOrigin as Origin};
@@ -48,6 +49,21 @@ pub struct Head<'a> {
     pub(crate) kind: TypeKind,
     pub(crate) description: Option<&'a NodeStr>,
     pub(crate) name: &'a Name,
+}
+
+impl<'a> Head<'a> {
+    /// This kind, description and name.
+    pub(crate) fn new(kind: TypeKind, description: &'a Option<NodeStr>, name: &'a Name) -> Head<'a>
+        ensures kind { result.kind ≡ kind }
+        ensures description { option_copied result.description ≡ description.now }
+        ensures name { result.name.now ≡ name.now }
+    {
+        Head {
+            kind,
+            description: description.as_ref(),
+            name,
+        }
+    }
 }
 
 /// Adds the type with this head that these components make as syntax at the end: its definition, at this

@@ -1,16 +1,15 @@
 -- Lists by the subjects of their elements. What elements add one after another, where each adds what it does
 -- by those of its own subject alone. The same is added subject by subject, in another order.
 use Rattle.std.proofs.Common.{◌≡◌, Bool, true, false, not, ◌||◌, List, [], ◌∷◌, ◌++◌, Option, is_some, filter}
-use Rattle.std.proofs.Common.{map, refl, sym, ap, ◌∙◌, append_assoc, arith, true≢false}
+use Rattle.std.proofs.Common.{map, refl, sym, ap, ◌∙◌, append_assoc, arith}
 use Rattle.std.specs.List.{AllByRecursion, filter_map, list_any}
 use Rattle.std.specs.List.Sorted.{IsPermutation}
 use Rattle.std.specs.Option.{option_map_or}
 use Rattle.std.proofs.lemmas.Bool.{or_right}
 use Rattle.std.proofs.lemmas.List.{nil_from_length}
-use Rattle.std.proofs.lemmas.List.Sorted.{IsPermutation-append, IsPermutation-append_comm}
-use Rattle.std.proofs.lemmas.List.Sorted.{IsPermutation-append_left, IsPermutation-append_right}
-use Rattle.std.proofs.lemmas.List.Sorted.{IsPermutation-refl, IsPermutation-sym, IsPermutation-trans}
-use Rattle.std.proofs.lemmas.List.Sorted.{length_permutation}
+use Rattle.std.proofs.lemmas.List.Sorted.{IsPermutation-append, IsPermutation-append_left, IsPermutation-refl}
+use Rattle.std.proofs.lemmas.List.Sorted.{IsPermutation-append_comm, IsPermutation-append_right}
+use Rattle.std.proofs.lemmas.List.Sorted.{IsPermutation-sym, IsPermutation-trans, length_permutation}
 use Rattle.apollo_component.specs.EachAfter.{each_after}
 use Rattle.apollo_component.proofs.Lists.Cases.{bool_cases}
 use Rattle.apollo_component.proofs.Lists.Each.{each-filter, each-weaken}
@@ -47,8 +46,8 @@ pub record IsTest {K : Type 0} (same : K → K → Bool) : Type 0 where
   pub is : (a b : K) → same a b ≡ true → a ≡ b
   pub itself : (a : K) → same a a ≡ true
 
-module _ {K X Y : Type 0} (same : K → K → Bool) (laws : IsTest same) (subject : X → K)
-    (at : List X → X → List Y) where
+module _ {K X Y : Type 0} (same : K → K → Bool) (laws : IsTest same) (subject : X → K) (at : List X
+    → X → List Y) where
   abbrev about : K → X → Bool
   about k x = same k (subject x)
 
@@ -68,10 +67,11 @@ module _ {K X Y : Type 0} (same : K → K → Bool) (laws : IsTest same) (subjec
     -- so those that pass such a test decide it, of one that passes
     pub own-kept : (p : X → Bool) → Respects p → (before : List X) (x : X) → p x ≡ true
         → at (filter p before) x ≡ at before x
-    own-kept p respects before x e =
-        own (filter p before) x
-        ∙ ap (λ l. at l x) (filter-wider p (about (subject x))
-        (λ y h. respects y x (sym (laws.is (subject x) (subject y) h)) ∙ e) before) ∙ sym (own before x)
+    own-kept p respects before x e = simp (
+      own (filter p before) x,
+      filter-wider p _ (λ y h. respects y x (sym (laws.is (subject x) (subject y) h)) ∙ e) before,
+      own before x,
+    )
 
     -- those that pass a test, and the others, each for themselves
     split : (p : X → Bool) → Respects p → (xs : List X)
@@ -88,9 +88,7 @@ module _ {K X Y : Type 0} (same : K → K → Bool) (laws : IsTest same) (subjec
         step xs x so_far = bool_cases (p x)
             (λ e. rw (adds p respects e, filter-push_dropped q xs x (ap not e), append_assoc front here back)
             (IsPermutation-trans _ _ _ more
-            (IsPermutation-append_right front (back ++ here) (here ++ back)
-            (IsPermutation-append_comm back here))))
-            (λ e. rw (
+            (IsPermutation-append_right front _ _ (IsPermutation-append_comm back here)))) (λ e. rw (
               filter-push_dropped p xs x e,
               adds q (λ y z s. ap not (respects y z s)) (ap not e),
             ) more)
@@ -105,15 +103,12 @@ module _ {K X Y : Type 0} (same : K → K → Bool) (laws : IsTest same) (subjec
             back = all_of (filter q xs)
 
             more : IsPermutation (all_of (xs ++ x ∷ [])) (front ++ (back ++ here))
-            more =
-                rw (each_after-push at [] xs x, ← append_assoc front back here)
-                (IsPermutation-append_left here (all_of xs) (front ++ back) so_far)
+            more = rw (each_after-push at [] xs x, ← append_assoc front back here)
+                (IsPermutation-append_left here _ _ so_far)
 
             adds : (r : X → Bool) → Respects r → r x ≡ true
                 → all_of (filter r (xs ++ x ∷ [])) ≡ all_of (filter r xs) ++ here
-            adds r s e =
-                ap all_of (filter-push_kept r xs x e) ∙ each_after-push at [] (filter r xs) x
-                ∙ ap (λ l. all_of (filter r xs) ++ l) (own-kept r s xs x e)
+            adds r s e = simp (filter-push_kept, each_after-push, own-kept)
 
     -- the subject is one of these
     abbrev IsAmong : List K → X → Type 0
@@ -124,14 +119,11 @@ module _ {K X Y : Type 0} (same : K → K → Bool) (laws : IsTest same) (subjec
         → ((k : K) → IsPermutation (all_of (filter (about k) xs)) (all_of (filter (about k) ys)))
         → IsPermutation (all_of xs) (all_of ys)
     among [] [] [] a b each = IsPermutation-refl []
-    among [] [] (y ∷ ys) a b each = absurd (true≢false (sym b.0))
-    among [] (x ∷ xs) ys a b each = absurd (true≢false (sym a.0))
-    among (k ∷ ks) xs ys a b each =
-        IsPermutation-trans _ _ _ (split (about k) (λ x y e. ap (same k) e) xs)
-        (IsPermutation-trans _ _ _
-        (IsPermutation-append _ _ _ _ (each k)
-        (among ks (others xs) (others ys) (left xs a) (left ys b) rest))
-        (IsPermutation-sym _ _ (split (about k) (λ x y e. ap (same k) e) ys)))
+    among [] [] (y ∷ ys) a b each = cc
+    among [] (x ∷ xs) ys a b each = cc
+    among (k ∷ ks) xs ys a b each = IsPermutation-trans _ _ _ (split _ (λ x y e. ap (same k) e) xs)
+        (IsPermutation-trans _ _ _ (IsPermutation-append _ _ _ _ (each k) (among ks _ _ (left xs a)
+        (left ys b) rest)) (IsPermutation-sym _ _ (split _ (λ x y e. ap (same k) e) ys)))
       where
         not_about : X → Bool
         not_about x = not (about k x)
@@ -140,42 +132,33 @@ module _ {K X Y : Type 0} (same : K → K → Bool) (laws : IsTest same) (subjec
         others = filter not_about
 
         left : (zs : List X) → AllByRecursion (IsAmong (k ∷ ks)) zs → AllByRecursion (IsAmong ks) (others zs)
-        left zs h =
-            each-weaken (λ x. IsAmong (k ∷ ks) x × (not_about x ≡ true)) (IsAmong ks)
-            (λ x both. grind (arith, both.0, both.1)) (others zs)
-            (each-filter (IsAmong (k ∷ ks)) not_about zs h)
+        left zs h = each-weaken _ _ (λ x both. grind (arith, both.0, both.1)) _ (each-filter _ not_about zs h)
 
         gone : (j : K) → same j k ≡ true → (zs : List X) → filter (about j) (others zs) ≡ []
-        gone j e = filter-apart not_about (about j) (λ x h. grind (arith, h, laws.is j k e))
+        gone j e = filter-apart not_about _ (λ x h. grind (arith, h, laws.is j k e))
 
         stay : (j : K) → same j k ≡ false → (zs : List X) → filter (about j) (others zs) ≡ filter (about j) zs
-        stay j e = filter-wider not_about (about j) (λ x h. grind (arith, e, h, laws.is k (subject x)))
+        stay j e = filter-wider not_about _ (λ x h. grind (arith, e, h, laws.is k (subject x)))
 
-        rest : (j : K) → IsPermutation (all_of (filter (about j) (others xs)))
-            (all_of (filter (about j) (others ys)))
-        rest j =
-            bool_cases (same j k) (λ e. rw (gone j e xs, gone j e ys) (IsPermutation-refl []))
+        rest : (j : K)
+            → IsPermutation (all_of (filter (about j) (others xs))) (all_of (filter (about j) (others ys)))
+        rest j = bool_cases _ (λ e. rw (gone j e xs, gone j e ys) (IsPermutation-refl []))
             (λ e. rw (stay j e xs, stay j e ys) (each j))
 
     present : (xs : List X) → AllByRecursion (IsAmong (map subject xs)) xs
     present [] = tt
     present (x ∷ xs) = (
       ap (λ b. b || list_any (λ k. about k x) (map subject xs)) (laws.itself (subject x)),
-      each-weaken (IsAmong (map subject xs)) (IsAmong (map subject (x ∷ xs)))
-          (λ y h. or_right (about (subject x) y) (list_any (λ k. about k y) (map subject xs)) h) xs
-          (present xs),
+      each-weaken _ _ (λ y h. or_right _ _ h) xs (present xs),
     )
 
     pub by_subject : (xs ys : List X) → IsPermutation xs ys
         → ((k : K) → IsPermutation (all_of (filter (about k) xs)) (all_of (filter (about k) ys)))
         → IsPermutation (all_of xs) (all_of ys)
-    by_subject xs ys s each =
-        among (map subject xs) xs ys (present xs)
-        (each-permutation (IsAmong (map subject xs)) xs ys s (present xs)) each
+    by_subject xs ys s each = among _ xs ys (present xs) (each-permutation _ xs ys s (present xs)) each
 
     -- where nothing is added of any subject, nothing is
     pub none-by_subject : (xs : List X) → ((k : K) → all_of (filter (about k) xs) ≡ []) → all_of xs ≡ []
     none-by_subject xs none =
-        nil_from_length (all_of xs)
-        (sym (length_permutation (all_of xs) []
-        (among (map subject xs) xs [] (present xs) tt (λ k. rw (none k) (IsPermutation-refl [])))))
+        nil_from_length _ (sym (length_permutation _ [] (among _ xs [] (present xs) tt
+        (λ k. rw (none k) (IsPermutation-refl [])))))

@@ -1,6 +1,6 @@
 -- What holds of each element of a list, and of each moment of one.
 use Rattle.std.proofs.Common.{◌≡◌, ℕ, ◌+◌, ◌<◌, Bool, true, false, List, [], ◌∷◌, ◌++◌, length, zero, suc}
-use Rattle.std.proofs.Common.{map, filter, refl, sym, ap, ◌∙◌, append_assoc, length-append, arith}
+use Rattle.std.proofs.Common.{map, filter, refl, ap, ◌∙◌, append_assoc, length-append, arith}
 use Rattle.std.specs.List.{AllByRecursion, flat_map, range_with_len}
 use Rattle.std.proofs.lemmas.Grind.{flat_map-append}
 use Rattle.std.proofs.lemmas.List.{append-nil}
@@ -49,8 +49,8 @@ filter-map p f (x ∷ xs) = grind (arith, filter-map p f xs)
 
 range-push : (a n : ℕ) → range_with_len a (suc n) ≡ range_with_len a n ++ (a + n) ∷ []
 range-push a zero = ap (λ (i : ℕ). i ∷ []) (omega arith)
-range-push a (suc n) =
-    ap (λ l. a ∷ l) (range-push (a + 1) n ∙ ap (λ (i : ℕ). range_with_len (a + 1) n ++ i ∷ []) (omega arith))
+range-push a (suc n) = ap (λ l. a ∷ l) (range-push (a + 1) n ∙ ap (λ (i : ℕ). range_with_len (a + 1) n
+    ++ i ∷ []) (omega arith))
 
 flat_map-range : {Y : Type 0} (f g : ℕ → List Y) (a n : ℕ) → ((i : ℕ) → i < a + n → f i ≡ g i)
     → flat_map f (range_with_len a n) ≡ flat_map g (range_with_len a n)
@@ -63,26 +63,25 @@ flat_map-range f g a (suc n) agree =
 pub moments-on : {X Y : Type 0} (at : List X → ℕ → List Y) (before xs : List X) (x : X)
     → ((i : ℕ) → i < length (before ++ xs) → at ((before ++ xs) ++ x ∷ []) i ≡ at (before ++ xs) i)
     → flat_map (at (before ++ (xs ++ x ∷ []))) (range_with_len (length before) (length (xs ++ x ∷ [])))
-    ≡ flat_map (at (before ++ xs)) (range_with_len (length before) (length xs)) ++ at
-    ((before ++ xs) ++ x ∷ []) (length (before ++ xs))
+    ≡ flat_map (at (before ++ xs)) (range_with_len (length before) (length xs))
+    ++ at ((before ++ xs) ++ x ∷ []) (length (before ++ xs))
 moments-on at before xs x earlier =
     let ys = (before ++ xs) ++ x ∷ [] in
     let a = length before in
     let n = length xs in
-    let count : length (xs ++ x ∷ []) ≡ suc n = length-append xs (x ∷ []) ∙ omega arith in
-    let all : length (before ++ xs) ≡ a + n = length-append before xs in
-    ap (λ l. flat_map (at l) (range_with_len a (length (xs ++ x ∷ []))))
-    (sym (append_assoc before xs (x ∷ [])))
-    ∙ ap (λ (m : ℕ). flat_map (at ys) (range_with_len a m)) count
-    ∙ ap (flat_map (at ys)) (range-push a n)
-    ∙ flat_map-append (at ys) (range_with_len a n) ((a + n) ∷ [])
-    ∙ ap (λ l. l ++ flat_map (at ys) ((a + n) ∷ []))
-    (flat_map-range (at ys) (at (before ++ xs)) a n (λ i lt. earlier i (omega (arith, lt, all))))
-    ∙ ap (λ l. flat_map (at (before ++ xs)) (range_with_len a n) ++ l)
-    (append-nil (at ys (a + n)) ∙ ap (at ys) (sym all))
+    let count : length (xs ++ x ∷ []) ≡ suc n = length-append xs _ ∙ omega arith in
+    let all = length-append before xs in
+    rw (
+      ← append_assoc before xs (x ∷ []),
+      ap (range_with_len a) count ∙ range-push a n,
+      flat_map-append,
+      flat_map-range (at ys) (at (before ++ xs)) a n (λ i lt. earlier i (omega (arith, lt, all))),
+      append-nil,
+      all,
+    )
 
 pub moments-push : {X Y : Type 0} (at : List X → ℕ → List Y) (xs : List X) (x : X)
     → ((i : ℕ) → i < length xs → at (xs ++ x ∷ []) i ≡ at xs i)
-    → flat_map (at (xs ++ x ∷ [])) (range_with_len 0 (length (xs ++ x ∷ [])))
-    ≡ flat_map (at xs) (range_with_len 0 (length xs)) ++ at (xs ++ x ∷ []) (length xs)
-moments-push at xs x earlier = moments-on at [] xs x earlier
+    → flat_map (at (xs ++ x ∷ [])) (range_with_len 0 (length (xs ++ x ∷ []))) ≡ flat_map (at xs)
+    (range_with_len 0 (length xs)) ++ at (xs ++ x ∷ []) (length xs)
+moments-push at = moments-on at []

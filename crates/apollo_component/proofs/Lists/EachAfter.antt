@@ -9,20 +9,18 @@ module _ {X Y : Type 0} (at : List X → X → List Y) where
       → each_after at before (xs ++ ys) ≡ each_after at before xs ++ each_after at (before ++ xs) ys
   each_after-append before [] ys = ap (λ l. each_after at l ys) (sym (append-nil before))
   each_after-append before (x ∷ xs) ys =
-      rw (each_after-append (before ++ x ∷ []) xs ys, append_assoc before (x ∷ []) xs)
+      rw (each_after-append (before ++ x ∷ []) xs ys, append_assoc before _ xs)
       (sym (append_assoc (at before x) _ _))
 
   -- one more element adds its own
   pub each_after-push : (before xs : List X) (x : X)
       → each_after at before (xs ++ x ∷ []) ≡ each_after at before xs ++ at (before ++ xs) x
-  each_after-push before xs x =
-      rw (each_after-append before xs (x ∷ []), append-nil (at (before ++ xs) x))
+  each_after-push before xs x = rw (each_after-append before xs _, append-nil _)
 
   after-both : (start before xs : List X)
       → each_after at (start ++ before) xs ≡ each_after (λ done. at (start ++ done)) before xs
   after-both start before [] = refl
-  after-both start before (x ∷ xs) =
-      rw (append_assoc start before (x ∷ []), after-both start (before ++ x ∷ []) xs)
+  after-both start before (x ∷ xs) = rw (append_assoc start before _, after-both start (before ++ x ∷ []) xs)
 
   -- those that stand before all of them
   pub each_after-start : (start xs : List X)

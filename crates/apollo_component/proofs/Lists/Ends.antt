@@ -1,8 +1,8 @@
 -- What becomes of a list with more elements at its end.
-use Rattle.std.proofs.Common.{◌≡◌, ℕ, ◌+◌, ◌<◌, Bool, true, false, List, [], ◌∷◌, ◌++◌, length, zero}
-use Rattle.std.proofs.Common.{suc, Option, Some, None, filter, slice_get, map, refl, sym, ap, subst}
-use Rattle.std.proofs.Common.{append_assoc, arith}
-use Rattle.std.specs.List.{AllByRecursion, filter_map, cons_option, enumerate_from}
+use Rattle.std.proofs.Common.{◌≡◌, ℕ, ◌+◌, ◌<◌, Bool, true, false, List, [], ◌∷◌, ◌++◌, length, zero, suc}
+use Rattle.std.proofs.Common.{Option, Some, None, filter, slice_get, map, refl, sym, ap, subst, append_assoc}
+use Rattle.std.proofs.Common.{arith}
+use Rattle.std.specs.List.{AllByRecursion, filter_map, enumerate_from}
 use Rattle.std.specs.Option.{option_map, option_or}
 use Rattle.std.specs.Map.{lookup}
 use Rattle.std.proofs.lemmas.List.{append-nil}
@@ -16,8 +16,7 @@ snoc_ind {X} P base step xs = go [] xs base
   where
     go : (before ys : List X) → P before → P (before ++ ys)
     go before [] h = subst P (sym (append-nil before)) h
-    go before (y ∷ ys) h =
-        subst P (append_assoc before (y ∷ []) ys) (go (before ++ y ∷ []) ys (step before y h))
+    go before (y ∷ ys) h = subst P (append_assoc before _ ys) (go (before ++ y ∷ []) ys (step before y h))
 
 -- numbers go on
 pub enumerate_from-append : {X : Type 0} (n : ℕ) (xs ys : List X)
@@ -33,9 +32,8 @@ filter_map-push_none which xs x none =
 
 -- what is chosen, with its number and without
 pub filter_map-numbered : {X Y : Type 0} (which : X → Option Y) (n : ℕ) (xs : List X)
-    → map (λ (e : ℕ × Y). e.1)
-    (filter_map (λ (e : ℕ × X). option_map (λ (y : Y). (e.0, y)) (which e.1)) (enumerate_from n xs))
-    ≡ filter_map which xs
+    → map (λ (e : ℕ × Y). e.1) (filter_map (λ (e : ℕ × X). option_map (λ (y : Y). (e.0, y)) (which e.1))
+    (enumerate_from n xs)) ≡ filter_map which xs
 filter_map-numbered which n [] = refl
 filter_map-numbered which n (x ∷ xs) = grind (arith, filter_map-numbered which (n + 1) xs)
 
@@ -52,7 +50,7 @@ filter-push_dropped p xs x e = grind (arith, e, filter-append p xs (x ∷ []), a
 pub filter_map-made : {X Y : Type 0} (which : X → Option Y) (make : Y → X)
     → ((y : Y) → which (make y) ≡ Some y) → (ys : List Y) → filter_map which (map make ys) ≡ ys
 filter_map-made which make is [] = refl
-filter_map-made which make is (y ∷ ys) = λ i. cons_option (is y i) (filter_map-made which make is ys i)
+filter_map-made which make is (y ∷ ys) = simp (is y, filter_map-made which make is ys)
 
 -- and nothing of what is made to be left out
 pub filter_map-unmade : {X Y Z : Type 0} (which : X → Option Y) (make : Z → X)
@@ -81,11 +79,11 @@ pub lookup-append : {K V : Type 0} (test : K → Bool) (es fs : List (K × V))
 lookup-append test [] fs = refl
 lookup-append test (e ∷ es) fs = grind (arith, lookup-append test es fs)
 
--- the first element, with one more; the elements of a front; and the last one
-pub slice_get-push : {X : Type 0} (l : List X) (x : X)
-    → slice_get (l ++ x ∷ []) 0 ≡ option_or (slice_get l 0) (Some x)
-slice_get-push [] x = refl
-slice_get-push (y ∷ l) x = refl
+-- the first element of two lists; the elements of a front; and the last one
+pub slice_get-append : {X : Type 0} (xs ys : List X)
+    → slice_get (xs ++ ys) 0 ≡ option_or (slice_get xs 0) (slice_get ys 0)
+slice_get-append [] ys = refl
+slice_get-append (x ∷ xs) ys = refl
 
 pub slice_get-front : {X : Type 0} (xs ys : List X) (i : ℕ) → i < length xs
     → slice_get (xs ++ ys) i ≡ slice_get xs i

@@ -22,5 +22,5 @@ one-element c (x ∷ xs) (y ∷ ys) a b e =
 -- so are two orders of it
 pub one-element-permutation : {X : Type 0} (c : List X) (xs ys : List X) → IsPermutation xs ys
     → AllByRecursion (λ z. c ≡ z ∷ []) xs → xs ≡ ys
-one-element-permutation c xs ys s a =
-    one-element c xs ys a (each-permutation (λ z. c ≡ z ∷ []) xs ys s a) (sym (length_permutation xs ys s))
+one-element-permutation c xs ys s a = one-element c xs ys a (each-permutation _ xs ys s a)
+    (sym (length_permutation xs ys s))

@@ -1,9 +1,22 @@
 -- What is found by places, moment by moment, is what the code finds.
-use Rattle.apollo_meaning.proofs.Prelude.{◌≡◌, ℕ, ◌<◌, Bool, true, false, cond, ◌==◌, List, [], ◌∷◌, ◌++◌, length, take, suc, Option, Some, None, is_some, slice_get, refl, sym, ap, ◌∙◌, arith, filter_map, flat_map, option_map, option_map_or, option_or, lookup, nat_tests, append-nil, each_after, each_after-push, each_after-start, snoc_ind, TypePart, SchemaPart, key_of, ListItem, Defined, Extended, SchemaDefined, SchemaExtended, Other, extended_part, extended_schema, same, extensions_of, schema_extensions, Family, types, schemas, Placed, extension_places, first_place, Fault, part_faults, extension_faults, further_definition, schema_faults, further_schema, joining_faults, schema_joining_faults, directive_definitions, other_faults, found_at, found, same-is, zero, take-append_seam, eq-eqb, all-kept, slice_get-front, slice_get-last}
+use Rattle.apollo_meaning.proofs.Prelude.{◌≡◌, Option, is_some, Defined, schemas, found_at, same-is, all-kept}
+use Rattle.apollo_meaning.proofs.Prelude.{ℕ, further_definition, schema_joining_faults, directive_definitions}
+use Rattle.apollo_meaning.proofs.Prelude.{◌<◌, [], ◌∷◌, suc, sym, ap, ◌∙◌, same, zero, Bool, true, cond, ◌==◌}
+use Rattle.apollo_meaning.proofs.Prelude.{List, ◌++◌, take, Some, None, refl, found, false, nat_tests}
+use Rattle.apollo_meaning.proofs.Prelude.{snoc_ind, TypePart, ListItem, Extended, length, option_map_or}
+use Rattle.apollo_meaning.proofs.Prelude.{SchemaDefined, extended_part, slice_get-last, slice_get, flat_map}
+use Rattle.apollo_meaning.proofs.Prelude.{append-nil, each_after, SchemaPart, arith, lookup, key_of, Other}
+use Rattle.apollo_meaning.proofs.Prelude.{Family, types, Placed, Fault, eq-eqb, filter_map, extensions_of}
+use Rattle.apollo_meaning.proofs.Prelude.{first_place, part_faults, schema_faults, each_after-push}
+use Rattle.apollo_meaning.proofs.Prelude.{SchemaExtended, extension_faults, take-append_seam}
+use Rattle.apollo_meaning.proofs.Prelude.{each_after-start, schema_extensions, extension_places, other_faults}
+use Rattle.apollo_meaning.proofs.Prelude.{extended_schema, further_schema, joining_faults, slice_get-front}
 use Rattle.apollo_component.proofs.Lists.Each.{moments-on}
 use Rattle.apollo_meaning.specs.Faults.ListFaults.{own_faults, found_when, found_from}
-use Rattle.apollo_meaning.proofs.Order.PlaceLemmas.{own_place, placed-after, keyed, first-forget, first_place-below, first_place-push, first-gives, first_schema-gives, same_front}
-use Rattle.apollo_meaning.proofs.Order.SaidLemmas.{said_when, said-push, said-other, said-extended, said-defined}
+use Rattle.apollo_meaning.proofs.Order.PlaceLemmas.{placed-after, keyed, first-forget, first_place-below}
+use Rattle.apollo_meaning.proofs.Order.PlaceLemmas.{first_place-push, first-gives, first_schema-gives}
+use Rattle.apollo_meaning.proofs.Order.PlaceLemmas.{same_front, said_when, said-push, said-other}
+use Rattle.apollo_meaning.proofs.Order.PlaceLemmas.{said-extended, said-defined}
 
 module _ {P : Type 0} (f : Family P) where
   abbrev is_among : P → List ListItem → Bool
@@ -14,36 +27,29 @@ module _ {P : Type 0} (f : Family P) where
       → f.defined y ≡ Some d → is_among d xs ≡ true
   defined-there [] i y d there is = absurd (let h : None ≡ Some y = there in cc)
   defined-there (x ∷ xs) zero y d there is =
-      let here : f.defined x ≡ Some d = cc in rw (here, same-is (f.key d) (f.key d) refl)
+      let here : f.defined x ≡ Some d = cc in rw (here, same-is _ _ refl)
   defined-there (x ∷ xs) (suc i) y d there is = grind (arith, defined-there xs i y d there is)
 
   -- so the first definition of its key is as before
   same_place : (xs : List ListItem) (x : ListItem) (i : ℕ) (y : ListItem) (d : P) → slice_get xs i ≡ Some y
       → f.defined y ≡ Some d → first_place f (xs ++ x ∷ []) (f.key d) ≡ first_place f xs (f.key d)
-  same_place xs x i y d there is = first_place-push f xs x (f.key d) ∙ by (first_place f xs (f.key d))
-      (ap is_some (first-forget f xs (f.key d)) ∙ defined-there xs i y d there is)
-    where
-      by : (o : Option (Placed P)) → is_some (option_map (λ e. e.1) o) ≡ true
-          → option_or o (own_place f (length xs) (f.defined x) (f.key d)) ≡ o
-      by None h = absurd (let g : false ≡ true = h in cc)
-      by (Some z) h = refl
+  same_place xs x i y d there is = grind (
+    arith,
+    first_place-push f xs x (f.key d),
+    first-forget f xs (f.key d),
+    defined-there xs i y d there is,
+  )
 
   -- whether an item is the first definition of its key
   own-first : {X : Type 0} (one : X) (further : P → X) (none : X) (xs : List ListItem) (x : ListItem) (d : P)
-      → f.defined x ≡ Some d → option_map_or (λ z. cond (z.0 == length xs) one (further z.1))
-      (first_place f (xs ++ x ∷ []) (f.key d)) none
-      ≡ option_map_or (λ z. further z.1) (first_place f xs (f.key d)) one
-  own-first {X} one further none xs x d is =
-      rw (first_place-push f xs x (f.key d), is, same-is (f.key d) (f.key d) refl)
-      (by (first_place f xs (f.key d)) refl)
-    where
-      by : (o : Option (Placed P)) → first_place f xs (f.key d) ≡ o → option_map_or
-          (λ z. cond (z.0 == length xs) one (further z.1)) (option_or o (Some (length xs, d))) none
-          ≡ option_map_or (λ z. further z.1) o one
-      by None e = rw (eq-eqb (length xs) (length xs) refl)
-      by (Some z) e =
-          let low = first_place-below f xs (f.key d) z e in
-          let past : (z.0 == length xs) ≡ false = grind (arith, nat_tests, low) in rw past
+      → f.defined x ≡ Some d
+      → option_map_or (λ z. cond (z.0 == length xs) one (further z.1)) (first_place f
+      (xs ++ x ∷ []) (f.key d)) none ≡ option_map_or (λ z. further z.1) (first_place f xs (f.key d)) one
+  own-first one further none xs x d is =
+      let past : (z : Placed P) → first_place f xs (f.key d) ≡ Some z → (z.0 == length xs) ≡ false =
+      λ z e. let low = first_place-below f xs _ z e in grind (arith, nat_tests, low) in
+      let here = eq-eqb _ (length xs) refl in
+      grind (arith, first_place-push f xs x (f.key d), is, same-is _ (f.key d) refl, past, here)
 
 -- what is wrong with an extension of a type, and of the schema, where these items stand before it
 abbrev type_said : TypePart → List ListItem → List ℕ → TypePart → List Fault
@@ -64,11 +70,10 @@ found_when-push xs x i lt = (λ j. option_map_or (own_faults ys i) (slice_get-fr
     ys = xs ++ x ∷ []
 
     own : (y : ListItem) → slice_get xs i ≡ Some y → own_faults ys i y ≡ own_faults xs i y
-    own (Extended p) there = refl
-    own (SchemaExtended s) there = refl
     own (Other d) there = ap (λ l. other_faults (directive_definitions l) d) (same_front xs x i lt)
-    own (Defined d) there = rw (same_place types xs x i (Defined d) d there refl)
-    own (SchemaDefined s) there = rw (same_place schemas xs x i (SchemaDefined s) s there refl)
+    own (Defined d) there = rw (same_place types xs x i _ d there refl)
+    own (SchemaDefined s) there = rw (same_place schemas xs x i _ s there refl)
+    own _ there = refl
 
     by : (o : Option ListItem) → slice_get xs i ≡ o
         → option_map_or (own_faults ys i) o [] ≡ option_map_or (own_faults xs i) o []
@@ -85,10 +90,9 @@ pub schema_faults_with-joining : (s : SchemaPart) (xs : List ListItem)
     ≡ schema_joining_faults (s ∷ []) (schema_extensions xs)
 schema_faults_with-joining s xs =
     (λ i. flat_map (λ e. schema_faults (s ∷ all-kept (schema_extensions (take e.0 xs)) i) e.1)
-    (all-kept (extension_places schemas xs) i))
-    ∙ placed-after extended_schema (λ _. true) (λ before. schema_faults (s ∷ before)) [] xs
+    (all-kept (extension_places schemas xs) i)) ∙ placed-after extended_schema (λ _. true) _ [] xs
     ∙ ap (each_after (λ before. schema_faults (s ∷ before)) []) (sym (all-kept (schema_extensions xs)))
-    ∙ sym (each_after-start schema_faults (s ∷ []) (schema_extensions xs))
+    ∙ sym (each_after-start schema_faults _ (schema_extensions xs))
 
 -- at its own moment an item finds what the code finds
 found_when-now : (xs : List ListItem) (x : ListItem) → found_when (xs ++ x ∷ []) (length xs) ≡ found_at xs x
@@ -105,20 +109,17 @@ found_when-now xs x = ap (λ o. option_map_or (own_faults (xs ++ x ∷ []) (leng
     begun : {P : Type 0} (further : P → List Fault) (own waited : List Fault) (o : Option (Placed P))
         → option_map_or (λ z. further z.1) o own ++ option_map_or (λ _. []) o waited
         ≡ option_map_or (λ z. further z.1) o (own ++ waited)
-    begun further own waited None = refl
-    begun further own waited (Some z) = append-nil _
+    begun further own waited o = grind (arith, append-nil {A = Fault})
 
     now : (x : ListItem)
         → own_faults (xs ++ x ∷ []) (length xs) x ++ (now_types x ++ now_schemas x) ≡ found_at xs x
     now (Other d) = (λ j. other_faults (directive_definitions (take-append_seam xs (Other d ∷ []) j)) d
-        ++ (said-other types type_said xs (Other d) refl refl j
-        ++ said-other schemas schema_said xs (Other d) refl refl j)) ∙ append-nil _
-    now (Extended p) = (λ j. said-extended types type_said xs (Extended p) p refl refl j
-        ++ said-other schemas schema_said xs (Extended p) refl refl j) ∙ append-nil _
-        ∙ first-gives xs (key_of p) (λ d. type_said d xs (key_of p) p) []
+        ++ (said-other types type_said xs (Other d) refl refl j ++ said-other schemas schema_said xs (Other d)
+        refl refl j)) ∙ append-nil _
+    now (Extended p) = (λ j. said-extended types type_said xs (Extended p) p refl refl j ++ said-other schemas
+        schema_said xs (Extended p) refl refl j) ∙ append-nil _ ∙ first-gives xs _ _ []
     now (SchemaExtended s) = (λ j. said-other types type_said xs (SchemaExtended s) refl refl j
-        ++ said-extended schemas schema_said xs (SchemaExtended s) s refl refl j)
-        ∙ first_schema-gives xs (λ t. schema_said t xs [] s) []
+        ++ said-extended schemas schema_said xs (SchemaExtended s) s refl refl j) ∙ first_schema-gives xs _ []
     now (Defined d) =
         let waited = joining_faults d (d ∷ []) (extensions_of xs (key_of d)) in
         (λ j. own-first types (part_faults [] d) (λ z. further_definition z d) [] xs (Defined d) d refl j
@@ -127,13 +128,13 @@ found_when-now xs x = ap (λ o. option_map_or (own_faults (xs ++ x ∷ []) (leng
         (placed-after extended_part (λ p. same (key_of d) (key_of p)) (extension_faults d) [] xs)) j
         ++ said-other schemas schema_said xs (Defined d) refl refl j))
         ∙ ap (λ l. option_map_or (λ z. further_definition z.1 d) (first_place types xs (key_of d))
-        (part_faults [] d) ++ l) (append-nil _)
-        ∙ begun (λ z. further_definition z d) (part_faults [] d) waited (first_place types xs (key_of d))
-        ∙ first-gives xs (key_of d) (λ z. further_definition z d) (part_faults [] d ++ waited)
+        (part_faults [] d) ++ l) (append-nil _) ∙ begun (λ z. further_definition z d) (part_faults [] d)
+        waited (first_place types xs (key_of d)) ∙ first-gives xs (key_of d) (λ z. further_definition z d)
+        (part_faults [] d ++ waited)
     now (SchemaDefined s) =
         let waited = schema_joining_faults (s ∷ []) (schema_extensions xs) in
-        (λ j. own-first schemas (schema_faults [] s) (λ z. further_schema z s ∷ []) [] xs
-        (SchemaDefined s) s refl j ++ (said-other types type_said xs (SchemaDefined s) refl refl j
+        (λ j. own-first schemas (schema_faults [] s) (λ z. further_schema z s ∷ []) [] xs (SchemaDefined s) s
+        refl j ++ (said-other types type_said xs (SchemaDefined s) refl refl j
         ++ (said-defined schemas schema_said xs (SchemaDefined s) s refl refl
         ∙ ap (option_map_or (λ _. []) (first_place schemas xs []))
         (ap (flat_map (schema_faults_with s xs)) (sym (all-kept (extension_places schemas xs)))
@@ -144,10 +145,8 @@ found_when-now xs x = ap (λ o. option_map_or (own_faults (xs ++ x ∷ []) (leng
 -- what is found by places from the end of a list on, moment by moment, is what is found item by item after it
 pub found_after-order : (before xs : List ListItem)
     → found_from (length before) (length xs) (before ++ xs) ≡ each_after found_at before xs
-found_after-order before = snoc_ind (λ xs. found_from (length before) (length xs) (before ++ xs)
-    ≡ each_after found_at before xs) refl
-    (λ xs x so_far. moments-on found_when before xs x (found_when-push (before ++ xs) x)
-    ∙ (λ j. so_far j ++ found_when-now (before ++ xs) x j) ∙ sym (each_after-push found_at before xs x))
+found_after-order before = snoc_ind _ refl (λ xs x so_far. moments-on found_when before xs x (found_when-push
+    _ x) ∙ (λ j. so_far j ++ found_when-now (before ++ xs) x j) ∙ sym (each_after-push found_at before xs x))
 
 -- and so is all that is found
 pub found_in-order : (xs : List ListItem) → found_from 0 (length xs) xs ≡ found xs

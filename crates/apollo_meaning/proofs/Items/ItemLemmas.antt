@@ -1,12 +1,19 @@
 -- What a list says of a name with one more item.
-use Rattle.apollo_meaning.proofs.Prelude.{◌≡◌, ℕ, ◌+◌, ◌≤◌, cond, List, [], ◌∷◌, ◌++◌, length, filter, slice_get, Some, None, ap, length-append, arith, filter_map, option_or, lookup, map-append, filter-append, filter_map-append, each_after-push, each_after-append, enumerate_from-append, filter_map-push_none, TypePart, SchemaPart, key_of, ListItem, Defined, Extended, SchemaDefined, SchemaExtended, Folding, defined_part, extended_part, defined_schema, extended_schema, same, first, extensions_of, first_schema, schema_extensions, folded_at, folded, found_at, found, waited_at, waited, extensions_with_origin, lookup-append, slice_get-push}
+use Rattle.apollo_meaning.proofs.Prelude.{◌≡◌, ◌+◌, ◌≤◌, ◌∷◌, ◌++◌, Some, None, ap, same, ℕ, each_after-push}
+use Rattle.apollo_meaning.proofs.Prelude.{SchemaExtended, defined_schema, extended_schema, cond, List, []}
+use Rattle.apollo_meaning.proofs.Prelude.{arith, lookup, key_of, first, folded, found, waited, length}
+use Rattle.apollo_meaning.proofs.Prelude.{length-append, filter-append, SchemaDefined, slice_get-append}
+use Rattle.apollo_meaning.proofs.Prelude.{filter, ListItem, Extended, Folding, folded_at, found_at, waited_at}
+use Rattle.apollo_meaning.proofs.Prelude.{slice_get, option_or, map-append, SchemaPart, Defined, first_schema}
+use Rattle.apollo_meaning.proofs.Prelude.{filter_map-append, each_after-append, schema_extensions}
+use Rattle.apollo_meaning.proofs.Prelude.{enumerate_from-append, filter_map-push_none, extensions_with_origin}
+use Rattle.apollo_meaning.proofs.Prelude.{TypePart, defined_part, extended_part, extensions_of, lookup-append}
 use Rattle.apollo_meaning.specs.Items.Named.{named, definitions}
 
 -- the first definition of a name in a front, or else in the rest
 pub first-append : (xs ys : List ListItem) (n : List ℕ)
     → first (xs ++ ys) n ≡ option_or (first xs n) (first ys n)
-first-append xs ys n =
-    rw (filter_map-append, map-append) (lookup-append (same n) (definitions xs) (definitions ys))
+first-append xs ys n = rw (filter_map-append, map-append) (lookup-append _ (definitions xs) _)
 
 module _ (xs : List ListItem) (p : TypePart) where
   pub definitions-push_definition : definitions (xs ++ Defined p ∷ []) ≡ definitions xs ++ (key_of p, p) ∷ []
@@ -14,7 +21,7 @@ module _ (xs : List ListItem) (p : TypePart) where
 
   pub first-push_definition : (n : List ℕ)
       → first (xs ++ Defined p ∷ []) n ≡ option_or (first xs n) (cond (same n (key_of p)) (Some p) None)
-  first-push_definition n = first-append xs (Defined p ∷ []) n
+  first-push_definition n = first-append xs _ n
 
   pub extensions_of-push_extension : (n : List ℕ)
       → extensions_of (xs ++ Extended p ∷ []) n ≡ extensions_of xs n ++ cond (same n (key_of p)) (p ∷ []) []
@@ -53,18 +60,18 @@ module _ (xs : List ListItem) (x : ListItem) where
 
 -- definitions and extensions of the schema
 module _ (xs : List ListItem) (s : SchemaPart) where
-  pub first_schema-push_definition :
-      first_schema (xs ++ SchemaDefined s ∷ []) ≡ option_or (first_schema xs) (Some s)
-  first_schema-push_definition = rw filter_map-append (slice_get-push (filter_map defined_schema xs) s)
+  pub first_schema-push_definition : first_schema (xs ++ SchemaDefined s ∷ []) ≡ option_or (first_schema xs)
+      (Some s)
+  first_schema-push_definition = rw filter_map-append (slice_get-append _ _)
 
-  pub schema_extensions-push_extension :
-      schema_extensions (xs ++ SchemaExtended s ∷ []) ≡ schema_extensions xs ++ s ∷ []
-  schema_extensions-push_extension = filter_map-append extended_schema xs (SchemaExtended s ∷ [])
+  pub schema_extensions-push_extension : schema_extensions (xs ++ SchemaExtended s ∷ [])
+      ≡ schema_extensions xs ++ s ∷ []
+  schema_extensions-push_extension = filter_map-append extended_schema xs _
 
 -- the folded extensions of a name, after others
 pub extensions_with_origin-append : (n : List ℕ) (start : ℕ) (ps qs : List Folding)
-    → extensions_with_origin n start (ps ++ qs)
-    ≡ extensions_with_origin n start ps ++ extensions_with_origin n (start + length ps) qs
+    → extensions_with_origin n start (ps ++ qs) ≡ extensions_with_origin n start ps
+    ++ extensions_with_origin n (start + length ps) qs
 extensions_with_origin-append n start ps qs =
     rw (enumerate_from-append start ps qs, filter_map-append, filter-append, map-append)
 

@@ -1,5 +1,6 @@
 -- The parts of a name are its first definition and the extensions of its kind, rising.
-use Rattle.apollo_meaning.proofs.Prelude.{◌≡◌, ℕ, List, Some, filter, TypePart, kind_of, key_of, ListItem, same, first, extensions_of, of_kind, folded}
+use Rattle.apollo_meaning.proofs.Prelude.{◌≡◌, ℕ, List, Some, filter, TypePart, kind_of, key_of, ListItem}
+use Rattle.apollo_meaning.proofs.Prelude.{same, first, extensions_of, of_kind, folded}
 use Rattle.apollo_meaning.proofs.Types.TypeLemmas.{type_foldings, foldings-of_name}
 
 pub of_name : (xs : List ListItem) (n : List ℕ) (d : TypePart) → first xs n ≡ Some d

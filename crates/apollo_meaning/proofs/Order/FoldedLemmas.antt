@@ -1,5 +1,7 @@
 -- The extensions that are folded are all those of the list, in its order.
-use Rattle.apollo_meaning.proofs.Prelude.{◌≡◌, ℕ, List, map, ◌∙◌, Some, TypePart, SchemaPart, kind_of, ListItem, first, first_schema, extensions_of, of_kind, schema_extensions, folding_order, folded, extensions_with_origin, schema_sourced}
+use Rattle.apollo_meaning.proofs.Prelude.{◌≡◌, List, map, ◌∙◌, Some, kind_of, first, of_kind, folded, ℕ}
+use Rattle.apollo_meaning.proofs.Prelude.{SchemaPart, ListItem, first_schema, extensions_of, folding_order}
+use Rattle.apollo_meaning.proofs.Prelude.{TypePart, schema_extensions, extensions_with_origin, schema_sourced}
 use Rattle.apollo_meaning.proofs.Items.PartLemmas.{of_name}
 use Rattle.apollo_meaning.proofs.Order.MomentLemmas.{folding_order-forget}
 use Rattle.apollo_meaning.proofs.Schema.SchemaLemmas.{schema_sourced-parts}

@@ -1,13 +1,18 @@
 -- Extensions that are folded one after another.
-use Rattle.apollo_meaning.proofs.Prelude.{◌≡◌, ℕ, ◌+◌, ◌<◌, ◌≤◌, get_or, take, drop, Bool, List, [], ◌∷◌, ◌++◌, length, map, true, refl, sym, ap, ◌∙◌, append_assoc, length-append, arith, map-append, take_more, take-append-drop, filter-append, filter_map-append, TypeKind, Definition, enumerate_from-append, TypePart, kind_of, same_kind, extended_parts, of_kind, Sourced, type_of_kind, type_from, extension_part, numbered, type_kind}
+use Rattle.apollo_meaning.proofs.Prelude.{◌≡◌, get_or, Bool, List, ◌++◌, length, true, refl, of_kind, Sourced}
+use Rattle.apollo_meaning.proofs.Prelude.{ℕ, ◌+◌, ◌<◌, ◌≤◌, [], ◌∷◌, map, sym, ap, ◌∙◌, take, append_assoc}
+use Rattle.apollo_meaning.proofs.Prelude.{map-append, take_more, Definition, type_of_kind, drop, TypeKind}
+use Rattle.apollo_meaning.proofs.Prelude.{TypePart, same_kind, type_from, numbered, type_kind, length-append}
+use Rattle.apollo_meaning.proofs.Prelude.{arith, filter-append, extended_parts, extension_part}
+use Rattle.apollo_meaning.proofs.Prelude.{take-append-drop, filter_map-append, enumerate_from-append, kind_of}
 use Rattle.graphql_nodes.specs.declared.type_kind.TypeKind.TheVariants as kinds
 use Rattle.apollo_component.specs.declared.extension.ComponentOrigin.TheVariants as origins
 use Rattle.apollo_types.specs.TypeWriteOut.{type_description, type_name, type_location}
 
 -- more extensions have the next numbers
 pub numbered-more : (done : List Sourced) (start : ℕ) (ps qs : List TypePart)
-    → done ++ map extension_part (numbered start (ps ++ qs))
-    ≡ (done ++ map extension_part (numbered start ps)) ++ map extension_part (numbered (start + length ps) qs)
+    → done ++ map extension_part (numbered start (ps ++ qs)) ≡ (done ++ map extension_part
+    (numbered start ps)) ++ map extension_part (numbered (start + length ps) qs)
 numbered-more done start ps qs = rw (enumerate_from-append start ps qs, map-append, append_assoc)
 
 pub extended_parts-append : (xs ys : List Definition)
@@ -17,24 +22,22 @@ extended_parts-append xs ys = rw (map-append, filter_map-append)
 -- one more definition of a list
 pub extended_parts-turn : (xs : List Definition) (i : ℕ) (x : Definition) → i < length xs → x ≡ get_or xs i x
     → extended_parts (take (i + 1) xs) ≡ extended_parts (take i xs) ++ extended_parts (x ∷ [])
-extended_parts-turn xs i x lt is =
-    ap extended_parts (take_more xs i x lt ∙ ap (λ y. take i xs ++ y ∷ []) (sym is))
-    ∙ extended_parts-append (take i xs) (x ∷ [])
+extended_parts-turn xs i x lt is = ap extended_parts (take_more xs i x lt
+    ∙ ap (λ y. take i xs ++ y ∷ []) (sym is)) ∙ extended_parts-append (take i xs) _
 
 -- the extensions of a kind among one more definition
-module _ (k : TypeKind) (xs : List Definition) (i : ℕ) (x : Definition) (lt : i < length xs)
-    (is : x ≡ get_or xs i x) where
+module _ (k : TypeKind) (xs : List Definition) (i : ℕ) (x : Definition) (lt : i < length xs) (is : x
+    ≡ get_or xs i x) where
   abbrev of_this : List Definition → List TypePart
   of_this ds = of_kind k (extended_parts ds)
 
-  pub of_kind-turn : of_kind k (extended_parts (take (i + 1) xs))
-      ≡ of_kind k (extended_parts (take i xs)) ++ of_kind k (extended_parts (x ∷ []))
+  pub of_kind-turn : of_kind k (extended_parts (take (i + 1) xs)) ≡ of_kind k (extended_parts (take i xs))
+      ++ of_kind k (extended_parts (x ∷ []))
   of_kind-turn = rw (extended_parts-turn xs i x lt is, filter-append)
 
   -- those so far and this one are no more than all
-  pub of_kind-past :
-      length (of_kind k (extended_parts (take i xs))) + length (of_kind k (extended_parts (x ∷ [])))
-      ≤ length (of_kind k (extended_parts xs))
+  pub of_kind-past : length (of_kind k (extended_parts (take i xs)))
+      + length (of_kind k (extended_parts (x ∷ []))) ≤ length (of_kind k (extended_parts xs))
   of_kind-past =
       let whole : of_this xs ≡ of_this (take (i + 1) xs) ++ of_this (drop (i + 1) xs) =
       ap of_this (sym (take-append-drop (i + 1) xs)) ∙ rw (extended_parts-append, filter-append) in omega (
@@ -50,9 +53,9 @@ same_kind-refl k = grind arith
 
 -- what the type of parts has of the head
 module _ (head : TypePart) (done : List Sourced) where
-  of_head : (k : TypeKind) → (type_kind (type_of_kind k head done) ≡ k)
-      × (type_description (type_of_kind k head done) ≡ head.description)
-      × (type_name (type_of_kind k head done) ≡ head.name)
+  of_head : (k : TypeKind)
+      → (type_kind (type_of_kind k head done) ≡ k) × (type_description (type_of_kind k head done)
+      ≡ head.description) × (type_name (type_of_kind k head done) ≡ head.name)
       × (type_location (type_of_kind k head done) ≡ head.location)
   of_head kinds.Scalar = (refl, refl, refl, refl)
   of_head _ = (refl, refl, refl, refl)
@@ -73,11 +76,4 @@ module _ (head : TypePart) (done : List Sourced) where
 pub type_from-ignorable : (p : TypePart) (b : Bool) (es : List Sourced)
     → type_from (record p { ignorable = b }) ((origins.Definition, record p { ignorable = b }) ∷ es)
     ≡ type_from p ((origins.Definition, p) ∷ es)
-type_from-ignorable p b es = by p.kind
-  where
-    q : TypePart
-    q = record p { ignorable = b }
-
-    by : (k : TypeKind)
-        → type_of_kind k q ((origins.Definition, q) ∷ es) ≡ type_of_kind k p ((origins.Definition, p) ∷ es)
-    by k = grind arith
+type_from-ignorable p b es = grind arith

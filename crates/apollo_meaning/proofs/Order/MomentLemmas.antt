@@ -1,10 +1,18 @@
 -- The order of folding by places is the order in which the code folds: moment by moment.
-use Rattle.apollo_meaning.proofs.Prelude.{◌≡◌, ℕ, ◌<◌, true, false, ◌==◌, List, [], ◌∷◌, ◌++◌, length, map, all-kept, is_folded, met_when, folded_when, Option, Some, None, filter, refl, sym, ap, ◌∙◌, arith, flat_map, option_map_or, snoc_ind, TypePart, SchemaPart, kind_of, key_of, ListItem, Defined, Extended, SchemaDefined, SchemaExtended, OfType, OfSchema, extended_part, extended_schema, same, first, first_schema, of_kind, schema_extensions, types_folded_at, schemas_folded_at, folded_at, folded, types, schemas, Placed, extension_places, first_place, folding_order, max, map-map}
+use Rattle.apollo_meaning.proofs.Prelude.{◌≡◌, ℕ, ◌<◌, ◌∷◌, map, refl, sym, ap, ◌∙◌, same, max, true, false}
+use Rattle.apollo_meaning.proofs.Prelude.{◌==◌, List, ◌++◌, arith, first, folded, types, Placed, []}
+use Rattle.apollo_meaning.proofs.Prelude.{option_map_or, SchemaExtended, extended_schema, types_folded_at}
+use Rattle.apollo_meaning.proofs.Prelude.{length, Option, filter, key_of, OfType, of_kind, schemas, map-map}
+use Rattle.apollo_meaning.proofs.Prelude.{all-kept, SchemaDefined, extended_part, first_schema, folding_order}
+use Rattle.apollo_meaning.proofs.Prelude.{is_folded, met_when, flat_map, SchemaPart, folded_at, first_place}
+use Rattle.apollo_meaning.proofs.Prelude.{folded_when, schemas_folded_at, extension_places}
+use Rattle.apollo_meaning.proofs.Prelude.{snoc_ind, TypePart, kind_of, ListItem, Defined, Extended, OfSchema}
 use Rattle.std.proofs.lemmas.List.Concat.{flat_map_single}
 use Rattle.apollo_component.proofs.Lists.Each.{moments-push}
 use Rattle.apollo_meaning.proofs.Items.ItemLemmas.{folded-push}
-use Rattle.apollo_meaning.proofs.Order.PlaceLemmas.{chosen-forget, first-gives, first_schema-gives}
-use Rattle.apollo_meaning.proofs.Order.SaidLemmas.{said_of, said_when, said-push, said-other, said-extended, said-defined}
+use Rattle.apollo_meaning.proofs.Order.PlaceLemmas.{chosen-forget, first-gives, first_schema-gives, said_of}
+use Rattle.apollo_meaning.proofs.Order.PlaceLemmas.{said_when, said-push, said-other, said-extended}
+use Rattle.apollo_meaning.proofs.Order.PlaceLemmas.{said-defined}
 
 -- of an extension of the definition's kind it is said that it is folded, and so of each of the schema
 abbrev of_type : TypePart → List ListItem → List ℕ → TypePart → List TypePart
@@ -27,12 +35,12 @@ schemas-said xs i = by (first_place schemas xs []) (extension_places schemas xs)
 
     by : (o : Option (Placed SchemaPart)) (es : List (Placed SchemaPart))
         → map (λ e. e.1) (met o es) ≡ flat_map (λ e. option_map_or (λ _. e.1 ∷ []) o []) (met o es)
-    by (Some d) es = sym (flat_map_single (λ e. e.1) (met (Some d) es))
-    by None [] = refl
-    by None (e ∷ es) = by None es
+    by o [] = refl
+    by o (e ∷ es) = grind (arith, by o es)
 
-folded_when-said : (xs : List ListItem) (i : ℕ) → folded_when xs i
-    ≡ map OfType (said_when types of_type xs i) ++ map OfSchema (said_when schemas of_schema xs i)
+folded_when-said : (xs : List ListItem) (i : ℕ)
+    → folded_when xs i ≡ map OfType (said_when types of_type xs i)
+    ++ map OfSchema (said_when schemas of_schema xs i)
 folded_when-said xs i =
     (λ j. sym (map-map OfType (λ (e : Placed TypePart). e.1) (filter (is_folded xs) (met_when types xs i))) j
     ++ sym (map-map OfSchema (λ (e : Placed SchemaPart). e.1) (met_when schemas xs i)) j)
@@ -41,14 +49,12 @@ folded_when-said xs i =
 -- at its own moment an item folds what the code folds
 types-now : (xs : List ListItem) (x : ListItem)
     → said_when types of_type (xs ++ x ∷ []) (length xs) ≡ types_folded_at xs x
-types-now xs (Extended p) = said-extended types of_type xs (Extended p) p refl refl
-    ∙ first-gives xs (key_of p) (λ d. of_kind (kind_of d) (p ∷ [])) []
+types-now xs (Extended p) = said-extended types of_type xs _ p refl refl ∙ first-gives xs _ _ []
 types-now xs (Defined d) =
     let waiting = filter (λ e. same (key_of d) (key_of e.1)) (extension_places types xs) in
-    said-defined types of_type xs (Defined d) d refl refl ∙ first-gives xs (key_of d) (λ _. [])
-    (flat_map (λ (e : Placed TypePart). of_kind (kind_of d) (e.1 ∷ [])) waiting)
+    said-defined types of_type xs (Defined d) d refl refl ∙ first-gives xs _ _ _
     ∙ ap (option_map_or (λ _. []) (first xs (key_of d))) (kinds waiting
-    ∙ ap (of_kind (kind_of d)) (chosen-forget extended_part (λ p. same (key_of d) (key_of p)) xs))
+    ∙ ap (of_kind (kind_of d)) (chosen-forget extended_part _ xs))
   where
     kinds : (es : List (Placed TypePart))
         → flat_map (λ e. of_kind (kind_of d) (e.1 ∷ [])) es ≡ of_kind (kind_of d) (map (λ e. e.1) es)
@@ -58,21 +64,19 @@ types-now xs x = said-other types of_type xs x refl refl
 
 schemas-now : (xs : List ListItem) (x : ListItem)
     → said_when schemas of_schema (xs ++ x ∷ []) (length xs) ≡ schemas_folded_at xs x
-schemas-now xs (SchemaExtended s) =
-    said-extended schemas of_schema xs (SchemaExtended s) s refl refl ∙ first_schema-gives xs (λ _. s ∷ []) []
+schemas-now xs (SchemaExtended s) = said-extended schemas of_schema xs _ s refl refl
+    ∙ first_schema-gives xs _ []
 schemas-now xs (SchemaDefined s) =
     let waiting = filter (λ _. true) (extension_places schemas xs) in
-    said-defined schemas of_schema xs (SchemaDefined s) s refl refl
-    ∙ first_schema-gives xs (λ _. []) (flat_map (λ (e : Placed SchemaPart). e.1 ∷ []) waiting)
-    ∙ ap (option_map_or (λ _. []) (first_schema xs)) (flat_map_single (λ (e : Placed SchemaPart). e.1) waiting
-    ∙ chosen-forget extended_schema (λ _. true) xs ∙ sym (all-kept (schema_extensions xs)))
+    said-defined schemas of_schema xs (SchemaDefined s) s refl refl ∙ first_schema-gives xs _ _
+    ∙ ap (option_map_or (λ _. []) (first_schema xs)) (flat_map_single _ waiting
+    ∙ chosen-forget extended_schema (λ _. true) xs ∙ sym (all-kept _))
 schemas-now xs x = said-other schemas of_schema xs x refl refl
 
 -- the order of folding by places is that of the definitions by prefixes
 pub folding_order-forget : (xs : List ListItem) → folding_order xs ≡ folded xs
-folding_order-forget = snoc_ind (λ xs. folding_order xs ≡ folded xs) refl
-    (λ xs x before. moments-push folded_when xs x (earlier xs x) ∙ (λ j. before j ++ now xs x j)
-    ∙ sym (folded-push xs x))
+folding_order-forget = snoc_ind _ refl (λ xs x before. moments-push folded_when xs x (earlier xs x)
+    ∙ (λ j. before j ++ now xs x j) ∙ sym (folded-push xs x))
   where
     earlier : (xs : List ListItem) (x : ListItem) (i : ℕ) → i < length xs
         → folded_when (xs ++ x ∷ []) i ≡ folded_when xs i
@@ -81,5 +85,5 @@ folding_order-forget = snoc_ind (λ xs. folding_order xs ≡ folded xs) refl
         ++ map OfSchema (said-push schemas of_schema xs x i lt j)) ∙ sym (folded_when-said xs i)
 
     now : (xs : List ListItem) (x : ListItem) → folded_when (xs ++ x ∷ []) (length xs) ≡ folded_at xs x
-    now xs x = folded_when-said (xs ++ x ∷ []) (length xs)
-        ∙ (λ j. map OfType (types-now xs x j) ++ map OfSchema (schemas-now xs x j))
+    now xs x = folded_when-said (xs ++ x ∷ []) _ ∙ (λ j. map OfType (types-now xs x j)
+        ++ map OfSchema (schemas-now xs x j))

@@ -27,6 +27,7 @@ use Rattle.std.specs.List.{filter_map, flat_map, enumerate_from}
 use Rattle.std.specs.Option.{option_map}
 use Rattle.graphql_nodes.specs.SameText.{same, by_text}
 use Rattle.graphql_nodes.specs.NameView.{NameView}
+use Rattle.graphql_nodes.specs.NodeView.{NodeView}
 use Rattle.graphql_nodes.specs.Tables.{lookup, keys_of}
 use Rattle.graphql_nodes.specs.declared.type_kind.TypeKind.{TypeKind}
 use Rattle.graphql_nodes.specs.declared.type_kind.TypeKind.TheVariants as kinds
@@ -125,20 +126,18 @@ input_object_of head parts = record {
   fields = distinct_entries (flat_map input_fields_of parts);
 }
 
+-- a value where a part stands
+abbrev pub node_at : {T : Type 0} → TypePart → T → NodeView T
+node_at head value = record { value = value; location = head.location }
+
 -- the type that these parts make, of this kind, with the description, name and location of the head
 abbrev pub type_of_kind : TypeKind → TypePart → List Sourced → ExtendedType
-type_of_kind kinds.Scalar head parts =
-    Scalar (record { value = scalar_of head parts; location = head.location })
-type_of_kind kinds.Object head parts =
-    Object (record { value = object_of head parts; location = head.location })
-type_of_kind kinds.Interface head parts =
-    Interface (record { value = interface_of head parts; location = head.location })
-type_of_kind kinds.Union head parts =
-    Union (record { value = union_of head parts; location = head.location })
-type_of_kind kinds.Enum head parts =
-    Enum (record { value = enum_of head parts; location = head.location })
-type_of_kind kinds.InputObject head parts =
-    InputObject (record { value = input_object_of head parts; location = head.location })
+type_of_kind kinds.Scalar head parts = Scalar (node_at head (scalar_of head parts))
+type_of_kind kinds.Object head parts = Object (node_at head (object_of head parts))
+type_of_kind kinds.Interface head parts = Interface (node_at head (interface_of head parts))
+type_of_kind kinds.Union head parts = Union (node_at head (union_of head parts))
+type_of_kind kinds.Enum head parts = Enum (node_at head (enum_of head parts))
+type_of_kind kinds.InputObject head parts = InputObject (node_at head (input_object_of head parts))
 
 -- the type that these parts make, with the description, name and location of the head
 abbrev pub type_from : TypePart → List Sourced → ExtendedType

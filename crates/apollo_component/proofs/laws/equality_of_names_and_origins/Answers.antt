@@ -1,6 +1,5 @@
-use Rattle.apollo_component.proofs.ComponentEquality.{component_names, sets_of_component_names}
-use Rattle.apollo_component.proofs.ComponentEquality.{directive_lists, extension_ids, origins}
-use Rattle.apollo_component.proofs.ComponentEquality.{ids_spent_errors}
+use Rattle.apollo_component.proofs.ComponentEquality.{component_names, directive_lists, extension_ids}
+use Rattle.apollo_component.proofs.ComponentEquality.{sets_of_component_names, origins, ids_spent_errors}
 use Rattle.apollo_component.proofs.laws.equality_of_names_and_origins.Goals as goal
 
 pub returns-clause-component_name : goal.returns-clause-component_name

@@ -1,4 +1,8 @@
-use Rattle.apollo_meaning.proofs.Prelude.{◌≡◌, ◌∙◌, ℕ, ◌+◌, ◌<◌, Bool, true, false, refl, List, [], ◌∷◌, keys_of, arith, AllByRecursion, key_of, Folding, OfType, OfSchema, same, extension_part, extensions_with_origin, ◌⊎◌, inl, inr, enumerate_from, nat_eq, ne_eqb, schema_extension_source, schema_sourced, folding_order}
+use Rattle.apollo_meaning.proofs.Prelude.{◌≡◌, ◌∙◌, ℕ, ◌+◌, ◌<◌, Bool, true, false, refl, List, [], ◌∷◌}
+use Rattle.apollo_meaning.proofs.Prelude.{keys_of, arith, AllByRecursion, key_of, Folding, OfType, OfSchema}
+use Rattle.apollo_meaning.proofs.Prelude.{same, extension_part, extensions_with_origin, ◌⊎◌, inl, inr}
+use Rattle.apollo_meaning.proofs.Prelude.{enumerate_from, nat_eq, ne_eqb, schema_extension_source}
+use Rattle.apollo_meaning.proofs.Prelude.{schema_sourced, folding_order}
 use Rattle.std.specs.List.{IsDistinct}
 use Rattle.apollo_component.specs.Extensions.{same_origin}
 use Rattle.apollo_meaning.proofs.laws.folded_extensions_have_numbers_of_their_own.Goals as goal
@@ -9,10 +13,9 @@ GivesOne {P = P} keyed chosen n x xs = (chosen n (x ∷ xs) ≡ chosen (n + 1) x
     ⊎ ((p : P) × (chosen n (x ∷ xs) ≡ keyed (n, p) ∷ chosen (n + 1) xs))
 
 -- so no two of what all give have one key
-module _ {X P K : Type 0} (eq : K → K → Bool) (keyed : ℕ × P → K × P)
-    (alike : (e f : ℕ × P) → eq (keyed e).0 (keyed f).0 ≡ nat_eq e.0 f.0)
-    (chosen : ℕ → List X → List (K × P)) (none : (n : ℕ) → chosen n [] ≡ [])
-    (step : (n : ℕ) (x : X) (xs : List X) → GivesOne keyed chosen n x xs) where
+module _ {X P K : Type 0} (eq : K → K → Bool) (keyed : ℕ × P → K × P) (alike : (e f : ℕ × P)
+    → eq (keyed e).0 (keyed f).0 ≡ nat_eq e.0 f.0) (chosen : ℕ → List X → List (K × P)) (none : (n : ℕ)
+    → chosen n [] ≡ []) (step : (n : ℕ) (x : X) (xs : List X) → GivesOne keyed chosen n x xs) where
   abbrev Lacks : ℕ × P → List (K × P) → Type 0
   Lacks e es = AllByRecursion (λ k. eq (keyed e).0 k ≡ false) (keys_of es)
 

@@ -1,4 +1,5 @@
-use Rattle.apollo_meaning.proofs.Faults.DroppedLemmas.{same_root_laws, roots-dropped, roots-joined, found-roots}
+use Rattle.apollo_meaning.proofs.Faults.DroppedLemmas.{same_root_laws, roots-dropped, roots-joined}
+use Rattle.apollo_meaning.proofs.Faults.DroppedLemmas.{found-roots}
 use Rattle.apollo_meaning.proofs.laws.later_roots_are_at_fault.Goals as goal
 
 pub returns-clause-same : goal.returns-clause-same

@@ -1,4 +1,5 @@
-use Rattle.apollo_meaning.proofs.Order.FoldingLemmas.{type_description-from, type_from-ignorable, type_kind-from, type_location-from, type_name-from}
+use Rattle.apollo_meaning.proofs.Order.FoldingLemmas.{type_description-from, type_from-ignorable}
+use Rattle.apollo_meaning.proofs.Order.FoldingLemmas.{type_kind-from, type_location-from, type_name-from}
 use Rattle.apollo_meaning.proofs.laws.types_are_headed_by_their_definitions.Goals as goal
 
 pub returns-clause-kind : goal.returns-clause-kind

@@ -8,7 +8,6 @@ use Rattle.apollo_types.proofs.components.add_roots.Goals as goal
 pub returns : goal.returns
 returns c = λ cs was.
     let l = c.loop-operation_type in
-    let all =
-    iter_end deref_root _ _ _ _ _ _ c.into_iter-operation_type-iterator.ensures.into_iter_gives l.yielded_by
-    c.in-None.is c.next.ensures.steps in
+    let all = iter_end deref_root _ _ _ _ _ _ c.into_iter-operation_type-iterator.ensures.into_iter_gives
+    l.yielded_by c.in-None.is c.next.ensures.steps in
     l.invariant cs was ∙ ap (λ rs. by_origin (cs ++ map of_root rs)) all.0

@@ -4,8 +4,8 @@ use Rattle.apollo_component.specs.AppliedDirectives.{is_called}
 use Rattle.apollo_component.proofs.get_all.GetAllIterator.next.Given as goal
 
 abbrev pub invariant-loop-directive : goal.invariant-loop-directive
-invariant-loop-directive l =
-    l.fn.self ≡ filter (is_called l.self-inside.name.now) (iter_rest l.self-inside.directives)
+invariant-loop-directive l = l.fn.self ≡ filter (is_called l.self-inside.name.now)
+    (iter_rest l.self-inside.directives)
 
 abbrev pub decreases-loop-directive : goal.decreases-loop-directive
 decreases-loop-directive l = length (iter_rest l.self-inside.directives)

@@ -2,9 +2,9 @@ use Rattle.apollo_component.proofs.WriteOutLemmas.{definition-push, extension-pu
 use Rattle.apollo_component.proofs.parts_by_origin.PartsByOrigin.add.Goals as goal
 
 pub returns-in_ok-push-in-Definition : goal.returns-in_ok-push-in-Definition
-returns-in_ok-push-in-Definition c = λ cs was.
-    definition-push c.args.self.now cs was _ _ _ c.in-Definition.is c.in_ok-push-in-Definition.ensures.added
+returns-in_ok-push-in-Definition c = λ cs was. definition-push c.args.self.now cs was _ _ _ c.in-Definition.is
+    c.in_ok-push-in-Definition.ensures.added
 
 pub returns-in_ok-add-in-Extension : goal.returns-in_ok-add-in-Extension
-returns-in_ok-add-in-Extension c = λ cs was.
-    extension-push c.args.self.now cs was _ _ _ _ c.in-Extension.is c.in_ok-add-in-Extension.ensures
+returns-in_ok-add-in-Extension c = λ cs was. extension-push c.args.self.now cs was _ _ _ _ c.in-Extension.is
+    c.in_ok-add-in-Extension.ensures

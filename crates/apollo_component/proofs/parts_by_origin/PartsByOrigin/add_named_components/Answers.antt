@@ -7,7 +7,6 @@ use Rattle.apollo_component.proofs.parts_by_origin.PartsByOrigin.add_named_compo
 pub returns : goal.returns
 returns g c = λ cs was.
     let l = c.loop-component in
-    let all =
-    iter_end deref _ _ _ _ _ _ c.into_iter-component-iterator.ensures.into_iter_gives l.yielded_by
+    let all = iter_end deref _ _ _ _ _ _ c.into_iter-component-iterator.ensures.into_iter_gives l.yielded_by
     c.in-None.is c.next.ensures.steps in
     l.invariant cs was ∙ ap (λ xs. by_origin (cs ++ map (sourced g.T.NodePart.node_part) xs)) all.0

@@ -4,6 +4,5 @@ use Rattle.apollo_types.proofs.root_operations.RootOperationsExactSizeIterator.l
 
 abbrev pub invariant-loop-operation_type : goal.invariant-loop-operation_type
 invariant-loop-operation_type l =
-    (l.count + length (filter_map (named_root l.self-inside.definition.now)
-    (drop l.operation_type-index l.operation_type-items)) ≡ length l.self) ×
-    (l.count ≤ l.operation_type-index)
+    (l.count + length (filter_map (named_root l.self-inside.definition.now) (drop l.operation_type-index
+    l.operation_type-items)) ≡ length l.self) × (l.count ≤ l.operation_type-index)

@@ -6,5 +6,5 @@ use Rattle.apollo_types.specs.SchemaDefinitionWriteOut.{has_own_root}
 use Rattle.apollo_types.proofs.schema_definition.SchemaDefinition.has_own_root.Given as goal
 
 abbrev pub invariant-loop-root : goal.invariant-loop-root
-invariant-loop-root l =
-    has_own_root l.self ≡ list_any (λ r. same_origin origins.Definition r.1.origin) l.root-iterator
+invariant-loop-root l = has_own_root l.self ≡ list_any (λ r. same_origin origins.Definition r.1.origin)
+    l.root-iterator

@@ -16,18 +16,12 @@ same o p h = absurd h
 pub returns : goal.returns
 returns c =
     let t = c.args.self.now in
-    let d : c.in_ok-clone.field-0 ≡ t.description = same _ _ c.in_ok-clone.ensures.cases in
-    let l : c.in_ok-clone-2.field-0.0 ≡ t.directives.0 =
-    same_from_all_zip _ _ _ c.in_ok-clone-2.ensures.cases (λ x y e. e) in
-    let q : c.in_ok-clone-3.field-0 ≡ t.query = same _ _ c.in_ok-clone-3.ensures.cases in
-    let m : c.in_ok-clone-4.field-0 ≡ t.mutation = same _ _ c.in_ok-clone-4.ensures.cases in
-    let s : c.in_ok-clone-5.field-0 ≡ t.subscription = same _ _ c.in_ok-clone-5.ensures.cases in
     record {
       cases = λ i. record {
-        description = d i;
-        directives = record { 0 = l i };
-        query = q i;
-        mutation = m i;
-        subscription = s i;
+        description = same t.description c.in_ok-clone.field-0 c.in_ok-clone.ensures.cases i;
+        directives = record { 0 = same_from_all_zip _ _ _ c.in_ok-clone-2.ensures.cases (λ x y e. e) i };
+        query = same t.query c.in_ok-clone-3.field-0 c.in_ok-clone-3.ensures.cases i;
+        mutation = same t.mutation c.in_ok-clone-4.field-0 c.in_ok-clone-4.ensures.cases i;
+        subscription = same t.subscription c.in_ok-clone-5.field-0 c.in_ok-clone-5.ensures.cases i;
       };
     }
