@@ -7,6 +7,6 @@ use Rattle.apollo_meaning.specs.Items.ListItems.{item_from}
 use Rattle.apollo_folding.specs.DeclaredParts.{item_seen}
 
 -- the item of a definition is that of what is seen of it
-pub item-seen : (d : Definition) (v : DeclarationRef)
-    → declaration_seen v ≡ declaration_of d → item_of d ≡ item_seen v
+pub item-seen : (d : Definition) (v : DeclarationRef) → declaration_seen v ≡ declaration_of d
+    → item_of d ≡ item_seen v
 item-seen d v sees = ap item_from (sym sees)

@@ -1,13 +1,12 @@
 -- What names mean among directive definitions with one more, and tables that hold it.
-use Rattle.apollo_meaning.proofs.Prelude.{◌≡◌, ℕ, Bool, true, false, cond, not, ◌&&◌, List, [], ◌∷◌, ◌++◌}
-use Rattle.apollo_meaning.proofs.Prelude.{map, filter, Option, Some, None, is_some, refl, sym, ap, ◌∙◌}
-use Rattle.apollo_meaning.proofs.Prelude.{true≢false, find, list_any, option_or, unwrap_or, lookup, keys_of}
-use Rattle.apollo_meaning.proofs.Prelude.{set_value, IsEquivalence, on_equiv, nat_list_eq_equiv, map-append}
-use Rattle.apollo_meaning.proofs.Prelude.{keys-set_value, insert_entry, NameView, NodeView, is_built_in}
-use Rattle.apollo_meaning.proofs.Prelude.{same_text, same, by_text, DirectiveDefinition, first_of_each}
-use Rattle.apollo_meaning.proofs.Prelude.{list_any-first_of_each, first_of_each-push_new}
-use Rattle.apollo_meaning.proofs.Prelude.{first_of_each-push_old, is_some-lookup, Directives, AreDirectivesOf}
-use Rattle.apollo_meaning.proofs.Prelude.{or-none, same-true}
+use Rattle.apollo_meaning.proofs.Prelude.{arith, ◌≡◌, ℕ, Bool, true, false, cond, ◌&&◌, List, [], ◌∷◌, ◌++◌}
+use Rattle.apollo_meaning.proofs.Prelude.{filter, Option, Some, None, is_some, refl, sym, ap, ◌∙◌, find}
+use Rattle.apollo_meaning.proofs.Prelude.{list_any, lookup, keys_of, set_value, IsEquivalence, on_equiv}
+use Rattle.apollo_meaning.proofs.Prelude.{nat_list_eq_equiv, map-append, keys-set_value, insert_entry}
+use Rattle.apollo_meaning.proofs.Prelude.{NameView, NodeView, is_built_in, same_text, same, by_text}
+use Rattle.apollo_meaning.proofs.Prelude.{DirectiveDefinition, first_of_each, list_any-first_of_each}
+use Rattle.apollo_meaning.proofs.Prelude.{first_of_each-push_new, first_of_each-push_old, is_some-lookup}
+use Rattle.apollo_meaning.proofs.Prelude.{Directives, AreDirectivesOf, or-none, same-true}
 use Rattle.std.specs.List.{last_or}
 use Rattle.std.proofs.lemmas.Bool.{and_right}
 use Rattle.std.proofs.lemmas.List.Folds.{find-append}
@@ -27,17 +26,8 @@ last_or-fails : {X : Type 0} (p q : X → Bool) (o : Option X) (xs : List X) (v 
     → find (λ x. p x && q x) xs ≡ None → (o ≡ Some v → q v ≡ false) → last_or o (filter p xs) ≡ Some v
     → q v ≡ false
 last_or-fails p q o [] v none start last = start last
-last_or-fails {X} p q o (x ∷ xs) v none start last =
-    by (p x) (q x) refl none last (λ o. last_or-fails p q o xs v)
-  where
-    by : (b c : Bool) → q x ≡ c → cond (b && c) (Some x) (find (λ x. p x && q x) xs) ≡ None
-        → last_or o (cond b (x ∷ filter p xs) (filter p xs)) ≡ Some v
-        → ((o : Option X) → find (λ x. p x && q x) xs ≡ None → (o ≡ Some v → q v ≡ false)
-        → last_or o (filter p xs) ≡ Some v → q v ≡ false) → q v ≡ false
-    by true true e none last rest = cc
-    by true false e none last rest =
-        rest (Some x) none (λ h. ap q (sym (ap (λ (o : Option X). unwrap_or o x) h)) ∙ e) last
-    by false c e none last rest = rest o none start last
+last_or-fails p q o (x ∷ xs) v none start last =
+    grind (arith, last_or-fails p q (Some x) xs v, last_or-fails p q o xs v)
 
 -- a definition of the name that is handed in
 abbrev handed : List ℕ → NodeView DirectiveDefinition → Bool
@@ -45,63 +35,38 @@ handed n d = has_text n d && is_handed_in d
 
 module _ (ds : Directives) (n : List ℕ) where
   unknown_unhanded : directive_of ds n ≡ None → find (handed n) ds ≡ None
-  unknown_unhanded none = by (find (handed n) ds) refl none
-    where
-      by : (o : Option (NodeView DirectiveDefinition)) → find (handed n) ds ≡ o
-          → option_or o (last_or None (filter (has_text n) ds)) ≡ None → find (handed n) ds ≡ None
-      by None e h = e
-      by (Some k) e h = cc
+  unknown_unhanded none = grind (arith, none)
 
   -- a name that means a built-in definition has none that is handed in
   built_in_unhanded : (v : NodeView DirectiveDefinition) → directive_of ds n ≡ Some v
       → is_built_in v.location ≡ true → find (handed n) ds ≡ None
-  built_in_unhanded v here built_in = by (find (handed n) ds) refl here
-    where
-      by : (o : Option (NodeView DirectiveDefinition)) → find (handed n) ds ≡ o
-          → option_or o (last_or None (filter (has_text n) ds)) ≡ Some v → find (handed n) ds ≡ None
-      by None e h = e
-      by (Some k) e h = absurd (true≢false (sym (found-passes (handed n) ds v (e ∙ h))
-          ∙ and_right (has_text n v) (is_handed_in v) (ap not built_in)))
+  built_in_unhanded v here built_in =
+      grind (arith, found-passes (handed n) ds v, and_right (has_text n v) (is_handed_in v))
 
   -- and each other is the first that is handed in
   handed_is : (v : NodeView DirectiveDefinition) → directive_of ds n ≡ Some v → is_built_in v.location ≡ false
       → find (handed n) ds ≡ Some v
-  handed_is v here handed_in = by (find (handed n) ds) refl here
-    where
-      by : (o : Option (NodeView DirectiveDefinition)) → find (handed n) ds ≡ o
-          → option_or o (last_or None (filter (has_text n) ds)) ≡ Some v → find (handed n) ds ≡ Some v
-      by None e h = absurd (true≢false (ap not (sym handed_in) ∙ last_or-fails (has_text n) is_handed_in None
-          ds v e (λ i. cc) h))
-      by (Some k) e h = e ∙ h
+  handed_is v here handed_in = grind (arith, last_or-fails (has_text n) is_handed_in None ds v)
 
 module _ (ds : Directives) (d : NodeView DirectiveDefinition) (n : List ℕ) where
   -- one of another name changes nothing
   directive_of-other : same n d.value.name.text ≡ false → directive_of (ds ++ d ∷ []) n ≡ directive_of ds n
-  directive_of-other apart = ap (λ o. option_or o (last_or None (filter (has_text n) (ds ++ d ∷ []))))
-      (find-append (handed n) ds (d ∷ []) ∙ ap (λ b. option_or (find (handed n) ds)
-      (cond (b && is_handed_in d) (Some d) None)) apart ∙ or-none (find (handed n) ds))
-      ∙ ap (λ l. option_or (find (handed n) ds) (last_or None l)) (filter-push_dropped (has_text n) ds d
-      apart)
+  directive_of-other apart = rw (find-append, filter-push_dropped (has_text n) ds d apart, apart, or-none)
 
   -- one after the first that is handed in changes nothing
   directive_of-kept : (k : NodeView DirectiveDefinition) → find (handed n) ds ≡ Some k
       → directive_of (ds ++ d ∷ []) n ≡ directive_of ds n
-  directive_of-kept k some = ap (λ o. option_or o (last_or None (filter (has_text n) (ds ++ d ∷ []))))
-      (find-append (handed n) ds (d ∷ []) ∙ ap (λ o. option_or o (find (handed n) (d ∷ []))) some)
-      ∙ sym (ap (λ o. option_or o (last_or None (filter (has_text n) ds))) some)
+  directive_of-kept k some = rw (find-append, some)
 
   -- one before any that is handed in is what its name means
   directive_of-taken : find (handed n) ds ≡ None → same n d.value.name.text ≡ true
       → directive_of (ds ++ d ∷ []) n ≡ Some d
-  directive_of-taken none own = ap (λ o. option_or o (last_or None (filter (has_text n) (ds ++ d ∷ []))))
-      (find-append (handed n) ds (d ∷ []) ∙ ap (λ o. option_or o (find (handed n) (d ∷ []))) none)
-      ∙ ap (λ l. option_or (find (handed n) (d ∷ [])) (last_or None l)) (filter-push_kept (has_text n) ds d
-      own) ∙ ap (option_or (find (handed n) (d ∷ []))) (last_or-push None (filter (has_text n) ds) d)
-      ∙ either (handed n d)
-    where
-      either : (b : Bool) → option_or (cond b (Some d) None) (Some d) ≡ Some d
-      either true = refl
-      either false = refl
+  directive_of-taken none own = grind (
+    arith,
+    find-append (handed n) ds (d ∷ []),
+    filter-push_kept (has_text n) ds d own,
+    last_or-push None (filter (has_text n) ds) d,
+  )
 
 abbrev same_name : NodeView DirectiveDefinition → NodeView DirectiveDefinition → Bool
 same_name a b = same_text a.value.name b.value.name
@@ -112,32 +77,36 @@ by_name = on_equiv (λ d. d.value.name.text) nat_list_eq_equiv
 module _ {ds : Directives} {table : List (NameView × NodeView DirectiveDefinition)}
     (was : AreDirectivesOf ds table) (d : NodeView DirectiveDefinition) where
   known : is_some (lookup (by_text d.value.name.text) table) ≡ list_any (same_name d) ds
-  known = is_some-lookup (by_text d.value.name.text) table
-      ∙ sym (list_any-map (by_text d.value.name.text) (λ e. e.0) table)
-      ∙ ap (list_any (by_text d.value.name.text)) was.names ∙ list_any-map (by_text d.value.name.text)
-      (λ e. e.value.name) (first_of_each same_name ds) ∙ list_any-first_of_each same_name by_name d ds
+  known = grind (
+    arith,
+    is_some-lookup (by_text d.value.name.text) table,
+    list_any-map (by_text d.value.name.text) (λ e. e.0) table,
+    was.names,
+    list_any-map (by_text d.value.name.text) (λ e. e.value.name) (first_of_each same_name ds),
+    list_any-first_of_each same_name by_name d ds,
+  )
 
   names-new : is_some (lookup (by_text d.value.name.text) table) ≡ false
       → keys_of table ++ d.value.name ∷ [] ≡ directive_names (ds ++ d ∷ [])
-  names-new absent = ap (λ l. l ++ d.value.name ∷ []) was.names
-      ∙ sym (map-append (λ e. e.value.name) (first_of_each same_name ds) (d ∷ []))
-      ∙ sym (ap (map (λ (e : NodeView DirectiveDefinition). e.value.name)) (first_of_each-push_new same_name
-      by_name ds d (sym known ∙ absent)))
+  names-new absent = rw (
+    was.names,
+    first_of_each-push_new same_name by_name ds d (sym known ∙ absent),
+    map-append,
+  )
 
   names-again : is_some (lookup (by_text d.value.name.text) table) ≡ true
       → keys_of table ≡ directive_names (ds ++ d ∷ [])
-  names-again there = was.names ∙ sym (ap (map (λ (e : NodeView DirectiveDefinition). e.value.name))
-      (first_of_each-push_old same_name by_name ds d (sym known ∙ there)))
+  names-again there = rw (first_of_each-push_old same_name by_name ds d (sym known ∙ there)) was.names
 
   each-taken : find (handed d.value.name.text) ds ≡ None → (n : List ℕ)
       → cond (same n d.value.name.text) (Some d) (lookup (by_text n) table) ≡ directive_of (ds ++ d ∷ []) n
-  each-taken none n = by (same n d.value.name.text) refl
-    where
-      by : (b : Bool) → same n d.value.name.text ≡ b
-          → cond b (Some d) (lookup (by_text n) table) ≡ directive_of (ds ++ d ∷ []) n
-      by true e = sym (directive_of-taken ds d n (ap (λ t. find (handed t) ds) (same-true n d.value.name.text
-          e) ∙ none) e)
-      by false e = was.each n ∙ sym (directive_of-other ds d n e)
+  each-taken none n = grind (
+    arith,
+    directive_of-taken ds d n,
+    directive_of-other ds d n,
+    was.each n,
+    same-true n d.value.name.text,
+  )
 
   -- the first of a name goes last
   pub AreDirectivesOf-put : lookup (by_text d.value.name.text) table ≡ None
@@ -177,12 +146,13 @@ module _ {ds : Directives} {table : List (NameView × NodeView DirectiveDefiniti
     }
       where
         each-kept : (n : List ℕ) → directive_of (ds ++ d ∷ []) n ≡ directive_of ds n
-        each-kept n = by (same n d.value.name.text) refl
-          where
-            by : (b : Bool) → same n d.value.name.text ≡ b → directive_of (ds ++ d ∷ []) n ≡ directive_of ds n
-            by true e = directive_of-kept ds d n v (ap (λ t. find (handed t) ds)
-                (same-true n d.value.name.text e) ∙ handed_is ds d.value.name.text v means handed_in)
-            by false e = directive_of-other ds d n e
+        each-kept n = grind (
+          arith,
+          directive_of-kept ds d n v,
+          directive_of-other ds d n,
+          handed_is ds d.value.name.text v means handed_in,
+          same-true n d.value.name.text,
+        )
 
     pub directive_faults-drop : is_built_in v.location ≡ false
         → directive_faults ds d

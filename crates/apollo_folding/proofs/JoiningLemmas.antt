@@ -1,9 +1,9 @@
 -- What is wrong with extensions that join a type, one after another.
 use Rattle.apollo_meaning.proofs.Prelude.{◌≡◌, ℕ, ◌+◌, ◌<◌, get_or, take, List, [], ◌∷◌, ◌++◌, length, map}
-use Rattle.apollo_meaning.proofs.Prelude.{refl, sym, ap, ◌∙◌, append_assoc, append-nil, map-append}
-use Rattle.apollo_meaning.proofs.Prelude.{filter-append, Definition, each_after, each_after-append}
-use Rattle.apollo_meaning.proofs.Prelude.{each_after-start, TypePart, kind_of, extended_parts, of_kind}
-use Rattle.apollo_meaning.proofs.Prelude.{Sourced, extension_part, numbered, Fault, joining_faults}
+use Rattle.apollo_meaning.proofs.Prelude.{refl, ap, ◌∙◌, append_assoc, append-nil, map-append, filter-append}
+use Rattle.apollo_meaning.proofs.Prelude.{Definition, each_after-append, each_after-start, TypePart, kind_of}
+use Rattle.apollo_meaning.proofs.Prelude.{extended_parts, of_kind, Sourced, extension_part, numbered, Fault}
+use Rattle.apollo_meaning.proofs.Prelude.{joining_faults}
 use Rattle.apollo_meaning.specs.Faults.TypeFaults.{joining_fault}
 use Rattle.apollo_meaning.proofs.Order.FoldingLemmas.{extended_parts-turn}
 
@@ -12,23 +12,16 @@ module _ (d : TypePart) where
   joining-append : (parts es fs : List TypePart)
       → joining_faults d parts (es ++ fs) ≡ joining_faults d parts es
       ++ joining_faults d (parts ++ of_kind (kind_of d) es) fs
-  joining-append parts es fs = each_after-append join [] es fs ∙ ap (λ l. each_after join [] es
-      ++ l) (each_after-start join es fs ∙ (λ i. each_after (λ done. joining_fault d (both done i)) [] fs))
+  joining-append parts es fs =
+      simp (each_after-append, each_after-start join es fs, filter-append, append_assoc)
     where
       join : List TypePart → TypePart → List Fault
       join before = joining_fault d (parts ++ of_kind (kind_of d) before)
 
-      both : (done : List TypePart)
-          → parts ++ of_kind (kind_of d) (es ++ done) ≡ (parts ++ of_kind (kind_of d) es)
-          ++ of_kind (kind_of d) done
-      both done = rw filter-append
-          (sym (append_assoc parts (of_kind (kind_of d) es) (of_kind (kind_of d) done)))
-
   -- one extension alone
   pub joining-one : (parts : List TypePart) (e : TypePart)
       → joining_faults d parts (e ∷ []) ≡ joining_fault d parts e
-  joining-one parts e = append-nil (joining_fault d (parts ++ []) e) ∙ ap (λ l. joining_fault d l e)
-      (append-nil parts)
+  joining-one parts e = rw (append-nil, append-nil)
 
   -- one more definition of a list
   pub joining-turn : (parts : List TypePart) (xs : List Definition) (i : ℕ) (x : Definition) → i < length xs
@@ -42,9 +35,8 @@ module _ (d : TypePart) where
 -- numbers leave the extensions as they are
 extensions-numbered : (n : ℕ) (ps : List TypePart) → map (λ s. s.1) (map extension_part (numbered n ps)) ≡ ps
 extensions-numbered n [] = refl
-extensions-numbered n (p ∷ ps) = ap (λ l. p ∷ l) (extensions-numbered (n + 1) ps)
+extensions-numbered n (p ∷ ps) = rw (extensions-numbered (n + 1) ps)
 
 pub parts-numbered : (done : List Sourced) (n : ℕ) (ps : List TypePart)
     → map (λ s. s.1) (done ++ map extension_part (numbered n ps)) ≡ map (λ s. s.1) done ++ ps
-parts-numbered done n ps = map-append (λ s. s.1) done (map extension_part (numbered n ps))
-    ∙ ap (λ l. map (λ s. s.1) done ++ l) (extensions-numbered n ps)
+parts-numbered done n ps = rw (map-append, extensions-numbered n ps)

@@ -1,21 +1,20 @@
 -- Components that are dropped from what was made of parts are those that are dropped where a part joins them.
-use Rattle.apollo_meaning.proofs.Prelude.{◌≡◌, List, [], ◌∷◌, ◌++◌, map, refl, sym, ap, ◌∙◌, append_assoc}
+use Rattle.apollo_meaning.proofs.Prelude.{◌≡◌, List, [], ◌∷◌, ◌++◌, map, refl, append_assoc}
 use Rattle.apollo_meaning.proofs.Prelude.{append-nil, flat_map, keys_of, map-append, NameView, TypePart}
 use Rattle.apollo_meaning.proofs.Prelude.{Sourced, Fault, collisions}
 use Rattle.apollo_meaning.specs.declared.collision.Collection.{Collection}
 use Rattle.graphql_ast.specs.Parts.{Sort, Names, Fields, Values, InputFields}
 use Rattle.apollo_meaning.specs.Items.Parts.{held_parts}
-pub use Rattle.apollo_meaning.specs.Types.Components.{names_of, fields_of, values_of, input_fields_of}
 use Rattle.apollo_meaning.specs.Faults.TypeFaults.{held_sort, entries_of, names_in, dropped_from}
 use Rattle.apollo_meaning.proofs.Faults.KeptLemmas.{names-of-names, keys-of-nodes}
+pub use Rattle.apollo_meaning.specs.Types.Components.{names_of, fields_of, values_of, input_fields_of}
 
 -- where what is made of each part has the names of a sort, what is made of all has those of all
 joined : {X : Type 0} (s : Sort) (made : Sourced → List X) (name : X → NameView)
     → ((p : Sourced) → map name (made p) ≡ map (λ e. e.0) (entries_of s p.1)) → (done : List Sourced)
     → map name (flat_map made done) ≡ names_in s (map (λ p. p.1) done)
 joined s made name one [] = refl
-joined s made name one (p ∷ done) = map-append name (made p) (flat_map made done)
-    ∙ (λ i. one p i ++ joined s made name one done i)
+joined s made name one (p ∷ done) = rw (map-append, one p, joined s made name one done)
 
 module _ (done : List Sourced) where
   pub names-joined : map (λ k. k.name) (flat_map names_of done) ≡ names_in Names (map (λ s. s.1) done)
@@ -42,9 +41,7 @@ module _ (c : Collection) (done : List Sourced) (p : TypePart) (before after : L
   dropped = dropped_from (map (λ s. s.1) done) p c
 
   pub found-before : (rest : List Fault) → after ++ rest ≡ before ++ (dropped ++ rest)
-  found-before rest =
-      let all = λ (names : List NameView). before ++ collisions c p.name names (entries_of (held_sort c) p) in
-      ap (λ l. l ++ rest) (found ∙ ap all are) ∙ append_assoc before dropped rest
+  found-before rest = rw (found, are) (append_assoc before dropped rest)
 
   pub found-last : after ≡ before ++ (dropped ++ [])
-  found-last = sym (append-nil after) ∙ found-before []
+  found-last = rw (found, are, append-nil)

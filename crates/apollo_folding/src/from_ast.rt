@@ -14,15 +14,10 @@ ghost use Rattle.apollo_folding.specs.Joins.{Extends, FindsJoining, how_many};
 ghost use Rattle.apollo_folding.specs.Noting.{noting};
 ghost use Rattle.apollo_folding.specs.Refusals.{RefusedAs, SpentWith, after};
 
-mod enum_type;
 mod folding;
-mod input_object_type;
-mod interface_type;
 mod kind;
-mod object_type;
-mod scalar_type;
+mod kinds;
 pub mod schema_definition;
-mod union_type;
 
 use crate::builder_error::BuilderError;
 use crate::extension::extension_of;

@@ -1,7 +1,6 @@
 -- What is seen of a builder, by what it holds.
-use Rattle.apollo_meaning.proofs.Prelude.{◌≡◌, ◌+◌, ℕ, List, ◌++◌, length, sym, ap, subst, ◌∙◌}
-use Rattle.apollo_meaning.proofs.Prelude.{append_assoc, map-append, Added, Folding}
-use Rattle.apollo_meaning.proofs.Prelude.{added_item, added_items, folding_order, folded}
+use Rattle.apollo_meaning.proofs.Prelude.{◌≡◌, ◌+◌, ℕ, List, ◌++◌, length, sym, ap, subst, ◌∙◌, append_assoc}
+use Rattle.apollo_meaning.proofs.Prelude.{map-append, Added, added_items, folding_order, folded}
 use Rattle.apollo_meaning.proofs.Order.MomentLemmas.{folding_order-forget}
 use Rattle.apollo_schema.specs.BuilderStands.{Building, with_built_ins}
 use Rattle.apollo_schema.specs.Stands.{HoldsFor, standing_of}
@@ -32,13 +31,10 @@ holds-as b is holds = subst (HoldsFor b.first_number b.added.items) is holds
 -- the items of more definitions behind what was handed in
 pub more_items : (xs more : List Added)
     → added_items (with_built_ins xs) ++ added_items more ≡ added_items (with_built_ins (xs ++ more))
-more_items xs more =
-    sym (map-append added_item (with_built_ins xs) more) ∙ ap added_items (append_assoc _ xs more)
+more_items xs more = simp (map-append, append_assoc)
 
 -- how many extensions are folded once more was added
 pub folds_with : (start : ℕ) (xs more : List Added)
     → start + length (folded (added_items xs ++ added_items more))
     ≡ start + length (folding_order (added_items (xs ++ more)))
-folds_with start xs more =
-    ap (λ (l : List Folding). start + length l)
-    (ap folded (sym (map-append added_item xs more)) ∙ sym (folding_order-forget (added_items (xs ++ more))))
+folds_with start xs more = simp (map-append, folding_order-forget)

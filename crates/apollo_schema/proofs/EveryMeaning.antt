@@ -1,12 +1,12 @@
 -- Every list of definitions means a schema.
-use Rattle.apollo_meaning.proofs.Prelude.{◌≡◌, ℕ, Bool, true, false, cond, ◌||◌, ◌&&◌, List, [], ◌∷◌, map}
+use Rattle.apollo_meaning.proofs.Prelude.{arith, ◌≡◌, ℕ, Bool, true, false, cond, ◌&&◌, List, [], ◌∷◌, map}
 use Rattle.apollo_meaning.proofs.Prelude.{filter, filter_map, find, list_any, Option, None, Some, is_some}
-use Rattle.apollo_meaning.proofs.Prelude.{refl, sym, ap, ◌∙◌, option_or, option_map, unwrap_or, lookup}
-use Rattle.apollo_meaning.proofs.Prelude.{keys_of, map-map, NameView, NodeView, same, same_text, by_text}
-use Rattle.apollo_meaning.proofs.Prelude.{same-true, DirectiveDefinition, list_any-first_of_each}
-use Rattle.apollo_meaning.proofs.Prelude.{is_some-lookup, name_laws, Directives, directive_definitions, Added}
-use Rattle.apollo_meaning.proofs.Prelude.{ListItem, defined_part, TypePart, first, type_from, type_names}
-use Rattle.apollo_meaning.proofs.Prelude.{parts, folding_order, whole, ExtendedType, Scalar}
+use Rattle.apollo_meaning.proofs.Prelude.{refl, sym, ap, option_or, option_map, unwrap_or, lookup, keys_of}
+use Rattle.apollo_meaning.proofs.Prelude.{map-map, NameView, NodeView, same, same_text, by_text, same-true}
+use Rattle.apollo_meaning.proofs.Prelude.{DirectiveDefinition, list_any-first_of_each, is_some-lookup}
+use Rattle.apollo_meaning.proofs.Prelude.{name_laws, Directives, directive_definitions, Added, ListItem}
+use Rattle.apollo_meaning.proofs.Prelude.{defined_part, TypePart, first, type_names, folding_order, whole}
+use Rattle.apollo_meaning.proofs.Prelude.{ExtendedType, Scalar}
 use Rattle.std.specs.List.{last_or}
 use Rattle.graphql_nodes.specs.NameView.{plain_name}
 use Rattle.apollo_component.proofs.Lists.Cases.{list_any-map}
@@ -30,20 +30,22 @@ module _ {V : Type 0} (given : List ℕ → Option V) (other : V) (names : List 
   table = tabled at_name names
 
   table-names : keys_of table ≡ names
-  table-names = map-map (λ (e : NameView × V). e.0) (λ k. (k, at_name k)) names ∙ itself names
+  table-names = simp (map-map, itself)
     where
       itself : (ks : List NameView) → map (λ (k : NameView). k) ks ≡ ks
       itself [] = refl
-      itself (k ∷ ks) = ap (λ l. k ∷ l) (itself ks)
+      itself (k ∷ ks) = rw (itself ks)
 
   table-each : (n : List ℕ) → lookup (by_text n) table ≡ given n
-  table-each n = lookup-tabled same_text name_laws at_name (plain_name n)
-      (λ k is. ap (λ (t : List ℕ). unwrap_or (given t) other) (sym (same-true n k.text is))) names
-      ∙ ap (λ b. cond b (Some (unwrap_or (given n) other)) None) (named n) ∙ by (given n)
+  table-each n = simp (
+    lookup-tabled same_text name_laws at_name (plain_name n)
+        (λ k is. ap (λ (t : List ℕ). unwrap_or (given t) other) (sym (same-true n k.text is))) names,
+    named n,
+    by (given n),
+  )
     where
       by : (o : Option V) → cond (is_some o) (Some (unwrap_or o other)) None ≡ o
-      by None = refl
-      by (Some v) = refl
+      by o = grind arith
 
 is_some-map : {A B : Type 0} (f : A → B) (o : Option A) → is_some (option_map f o) ≡ is_some o
 is_some-map f None = refl
@@ -51,11 +53,14 @@ is_some-map f (Some a) = refl
 
 -- a name is one of the types exactly where it is defined
 types-named : (xs : List ListItem) (n : List ℕ) → list_any (by_text n) (type_names xs) ≡ is_some (first xs n)
-types-named xs n = ap (list_any (by_text n)) (type_names-first xs) ∙ list_any-first_of_each same_text
-    name_laws (plain_name n) (map (λ p. p.name) (filter_map defined_part xs))
-    ∙ list_any-map (by_text n) (λ (p : TypePart). p.name) (filter_map defined_part xs)
-    ∙ sym (list_any-map (λ (e : List ℕ × TypePart). same n e.0) (λ (p : TypePart). (p.name.text, p))
-    (filter_map defined_part xs)) ∙ sym (is_some-lookup (same n) (definitions xs))
+types-named xs n = rw (
+  type_names-first xs,
+  list_any-first_of_each same_text name_laws (plain_name n),
+  list_any-map,
+  ← list_any-map (λ (e : List ℕ × TypePart). same n e.0) (λ (p : TypePart). (p.name.text, p))
+      (filter_map defined_part xs),
+  is_some-lookup (same n) (definitions xs),
+)
 
 -- a name means a directive definition exactly where it has one
 last_or-some : {X : Type 0} (x : X) (o : Option X) (xs : List X) → is_some (last_or (Some x) xs) ≡ true
@@ -66,27 +71,16 @@ module _ {X : Type 0} (p q : X → Bool) where
   meant-there : (xs : List X)
       → is_some (option_or (find (λ x. p x && q x) xs) (last_or None (filter p xs))) ≡ list_any p xs
   meant-there [] = refl
-  meant-there (x ∷ xs) = by (p x) (q x) (meant-there xs)
-    where
-      either : (o : Option X) → is_some (option_or o (last_or (Some x) (filter p xs))) ≡ true
-      either None = last_or-some x None (filter p xs)
-      either (Some y) = refl
-
-      by : (a b : Bool)
-          → is_some (option_or (find (λ x. p x && q x) xs) (last_or None (filter p xs))) ≡ list_any p xs
-          → is_some (option_or (cond (a && b) (Some x) (find (λ x. p x && q x) xs))
-          (last_or None (cond a (x ∷ filter p xs) (filter p xs)))) ≡ (a || list_any p xs)
-      by true true rest = refl
-      by true false rest = either (find (λ x. p x && q x) xs)
-      by false b rest = rest
+  meant-there (x ∷ xs) = grind (arith, meant-there xs, last_or-some x None (filter p xs))
 
 directives-named : (ds : Directives) (n : List ℕ)
     → list_any (by_text n) (directive_names ds) ≡ is_some (directive_of ds n)
-directives-named ds n =
-    ap (list_any (by_text n)) (first_of_each-map same_text (λ (d : NodeView DirectiveDefinition).
-    d.value.name) ds) ∙ list_any-first_of_each same_text name_laws (plain_name n) (map (λ d. d.value.name) ds)
-    ∙ list_any-map (by_text n) (λ (d : NodeView DirectiveDefinition). d.value.name) ds
-    ∙ sym (meant-there (has_text n) is_handed_in ds)
+directives-named ds n = simp (
+  first_of_each-map same_text (λ (d : NodeView DirectiveDefinition). d.value.name) ds,
+  list_any-first_of_each same_text name_laws (plain_name n) (map (λ d. d.value.name) ds),
+  list_any-map (by_text n) (λ (d : NodeView DirectiveDefinition). d.value.name) ds,
+  meant-there (has_text n) is_handed_in ds,
+)
 
 module _ (start : ℕ) (adopts : Bool) (list : List Added) where
   abbrev xs : List ListItem
@@ -118,8 +112,7 @@ module _ (start : ℕ) (adopts : Bool) (list : List Added) where
   }
 
   are-types : (n : List ℕ) → list_any (by_text n) (type_names xs) ≡ is_some (type_at n)
-  are-types n = types-named xs n ∙ sym (is_some-map (λ d. type_from d (parts start (folding_order xs) n d))
-      (first xs n))
+  are-types n = simp (types-named, is_some-map)
 
   pub every_schema : (schema : Schema) × MeansSchema start adopts list schema
   every_schema = (
@@ -133,12 +126,12 @@ module _ (start : ℕ) (adopts : Bool) (list : List Added) where
     record {
       definition = refl;
       types = record {
-        names = table-names type_at no_type (type_names xs) are-types;
-        each = table-each type_at no_type (type_names xs) are-types;
+        names = table-names type_at no_type _ are-types;
+        each = table-each type_at no_type _ are-types;
       };
       directives = record {
-        names = table-names (directive_of ds) no_directive (directive_names ds) (directives-named ds);
-        each = table-each (directive_of ds) no_directive (directive_names ds) (directives-named ds);
+        names = table-names _ no_directive _ (directives-named ds);
+        each = table-each _ no_directive _ (directives-named ds);
       };
     },
   )

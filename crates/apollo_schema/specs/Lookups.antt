@@ -52,39 +52,33 @@ type_at types n = lookup (same_text n) types
 
 -- the type, if it is there and a scalar type
 abbrev pub scalar_node : Option ExtendedType → Option (NodeView ScalarType)
-scalar_node None = None
 scalar_node (Some (Scalar n)) = Some n
-scalar_node (Some _) = None
+scalar_node _ = None
 
 -- the type, if it is there and an object type
 abbrev pub object_node : Option ExtendedType → Option (NodeView ObjectType)
-object_node None = None
 object_node (Some (Object n)) = Some n
-object_node (Some _) = None
+object_node _ = None
 
 -- the type, if it is there and an interface type
 abbrev pub interface_node : Option ExtendedType → Option (NodeView InterfaceType)
-interface_node None = None
 interface_node (Some (Interface n)) = Some n
-interface_node (Some _) = None
+interface_node _ = None
 
 -- the type, if it is there and a union type
 abbrev pub union_node : Option ExtendedType → Option (NodeView UnionType)
-union_node None = None
 union_node (Some (Union n)) = Some n
-union_node (Some _) = None
+union_node _ = None
 
 -- the type, if it is there and an enum type
 abbrev pub enum_node : Option ExtendedType → Option (NodeView EnumType)
-enum_node None = None
 enum_node (Some (Enum n)) = Some n
-enum_node (Some _) = None
+enum_node _ = None
 
 -- the type, if it is there and an input object type
 abbrev pub input_object_node : Option ExtendedType → Option (NodeView InputObjectType)
-input_object_node None = None
 input_object_node (Some (InputObject n)) = Some n
-input_object_node (Some _) = None
+input_object_node _ = None
 
 -- a reference to a type that passes; one to a name without a type is none
 abbrev pub refers_to : (ExtendedType → Bool) → Types → TypeReference → Bool

@@ -12,6 +12,7 @@ use apollo_component::directive_list::DirectiveList;
 use apollo_component::extension::ComponentOrigin;
 use apollo_meaning::build_error::Fault;
 use apollo_meaning::collision::Collection;
+use graphql_ast::declaration_ref::TypeDeclarationRef;
 use graphql_ast::directive::Directive;
 use graphql_nodes::collections::items::Items;
 use graphql_nodes::collections::key_set::KeySet;
@@ -49,30 +50,30 @@ pub fn fold_directives(
     Ok(())
 }
 
-/// What components are folded into: this collection of the type of this name, each with this origin.
+/// What joins a type: the components of a declaration, each with this origin.
 #[derive(Clone, Copy)]
-pub struct Target<'a> {
-    pub collection: Collection,
-    pub type_name: &'a Name,
+pub struct Part<'a> {
+    pub of: &'a TypeDeclarationRef<'a>,
     pub origin: ComponentOrigin,
 }
 
-impl Target<'_> {
+impl Part<'_> {
     /// Notes the fault of a name that is there.
     fn note_listed(
         &self,
+        collection: Collection,
         set: &KeySet<ComponentName>,
         name: &Name,
         faults: &mut Items<Fault>,
     ) -> Result<(), AllocError>
         ensures { OnOk result
             (FindsIn distinct_names set.now (λ ks.
-            collision_at self.now.collection self.now.type_name.now (map (λ k. k.name) ks)
+            collision_at collection self.now.of.now.name.now (map (λ k. k.name) ks)
             (name.now, name.now.location)) faults.old faults.new) }
     {
         let component = ComponentName::with_origin(name.clone()?, ComponentOrigin::Definition);
         if let Some(kept) = set.get(&component) {
-            let error = self.collection.collision(&kept.name, self.type_name)?;
+            let error = collection.collision(&kept.name, self.of.name)?;
             faults.push((name.location(), error))?;
         }
         Ok(())
@@ -81,6 +82,7 @@ impl Target<'_> {
     /// Adds a name, or notes the fault where it is there. It looks once where the name is new.
     fn fold_name(
         &self,
+        collection: Collection,
         set: &mut KeySet<ComponentName>,
         name: &Name,
         faults: &mut Items<Fault>,
@@ -89,7 +91,7 @@ impl Target<'_> {
             (Lengthens distinct_names set.old (component_name self.now.origin name.now ∷ []) set.new) }
         ensures faults { OnOk result
             (FindsIn distinct_names set.old (λ ks.
-            collision_at self.now.collection self.now.type_name.now (map (λ k. k.name) ks)
+            collision_at collection self.now.of.now.name.now (map (λ k. k.name) ks)
             (name.now, name.now.location)) faults.old faults.new) }
     {
         let component = ComponentName::with_origin(name.clone()?, self.origin);
@@ -97,27 +99,30 @@ impl Target<'_> {
         if is_new {
             return Ok(());
         }
-        self.note_listed(set, name, faults)?;
+        self.note_listed(collection, set, name, faults)?;
         Ok(())
     }
 
     /// Adds names in order, each unless it is there, and a fault at the end for each that is. The error is
     /// out of memory.
-    pub fn fold_names(
+    pub(crate) fn fold_names(
         &self,
+        collection: Collection,
         set: &mut KeySet<ComponentName>,
-        names: &[Name],
         faults: &mut Items<Fault>,
     ) -> Result<(), AllocError>
         ensures added { OnOk result
-            (Lengthens distinct_names set.old (map (component_name self.now.origin) names.now) set.new) }
+            (Lengthens distinct_names set.old
+            (map (component_name self.now.origin) self.now.of.now.parts.names.now) set.new) }
         ensures faults { OnOk result
             (FindsIn distinct_names set.old (λ ks.
-            collisions self.now.collection self.now.type_name.now (map (λ k. k.name) ks)
-            (name_entries names.now)) faults.old faults.new) }
+            collisions collection self.now.of.now.name.now (map (λ k. k.name) ks)
+            (name_entries self.now.of.now.parts.names.now)) faults.old faults.new) }
     {
+        let said = self.of;
+        let names = said.parts.names;
         for name in names {
-            self.fold_name(set, name, faults)?;
+            self.fold_name(collection, set, name, faults)?;
         }
         Ok(())
     }
@@ -125,17 +130,18 @@ impl Target<'_> {
     /// Notes the fault of a definition whose name is there.
     fn note_collision<T: Named + Drop>(
         &self,
+        collection: Collection,
         table: &Table<Name, Component<T>>,
         node: &Node<T>,
         faults: &mut Items<Fault>,
     ) -> Result<(), AllocError>
         ensures { OnOk result
             (FindsIn distinct_entries table.now (λ es.
-            collision_at self.now.collection self.now.type_name.now (keys_of es)
+            collision_at collection self.now.of.now.name.now (keys_of es)
             (T.name_of node.now.value, node.now.location)) faults.old faults.new) }
     {
         if let Some((kept, _)) = table.get_key_value(node.name()) {
-            let error = self.collection.collision(kept, self.type_name)?;
+            let error = collection.collision(kept, self.of.name)?;
             faults.push((node.location(), error))?;
         }
         Ok(())
@@ -145,6 +151,7 @@ impl Target<'_> {
     /// name is new, and else puts back what stood there.
     fn fold_entry<T: Named + Drop>(
         &self,
+        collection: Collection,
         table: &mut Table<Name, Component<T>>,
         node: &Node<T>,
         faults: &mut Items<Fault>,
@@ -154,7 +161,7 @@ impl Target<'_> {
             ((T.name_of node.now.value, component self.now.origin node.now) ∷ []) table.new) }
         ensures faults { OnOk result
             (FindsIn distinct_entries table.old (λ es.
-            collision_at self.now.collection self.now.type_name.now (keys_of es)
+            collision_at collection self.now.of.now.name.now (keys_of es)
             (T.name_of node.now.value, node.now.location)) faults.old faults.new) }
     {
         let name = node.name().clone()?;
@@ -163,14 +170,15 @@ impl Target<'_> {
             return Ok(());
         };
         table.insert(node.name().clone()?, kept)?;
-        self.note_collision(table, node, faults)?;
+        self.note_collision(collection, table, node, faults)?;
         Ok(())
     }
 
     /// Adds definitions under their names in order, each unless its name is there. For each whose name is
     /// there, it adds a fault at the end. The error is out of memory.
-    pub fn fold_named<T: Named + Drop>(
+    pub(crate) fn fold_named<T: Named + Drop>(
         &self,
+        collection: Collection,
         table: &mut Table<Name, Component<T>>,
         nodes: &[Node<T>],
         faults: &mut Items<Fault>,
@@ -180,12 +188,12 @@ impl Target<'_> {
             (map (λ n. (T.name_of n.value, component self.now.origin n)) nodes.now) table.new) }
         ensures faults { OnOk result
             (FindsIn distinct_entries table.old (λ es.
-            collisions self.now.collection self.now.type_name.now (keys_of es)
+            collisions collection self.now.of.now.name.now (keys_of es)
             (named_entries T.name_of nodes.now)) faults.old faults.new) }
     {
         make_room(table, nodes.len())?;
         for node in nodes {
-            self.fold_entry(table, node, faults)?;
+            self.fold_entry(collection, table, node, faults)?;
         }
         Ok(())
     }

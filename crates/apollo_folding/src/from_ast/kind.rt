@@ -4,7 +4,6 @@ ghost use Rattle.std.specs.Option.{option_copied};
 ghost use Rattle.graphql_nodes.specs.NodeView.{NodeView};
 ghost use Rattle.graphql_nodes.specs.declared.type_kind.TypeKind.{TypeKind};
 ghost use Rattle.apollo_component.specs.declared.extension.ComponentOrigin.TheVariants as origins;
-ghost use Rattle.apollo_types.specs.TypeWriteOut.{type_kind};
 ghost use Rattle.apollo_types.specs.declared.extended_type.ExtendedType.{ExtendedType};
 ghost use Rattle.apollo_meaning.specs.Items.Parts.{TypePart};
 ghost use Rattle.apollo_meaning.specs.Types.Components.{Sourced};
@@ -18,6 +17,7 @@ ghost use Rattle.apollo_folding.specs.Refusals.{RefusedAs, SpentWith, after};
 
 use crate::builder_error::BuilderError;
 use crate::fold::Fold;
+use crate::from_ast::folding::Part;
 use apollo_component::extension::ComponentOrigin;
 use apollo_meaning::build_error::Fault;
 use graphql_ast::declaration_ref::TypeDeclarationRef;
@@ -51,27 +51,21 @@ pub trait Kind: Clone + Drop {
     fn bare(fold: &Fold, head: &TypeDeclarationRef<'_>) -> Result<Self, AllocError>
         ensures { IfOk result (λ ty. ty ≡ made (part_as kind head.now) []) };
 
-    /// Folds the components of a declaration in under an origin, each unless it is there. For each that is
+    /// Folds the components of a part in under its origin, each unless it is there. For each that is
     /// there, it adds a fault at the end. Only those that the kind has are read. The error is out of memory.
-    fn fold(
-        &mut self,
-        part: &TypeDeclarationRef<'_>,
-        origin: ComponentOrigin,
-        faults: &mut Items<Fault>,
-    ) -> Result<(), AllocError>
-        ensures folded { OnOk result (JoinsOne made self.old origin (part_as kind part.now) self.new) }
-        ensures faults { OnOk result (FindsOne made self.old (part_as kind part.now) faults.old faults.new) };
+    fn fold(&mut self, part: &Part<'_>, faults: &mut Items<Fault>) -> Result<(), AllocError>
+        ensures folded { OnOk result
+            (JoinsOne made self.old part.now.origin (part_as kind part.now.of.now) self.new) }
+        ensures faults { OnOk result
+            (FindsOne made self.old (part_as kind part.now.of.now) faults.old faults.new) };
 
     /// A copy is the same type.
     ghost copies: { (x y : Self) → Self.is_clone x y → y ≡ x };
 
-    /// Each of these types is of the kind.
-    ghost alike: { (node : NodeView Self) → kind ≡ type_kind (wrapped node) };
-
-    /// A node of this kind that parts make has the value that they make, and their head's location. Under
-    /// that head any parts make a node of this kind.
+    /// A node of this kind that parts make has the value that they make, and their head's kind and location.
+    /// Under that head any parts make a node of this kind.
     ghost makes: { (head : TypePart) (done : List Sourced) (node : NodeView Self)
-        → wrapped node ≡ type_from head done → IsOf wrapped made head.kind head done node };
+        → wrapped node ≡ type_from head done → IsOf kind head.kind wrapped made head done node };
 }
 
 impl Fold {
@@ -87,7 +81,11 @@ impl Fold {
         ensures rest { self.new ≡ record self.old { faults = self.new.faults } }
     {
         let mut ty = K::bare(self, head)?;
-        ty.fold(head, ComponentOrigin::Definition, &mut self.faults)?;
+        let part = Part {
+            of: head,
+            origin: ComponentOrigin::Definition,
+        };
+        ty.fold(&part, &mut self.faults)?;
         Node::new_opt_location(self.alloc, ty, head.location)
     }
 
@@ -111,7 +109,11 @@ impl Fold {
     {
         let id = self.ids.draw(extension.location)?;
         let ty = node.make_mut()?;
-        ty.fold(extension, ComponentOrigin::Extension(id), &mut self.faults)?;
+        let part = Part {
+            of: extension,
+            origin: ComponentOrigin::Extension(id),
+        };
+        ty.fold(&part, &mut self.faults)?;
         Ok(())
     }
 }

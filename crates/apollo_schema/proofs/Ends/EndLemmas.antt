@@ -1,20 +1,18 @@
 -- What the tables of a list end it with is what the list ends with.
-use Rattle.apollo_meaning.proofs.Prelude.{◌≡◌, ℕ, ◌+◌, ◌^◌, ◌≤◌, Bool, false, cond, List, [], ◌∷◌, ◌++◌}
-use Rattle.apollo_meaning.proofs.Prelude.{length, map, Option, Some, None, is_some, true, refl, sym, ap}
-use Rattle.apollo_meaning.proofs.Prelude.{subst, ◌∙◌, arith, append_assoc, true≢false, flat_map, lookup}
-use Rattle.apollo_meaning.proofs.Prelude.{option_map, option_map_or, option_or, append-nil, NameView}
-use Rattle.apollo_meaning.proofs.Prelude.{NodeView, OperationType, Query, Mutation, Subscription, Definition}
-use Rattle.apollo_meaning.proofs.Prelude.{next_number, source_at, SchemaDefinition, TypePart, SchemaPart}
-use Rattle.apollo_meaning.proofs.Prelude.{TypeKind, schema_extension_part, kind_of, same_kind, roots_in}
-use Rattle.apollo_meaning.proofs.Prelude.{ListItem, SchemaDefined, extended_parts, first, first_schema}
-use Rattle.apollo_meaning.proofs.Prelude.{schema_extensions, Sourced, type_of_kind, type_from, parts}
-use Rattle.apollo_meaning.proofs.Prelude.{AreTypesOf, orphan, schema_orphan, further_schema, extended_names}
-use Rattle.apollo_meaning.proofs.Prelude.{orphans_of, schema_orphans, schema_for, implied_schema}
-use Rattle.apollo_meaning.proofs.Prelude.{schema_begun, schema_begun_faults, by_text, schema_of}
-use Rattle.apollo_meaning.proofs.Prelude.{directive_definitions, AreDirectivesOf, folded, found_at, found}
+use Rattle.apollo_meaning.proofs.Prelude.{◌≡◌, ℕ, ◌+◌, ◌^◌, ◌≤◌, Bool, cond, List, [], ◌∷◌, ◌++◌, length, map}
+use Rattle.apollo_meaning.proofs.Prelude.{Some, None, is_some, true, refl, sym, ap, subst, ◌∙◌, arith}
+use Rattle.apollo_meaning.proofs.Prelude.{append_assoc, flat_map, lookup, option_map_or, option_or}
+use Rattle.apollo_meaning.proofs.Prelude.{append-nil, NodeView, OperationType, next_number, source_at}
+use Rattle.apollo_meaning.proofs.Prelude.{SchemaDefinition, TypePart, SchemaPart, TypeKind}
+use Rattle.apollo_meaning.proofs.Prelude.{schema_extension_part, kind_of, same_kind, roots_in, ListItem}
+use Rattle.apollo_meaning.proofs.Prelude.{SchemaDefined, extended_parts, first_schema, schema_extensions}
+use Rattle.apollo_meaning.proofs.Prelude.{Sourced, type_of_kind, type_from, AreTypesOf, orphan, schema_orphan}
+use Rattle.apollo_meaning.proofs.Prelude.{further_schema, extended_names, orphans_of, schema_orphans}
+use Rattle.apollo_meaning.proofs.Prelude.{schema_for, implied_schema, schema_begun, schema_begun_faults}
+use Rattle.apollo_meaning.proofs.Prelude.{by_text, schema_of, directive_definitions, AreDirectivesOf, folded}
+use Rattle.apollo_meaning.proofs.Prelude.{found_at, found}
 use Rattle.std.specs.Map.{values_of}
 use Rattle.std.proofs.lemmas.List.Folds.{flat_map-map}
-use Rattle.graphql_nodes.specs.OperationTexts.{default_type_text}
 use Rattle.graphql_nodes.specs.declared.type_kind.TypeKind.TheVariants as kinds
 use Rattle.apollo_types.specs.SchemaDefinitionWriteOut.{is_some_object}
 use Rattle.apollo_schema.specs.declared.tables.Tables.{Tables}
@@ -24,7 +22,6 @@ use Rattle.apollo_folding.specs.HeldRoots.{held_root, held_roots}
 use Rattle.apollo_folding.specs.Noting.{noting, having_folded}
 use Rattle.apollo_folding.specs.declared.fold.Fold.{Fold}
 use Rattle.apollo_schema.specs.Stands.{Stands, Ends}
-use Rattle.apollo_schema.specs.Takes.{with_schema}
 use Rattle.apollo_meaning.proofs.Items.ItemLemmas.{first_schema-push_definition}
 use Rattle.apollo_meaning.proofs.Completion.OrphanLemmas.{held-orphans}
 use Rattle.apollo_schema.proofs.Stands.SchemaStandsLemmas.{schema_known, schema_unknown, Stands-schema_new}
@@ -39,64 +36,39 @@ is_object-from d ps = by d.kind
 
 module _ {start : ℕ} {xs : List ListItem} {t : Tables} (was : Stands start xs t) where
   held-object : (n : List ℕ) → is_some_object (lookup (by_text n) t.types) ≡ is_object_name xs n
-  held-object n = ap is_some_object (was.types.each n) ∙ by (first xs n)
-    where
-      by : (o : Option TypePart)
-          → is_some_object (option_map (λ d. type_from d (parts start (folded xs) n d)) o)
-          ≡ option_map_or (λ p. same_kind kinds.Object (kind_of p)) o false
-      by None = refl
-      by (Some d) = is_object-from d (parts start (folded xs) n d)
+  held-object n = grind (arith, was.types.each n, is_object-from)
 
   -- the implicit roots of the tables are those of the list
   held-root : (op : OperationType) → held_root t.types op ≡ implicit_root xs op
-  held-root op = ap (λ b. cond b (default_root op ∷ []) []) (held-object (default_type_text op))
+  held-root op = ap (λ b. cond b (default_root op ∷ []) []) (held-object _)
 
   held-roots : held_roots t.types ≡ implicit_roots xs
-  held-roots = (λ i. (held-root Query i ++ held-root Mutation i) ++ held-root Subscription i)
-      ∙ append_assoc (implicit_root xs Query) (implicit_root xs Mutation) (implicit_root xs Subscription)
-      ∙ ap (λ l. implicit_root xs Query ++ (implicit_root xs Mutation ++ l))
-      (sym (append-nil (implicit_root xs Subscription)))
+  held-roots = simp (held-root, append_assoc, append-nil)
 
   waiting-extensions : t.schema_definition ≡ None
       → map schema_extension_part t.schema_extensions ≡ schema_extensions xs
-  waiting-extensions absent = was.orphans ∙ ap (λ o. option_map_or (λ _. []) o (schema_extensions xs))
-      (schema_unknown was absent)
+  waiting-extensions absent = rw (was.orphans, schema_unknown was absent)
 
   -- the schema definition that the tables imply is the one that the list implies
   pub implied-held : (adopts : Bool) → t.schema_definition ≡ None
       → schema_for adopts (roots_in (map schema_extension_part t.schema_extensions)) (held_roots t.types)
       ≡ implied_schema adopts xs
-  implied-held adopts absent =
-      (λ i. schema_for adopts (roots_in (waiting-extensions absent i)) (held-roots i))
-      ∙ sym (ap (λ o. option_map_or (λ _. []) o (schema_for adopts (roots_in (schema_extensions xs))
-      (implicit_roots xs))) (schema_unknown was absent))
+  implied-held adopts absent = rw (waiting-extensions absent, held-roots, schema_unknown was absent)
 
   pub implied-none : (adopts : Bool) (held : NodeView SchemaDefinition) → t.schema_definition ≡ Some held
       → implied_schema adopts xs ≡ []
-  implied-none adopts held there =
-      ap (λ o. option_map_or (λ _. []) o (schema_for adopts (roots_in (schema_extensions xs))
-      (implicit_roots xs))) (schema_known was held there).1.0
+  implied-none adopts held there = rw (schema_known was held there).1.0
 
   pub implied-standing : (adopts : Bool) → is_some t.schema_definition ≡ true → implied_schema adopts xs ≡ []
-  implied-standing adopts some = by t.schema_definition refl some
-    where
-      by : (o : Option (NodeView SchemaDefinition)) → t.schema_definition ≡ o → is_some o ≡ true
-          → implied_schema adopts xs ≡ []
-      by (Some held) e h = implied-none adopts held e
-      by None e h = absurd (true≢false (sym h))
+  implied-standing adopts some = grind (arith, implied-none adopts)
 
   -- where one is implied none stands
   pub implied-absent : (adopts : Bool) (x : ListItem) → implied_schema adopts xs ≡ x ∷ []
       → t.schema_definition ≡ None
-  implied-absent adopts x some = by t.schema_definition refl
-    where
-      by : (o : Option (NodeView SchemaDefinition)) → t.schema_definition ≡ o → t.schema_definition ≡ None
-      by None e = e
-      by (Some held) e = let g : [] ≡ x ∷ [] = sym (implied-none adopts held e) ∙ some in absurd (cc)
+  implied-absent adopts x some = grind (arith, implied-none adopts)
 
   left-orphans : flat_map extended_parts (values_of t.waiting) ≡ flat_map (orphans_of xs) (extended_names xs)
-  left-orphans = flat_map-map extended_parts (λ (e : NameView × List Definition). e.1) t.waiting
-      ∙ held-orphans xs t.waiting was.names was.waiting
+  left-orphans = rw flat_map-map (held-orphans xs t.waiting was.names was.waiting)
 
   -- nothing is implied: extensions of the schema are at fault after those of types
   pub Ends-none : (u : Tables) → u.schema_definition ≡ t.schema_definition → u.types ≡ t.types
@@ -113,8 +85,7 @@ module _ {start : ℕ} {xs : List ListItem} {t : Tables} (was : Stands start xs 
             (subst (AreDirectivesOf (directive_definitions xs)) (sym directives) was.directives);
         faults = ap (λ (f : Fold). f.faults) fold
             ∙ (λ i. (was.faults i ++ map orphan (left-orphans i)) ++ map schema_orphan (was.orphans i))
-            ∙ append_assoc (found xs) (map orphan (flat_map (orphans_of xs) (extended_names xs)))
-            (map schema_orphan (schema_orphans xs))
+            ∙ append_assoc _ _ (map schema_orphan (schema_orphans xs))
             ∙ ap (λ l. found xs ++ (map orphan (flat_map (orphans_of xs) (extended_names xs))
             ++ map schema_orphan (schema_orphans l))) whole;
         next =
@@ -130,7 +101,7 @@ module _ {start : ℕ} {xs : List ListItem} {t : Tables} (was : Stands start xs 
       t.schema_extensions)) (noting (map orphan (flat_map extended_parts (values_of t.waiting))) t.fold)
       → Ends start (SchemaDefined s ∷ []) xs u
   Ends-some s u absent definition types directives fold =
-      let stands = Stands-schema_new was s (with_schema t s) absent refl refl (refl, (refl, refl)) refl in
+      let stands = Stands-schema_new was s _ absent refl refl (refl, (refl, refl)) refl in
       let none = schema_unknown was absent in
       let first : first_schema (xs ++ SchemaDefined s ∷ []) ≡ Some s = first_schema-push_definition xs s
       ∙ ap (λ o. option_or o (Some s)) none in
@@ -146,10 +117,9 @@ module _ {start : ℕ} {xs : List ListItem} {t : Tables} (was : Stands start xs 
         directives = subst (AreDirectivesOf (directive_definitions (xs ++ SchemaDefined s ∷ [])))
             (sym directives) stands.directives;
         faults = ap (λ (f : Fold). f.faults) fold
-            ∙ (λ i. (was.faults i ++ map orphan (left-orphans i)) ++ these i)
-            ∙ append_assoc (found xs) orphans (found_at xs (SchemaDefined s))
-            ∙ ap (λ l. found xs ++ (orphans ++ l)) (sym (append-nil (found_at xs (SchemaDefined s)))
-            ∙ sym (append-nil (found_at xs (SchemaDefined s) ++ []))) ∙ sym (ap (λ o. found xs
+            ∙ (λ i. (was.faults i ++ map orphan (left-orphans i)) ++ these i) ∙ append_assoc _ orphans _
+            ∙ ap (λ l. found xs ++ (orphans ++ l)) (sym (append-nil _)
+            ∙ sym (append-nil _)) ∙ sym (ap (λ o. found xs
             ++ (orphans ++ ((found_at xs (SchemaDefined s) ++ []) ++ map schema_orphan
             (option_map_or (λ _. []) o (schema_extensions (xs ++ SchemaDefined s ∷ [])))))) first);
         next = ap (λ (f : Fold). f.ids) fold ∙ stands.next;
@@ -160,4 +130,4 @@ module _ {start : ℕ} {xs : List ListItem} {t : Tables} (was : Stands start xs 
       → 2 ^ 64 ≤ next_number t.fold.ids + length t.schema_extensions
       → 2 ^ 64 ≤ start + length (folded (xs ++ implied_schema adopts xs))
   implied-spent adopts s some full = subst (λ l. 2 ^ 64 ≤ start + length (folded (xs ++ l))) (sym some)
-      (schema_new-spent was s (implied-absent adopts (SchemaDefined s) some) full)
+      (schema_new-spent was s (implied-absent adopts _ some) full)

@@ -1,14 +1,11 @@
 -- The names under which something waits are those that are extended and not defined.
-use Rattle.apollo_meaning.proofs.Prelude.{◌≡◌, ℕ, ◌==◌, false, cond, List, [], ◌∷◌, ◌++◌, All, length}
-use Rattle.apollo_meaning.proofs.Prelude.{map, Option, Some, None, filter, refl, sym, ap, subst, ◌∙◌}
-use Rattle.apollo_meaning.proofs.Prelude.{arith, filter_map, flat_map, AllByRecursion, option_or}
-use Rattle.apollo_meaning.proofs.Prelude.{option_map_or, lookup, keys_of, nat_tests, filter-append}
-use Rattle.apollo_meaning.proofs.Prelude.{filter_map-append, NameView, Definition, snoc_ind, TypePart}
-use Rattle.apollo_meaning.proofs.Prelude.{key_of, ListItem, Defined, Extended, SchemaDefined}
-use Rattle.apollo_meaning.proofs.Prelude.{SchemaExtended, Other, item_of, extended_part, items_held}
-use Rattle.apollo_meaning.proofs.Prelude.{same, by_text, first, extensions_of, extended_names}
-use Rattle.apollo_meaning.proofs.Prelude.{orphans_of, waited_at, waited, same-true, same-is, each-weaken}
-use Rattle.apollo_meaning.proofs.Prelude.{flat_map-each}
+use Rattle.apollo_meaning.proofs.Prelude.{◌≡◌, ℕ, ◌==◌, false, cond, List, [], ◌∷◌, ◌++◌, All, length, map}
+use Rattle.apollo_meaning.proofs.Prelude.{Option, Some, None, refl, sym, ap, subst, ◌∙◌, arith, flat_map}
+use Rattle.apollo_meaning.proofs.Prelude.{AllByRecursion, option_or, option_map_or, lookup, keys_of}
+use Rattle.apollo_meaning.proofs.Prelude.{nat_tests, filter-append, filter_map-append, NameView, Definition}
+use Rattle.apollo_meaning.proofs.Prelude.{snoc_ind, TypePart, key_of, ListItem, Defined, Extended, item_of}
+use Rattle.apollo_meaning.proofs.Prelude.{items_held, by_text, first, extensions_of, orphans_of, waited_at}
+use Rattle.apollo_meaning.proofs.Prelude.{waited, same-true, same-is, each-weaken, flat_map-each}
 use Rattle.std.proofs.lemmas.List.Elements.{All-from_recursion}
 use Rattle.apollo_schema.specs.declared.tables.Tables.{Tables}
 use Rattle.apollo_schema.specs.Stands.{Stands}
@@ -23,23 +20,17 @@ use Rattle.apollo_schema.proofs.Stands.WaitingLemmas.{orphans_of-defined, orphan
 
 -- a name without a definition in a longer list has none in a front
 neither : {X : Type 0} (o m : Option X) → option_or o m ≡ None → o ≡ None
-neither None m h = refl
-neither (Some x) m h = let g : Some x ≡ None = h in absurd (cc)
+neither o m h = grind arith
 
 undefined-before : (xs : List ListItem) (x : ListItem) (n : List ℕ) → first (xs ++ x ∷ []) n ≡ None
     → first xs n ≡ None
-undefined-before xs (Defined p) n none = neither (first xs n) (cond (same n (key_of p)) (Some p) None)
-    (sym (first-push_definition xs p n) ∙ none)
-undefined-before xs (Extended p) n none = sym (first-push_undefined xs (Extended p) refl n) ∙ none
-undefined-before xs (SchemaDefined s) n none = sym (first-push_undefined xs (SchemaDefined s) refl n) ∙ none
-undefined-before xs (SchemaExtended s) n none = sym (first-push_undefined xs (SchemaExtended s) refl n) ∙ none
-undefined-before xs (Other d) n none = sym (first-push_undefined xs (Other d) refl n) ∙ none
+undefined-before xs (Defined p) n none = neither _ _ (sym (first-push_definition xs p n) ∙ none)
+undefined-before xs x n none = sym (first-push_undefined xs x refl n) ∙ none
 
 -- the first of some extensions stays the first of more
 first_name-more : (ps qs : List TypePart) (k : NameView) → first_name ps ≡ k ∷ []
     → first_name (ps ++ qs) ≡ k ∷ []
-first_name-more [] qs k h = let g : [] ≡ k ∷ [] = h in absurd (cc)
-first_name-more (p ∷ ps) qs k h = h
+first_name-more ps qs k h = grind arith
 
 some_length : (p : TypePart) (ps : List TypePart) → (length (p ∷ ps) == 0) ≡ false
 some_length p ps = grind (arith, nat_tests)
@@ -54,24 +45,13 @@ waited-first = snoc_ind (λ xs. AllByRecursion (IsFirst xs) (waited xs)) tt step
     step : (xs : List ListItem) (x : ListItem) → AllByRecursion (IsFirst xs) (waited xs)
         → AllByRecursion (IsFirst (xs ++ x ∷ [])) (waited (xs ++ x ∷ []))
     step xs x before = subst (AllByRecursion (IsFirst (xs ++ x ∷ []))) (sym (waited-push xs x))
-        (each-append (IsFirst (xs ++ x ∷ [])) (waited xs) (waited_at xs x)
-        (each-weaken (IsFirst xs) (IsFirst (xs ++ x ∷ [])) stays (waited xs) before) (own x))
+        (each-append _ _ _ (each-weaken _ _ stays _ before) (own x))
       where
         stays : (k : NameView) → IsFirst xs k → IsFirst (xs ++ x ∷ []) k
-        stays k was none =
-            let more : extensions_of (xs ++ x ∷ []) k.text ≡ extensions_of xs k.text
-            ++ extensions_of (x ∷ []) k.text =
-            ap (filter (λ p. same k.text (key_of p))) (filter_map-append extended_part xs (x ∷ []))
-            ∙ filter-append (λ p. same k.text (key_of p)) (filter_map extended_part xs)
-            (filter_map extended_part (x ∷ [])) in
-            ap first_name more ∙ first_name-more (extensions_of xs k.text) (extensions_of (x ∷ []) k.text) k
-            (was (undefined-before xs x k.text none))
+        stays k was none = rw (filter_map-append, filter-append)
+            (first_name-more _ _ k (was (undefined-before xs x k.text none)))
 
         own : (y : ListItem) → AllByRecursion (IsFirst (xs ++ y ∷ [])) (waited_at xs y)
-        own (Defined d) = tt
-        own (SchemaDefined s) = tt
-        own (SchemaExtended s) = tt
-        own (Other d) = tt
         own (Extended p) = by (first xs (key_of p)) (extensions_of xs (key_of p)) refl
           where
             by : (o : Option TypePart) (es : List TypePart) → extensions_of xs (key_of p) ≡ es
@@ -81,31 +61,29 @@ waited-first = snoc_ind (λ xs. AllByRecursion (IsFirst xs) (waited xs)) tt step
             by None (q ∷ qs) e = subst (λ b. AllByRecursion (IsFirst (xs ++ Extended p ∷ [])) (cond b (p.name
                 ∷ []) [])) (sym (some_length q qs)) tt
             by None [] e = (
-              λ none. ap first_name (extensions_of-push_extension xs p (key_of p)
-                  ∙ (λ i. e i ++ cond (same-is (key_of p) (key_of p) refl i) (p ∷ []) [])),
+              λ none. ap first_name (extensions_of-push_extension xs p _
+                  ∙ (λ i. e i ++ cond (same-is _ (key_of p) refl i) (p ∷ []) [])),
               tt,
             )
+        own _ = tt
 
 -- a name stands for a list exactly if it does for the list's image
 name_if_any-map : {X Y : Type 0} (f : X → Y) (k : NameView) (xs : List X)
     → name_if_any k (map f xs) ≡ name_if_any k xs
-name_if_any-map f k [] = refl
-name_if_any-map f k (x ∷ xs) = refl
+name_if_any-map f k xs = grind arith
 
 -- what waits under a name has that name
 waiting-name : (xs : List ListItem) (k : NameView) → IsFirst xs k
     → name_if_any k (map Extended (orphans_of xs k.text)) ≡ first_name (orphans_of xs k.text)
-waiting-name xs k is = name_if_any-map Extended k (orphans_of xs k.text) ∙ by (first xs k.text) refl
+waiting-name xs k is = name_if_any-map Extended k _ ∙ by (first xs k.text) refl
   where
     named : (ps : List TypePart) → first_name ps ≡ k ∷ [] → name_if_any k ps ≡ first_name ps
-    named [] h = refl
-    named (p ∷ ps) h = sym h
+    named ps h = grind arith
 
     by : (o : Option TypePart) → first xs k.text ≡ o
         → name_if_any k (orphans_of xs k.text) ≡ first_name (orphans_of xs k.text)
-    by (Some d) e = let none = orphans_of-defined xs k.text d e in ap (name_if_any k) none
-        ∙ sym (ap first_name none)
-    by None e = named (orphans_of xs k.text) (ap first_name (orphans_of-undefined xs k.text e) ∙ is e)
+    by (Some d) e = rw (orphans_of-defined xs k.text d e)
+    by None e = named _ (ap first_name (orphans_of-undefined xs k.text e) ∙ is e)
 
 -- a table of what waits holds something under the names that are extended and not defined
 held-names : (xs : List ListItem) (W : List (NameView × List Definition)) → keys_of W ≡ waited xs
@@ -113,10 +91,8 @@ held-names : (xs : List ListItem) (W : List (NameView × List Definition)) → k
     → names_held W ≡ orphan_names xs
 held-names xs W names each =
     sym (λ i. flat_map (λ (e : NameView × List Definition). name_if_any-map item_of e.0 e.1 i) W)
-    ∙ held-waited (λ k items. name_if_any k items) xs W names each
-    ∙ flat_map-each (IsFirst xs) (λ k. name_if_any k (map Extended (orphans_of xs k.text)))
-    (λ k. first_name (orphans_of xs k.text)) (waiting-name xs) (waited xs) (waited-first xs)
-    ∙ orphans-waited first_name refl xs
+    ∙ held-waited (λ k items. name_if_any k items) xs W names each ∙ flat_map-each _ _ _ (waiting-name xs) _
+    (waited-first xs) ∙ orphans-waited first_name refl xs
 
 -- each of those names has no definition, and is that of its first extension
 module _ (xs : List ListItem) where
@@ -126,21 +102,19 @@ module _ (xs : List ListItem) where
       by : (ps : List TypePart) → orphans_of xs n ≡ ps → (o : Option TypePart) → first xs n ≡ o
           → AllByRecursion (IsOrphanName xs) (first_name ps)
       by [] e o f = tt
-      by (p ∷ ps) e (Some d) f = let g : [] ≡ p ∷ ps = sym (orphans_of-defined xs n d f) ∙ e in absurd (cc)
+      by (p ∷ ps) e (Some d) f = absurd (cc (orphans_of-defined xs n d f))
       by (p ∷ ps) e None f =
-          let own : Own n (p ∷ ps) = subst (Own n) (sym (orphans_of-undefined xs n f)
-          ∙ e) (Own-named n (filter_map extended_part xs)) in
-          let is : n ≡ key_of p = same-true n (key_of p) own.0 in
+          let own : Own n (p ∷ ps) = subst (Own n) (sym (orphans_of-undefined xs n f) ∙ e) (Own-named n _) in
+          let is : n ≡ key_of p = same-true n _ own.0 in
           ((ap (first xs) (sym is) ∙ f, (p, ps, ap (orphans_of xs) (sym is) ∙ e, refl)), tt)
 
   of_texts : (ns : List (List ℕ))
       → AllByRecursion (IsOrphanName xs) (flat_map (λ n. first_name (orphans_of xs n)) ns)
   of_texts [] = tt
-  of_texts (n ∷ ns) = each-append (IsOrphanName xs) (first_name (orphans_of xs n))
-      (flat_map (λ n. first_name (orphans_of xs n)) ns) (of_text n) (of_texts ns)
+  of_texts (n ∷ ns) = each-append _ _ _ (of_text n) (of_texts ns)
 
   pub orphan_names-each : All (IsOrphanName xs) (orphan_names xs)
-  orphan_names-each = All-from_recursion (IsOrphanName xs) (orphan_names xs) (of_texts (extended_names xs))
+  orphan_names-each = All-from_recursion _ _ (of_texts _)
 
 -- the names under which tables of a list hold something are those that are extended and not defined
 pub names_held-Stands : {start : ℕ} {xs : List ListItem} {t : Tables} → Stands start xs t

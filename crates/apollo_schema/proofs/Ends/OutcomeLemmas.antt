@@ -25,9 +25,7 @@ if_built (Err f) give means none from = tt
 if_faults : {P Q : Schema → List Fault → Type 0} (f : BuildFailure)
     → ((s : Schema) (es : List Fault) → P s es → Q s es) → IfFaults f P → IfFaults f Q
 if_faults (failures.Faults w) give h = give w.partial w.errors.items h
-if_faults failures.Memory give h = tt
-if_faults failures.ExtensionIds give h = tt
-if_faults failures.Failed give h = tt
+if_faults _ give h = tt
 
 pub if_err : {P Q : Schema → List Fault → Type 0} (r : Result Schema BuildFailure)
     → ((s : Schema) (es : List Fault) → P s es → Q s es) → IfErr r (λ f. IfFaults f P)
@@ -46,6 +44,4 @@ pub past-either : (r : Result Schema BuildFailure) (source : ExtensionSource) (s
     → start ≤ next_number source
 past-either (Ok schema) source start m n built refused = past source start m (built tt)
 past-either (Err (failures.Faults w)) source start m n built refused = past source start m (built tt)
-past-either (Err failures.Memory) source start m n built refused = past source start n (refused tt)
-past-either (Err failures.ExtensionIds) source start m n built refused = past source start n (refused tt)
-past-either (Err failures.Failed) source start m n built refused = past source start n (refused tt)
+past-either (Err _) source start m n built refused = past source start n (refused tt)

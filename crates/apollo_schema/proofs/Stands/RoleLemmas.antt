@@ -1,9 +1,9 @@
 -- What a definition does that neither defines nor extends a type, and what the settings leave.
-use Rattle.apollo_meaning.proofs.Prelude.{◌≡◌, false, List, [], ◌∷◌, refl, sym, ap, ◌∙◌, arith, NodeView}
+use Rattle.apollo_meaning.proofs.Prelude.{◌≡◌, false, List, [], ◌∷◌, refl, sym, ◌∙◌, arith, NodeView}
 use Rattle.apollo_meaning.proofs.Prelude.{Directives, directive_definitions, other_faults, Definition, Other}
 use Rattle.apollo_meaning.proofs.Prelude.{item_of, items_of, added, added_items, ◌⊎◌, inl, inr}
 use Rattle.graphql_ast.specs.Declarations.{OfSchema, declaration_of}
-use Rattle.graphql_ast.specs.DeclarationsSeen.{declaration_seen, schema_seen}
+use Rattle.graphql_ast.specs.DeclarationsSeen.{declaration_seen}
 use Rattle.graphql_ast.specs.Definitions.{definition_location}
 use Rattle.graphql_ast.specs.DefinitionTexts.{definition_text}
 use Rattle.graphql_ast.specs.declared.operation.OperationDefinition.{OperationDefinition}
@@ -27,22 +27,14 @@ pub executable-other : (ds : Directives) (d : Definition)
     ⊎ ((n : NodeView FragmentDefinition) × (d ≡ ast.FragmentDefinition n))
     → (directive_definitions (Other d ∷ []) ≡ []) × (other_faults ds d
     ≡ (definition_location d, errors.ExecutableDefinition (definition_text d)) ∷ [])
-executable-other ds d (inl h) = (
-  ap (λ d. directive_definitions (Other d ∷ [])) h.1,
-  ap (other_faults ds) h.1
-      ∙ sym (ap (λ d. (definition_location d, errors.ExecutableDefinition (definition_text d)) ∷ []) h.1),
-)
-executable-other ds d (inr h) = (
-  ap (λ d. directive_definitions (Other d ∷ [])) h.1,
-  ap (other_faults ds) h.1
-      ∙ sym (ap (λ d. (definition_location d, errors.ExecutableDefinition (definition_text d)) ∷ []) h.1),
-)
+executable-other ds d (inl h) = rw h.1 (refl, refl)
+executable-other ds d (inr h) = rw h.1 (refl, refl)
 
 pub executable-item : (d : Definition)
     → ((n : NodeView OperationDefinition) × (d ≡ ast.OperationDefinition n))
     ⊎ ((n : NodeView FragmentDefinition) × (d ≡ ast.FragmentDefinition n)) → item_of d ≡ Other d
-executable-item d (inl h) = ap item_of h.1 ∙ sym (ap Other h.1)
-executable-item d (inr h) = ap item_of h.1 ∙ sym (ap Other h.1)
+executable-item d (inl h) = rw h.1
+executable-item d (inr h) = rw h.1
 
 -- what is neither of a type nor of the schema is the definition itself
 other-is : (d x : Definition) → item_of d ≡ Other x → d ≡ x
@@ -69,8 +61,7 @@ module _ (d : Definition) (undefined : (n : NodeView SchemaDefinition) → d ≡
       → ((n : NodeView OperationDefinition) × (d ≡ ast.OperationDefinition n))
       ⊎ ((n : NodeView FragmentDefinition) × (d ≡ ast.FragmentDefinition n))
   executable-seen (seen.Type t) sees untyped = absurd (untyped t refl)
-  executable-seen (seen.Schema s) sees untyped =
-      absurd (schema-is d (schema_seen s) (sym sees) undefined unextended)
+  executable-seen (seen.Schema s) sees untyped = absurd (schema-is d _ (sym sees) undefined unextended)
   executable-seen (seen.Directive n) sees untyped =
       absurd (undirected n.now (declared (seen.Directive n) sees _ refl))
   executable-seen (seen.Operation n) sees untyped = inl (n.now, declared (seen.Operation n) sees _ refl)
@@ -78,23 +69,7 @@ module _ (d : Definition) (undefined : (n : NodeView SchemaDefinition) → d ≡
 
 -- without the setting an item is what the definition says
 unset-item : (d : Definition) → ignorable_if false (item_of d) ≡ item_of d
-unset-item (ast.OperationDefinition n) = refl
-unset-item (ast.FragmentDefinition n) = refl
-unset-item (ast.DirectiveDefinition n) = refl
-unset-item (ast.SchemaDefinition n) = refl
-unset-item (ast.ScalarTypeDefinition n) = refl
-unset-item (ast.ObjectTypeDefinition n) = refl
-unset-item (ast.InterfaceTypeDefinition n) = refl
-unset-item (ast.UnionTypeDefinition n) = refl
-unset-item (ast.EnumTypeDefinition n) = refl
-unset-item (ast.InputObjectTypeDefinition n) = refl
-unset-item (ast.SchemaExtension n) = refl
-unset-item (ast.ScalarTypeExtension n) = refl
-unset-item (ast.ObjectTypeExtension n) = refl
-unset-item (ast.InterfaceTypeExtension n) = refl
-unset-item (ast.UnionTypeExtension n) = refl
-unset-item (ast.EnumTypeExtension n) = refl
-unset-item (ast.InputObjectTypeExtension n) = refl
+unset-item d = grind arith
 
 pub unset-items : (ds : List Definition) → added_items (added false ds) ≡ items_of ds
 unset-items [] = refl

@@ -2,12 +2,11 @@
 -- code has taken it.
 use Rattle.apollo_meaning.proofs.Prelude.{◌≡◌, ℕ, ◌+◌, ◌^◌, ◌≤◌, List, [], ◌∷◌, ◌++◌, length, map, Option}
 use Rattle.apollo_meaning.proofs.Prelude.{Some, None, refl, sym, ap, ◌∙◌, arith, option_map, option_map_or}
-use Rattle.apollo_meaning.proofs.Prelude.{option_or, unwrap_or, keys_of, map-append, NodeView, next_number}
-use Rattle.apollo_meaning.proofs.Prelude.{source_at, SchemaDefinition, filter_map-push_none, SchemaPart}
-use Rattle.apollo_meaning.proofs.Prelude.{schema_extension_part, ListItem, SchemaDefined, SchemaExtended}
-use Rattle.apollo_meaning.proofs.Prelude.{first_schema, schema_extensions, SourcedSchema, schema_from}
-use Rattle.apollo_meaning.proofs.Prelude.{schema_faults, further_schema, directive_definitions}
-use Rattle.apollo_meaning.proofs.Prelude.{AreDirectivesOf, schema_numbered, schema_begun, schema_begun_faults}
+use Rattle.apollo_meaning.proofs.Prelude.{option_or, keys_of, map-append, NodeView, next_number, source_at}
+use Rattle.apollo_meaning.proofs.Prelude.{SchemaDefinition, SchemaPart, schema_extension_part, ListItem}
+use Rattle.apollo_meaning.proofs.Prelude.{SchemaDefined, SchemaExtended, first_schema, schema_extensions}
+use Rattle.apollo_meaning.proofs.Prelude.{SourcedSchema, schema_from, schema_faults, further_schema}
+use Rattle.apollo_meaning.proofs.Prelude.{schema_numbered, schema_begun, schema_begun_faults}
 use Rattle.apollo_meaning.proofs.Prelude.{schemas_folded_at, folded}
 use Rattle.std.proofs.lemmas.List.{length-map}
 use Rattle.graphql_nodes.specs.declared.source.SourceSpan.{SourceSpan}
@@ -16,7 +15,6 @@ use Rattle.apollo_component.specs.declared.extension.ComponentOrigin.TheVariants
 use Rattle.apollo_meaning.specs.declared.build_error.BuildError.TheVariants as errors
 use Rattle.apollo_schema.specs.declared.tables.Tables.{Tables}
 use Rattle.apollo_meaning.specs.Schema.Definition.{schema_parts}
-use Rattle.apollo_meaning.specs.Directives.{directive_part}
 use Rattle.apollo_folding.specs.Noting.{noting, having_folded}
 use Rattle.apollo_folding.specs.declared.fold.Fold.{Fold}
 use Rattle.apollo_folding.proofs.NotingLemmas.{noting-none}
@@ -34,36 +32,22 @@ module _ {start : ℕ} {xs : List ListItem} {t : Tables} (was : Stands start xs 
   pub schema_known : (held : NodeView SchemaDefinition) → t.schema_definition ≡ Some held
       → (s : SchemaPart) × ((first_schema xs ≡ Some s)
       × (held ≡ schema_from s (schema_parts start (folded xs) s)))
-  schema_known held there = by (first_schema xs) refl
+  schema_known held there = by (first_schema xs) refl (sym there ∙ was.definition)
     where
       by : (o : Option SchemaPart) → first_schema xs ≡ o
+          → Some held ≡ option_map (λ s. schema_from s (schema_parts start (folded xs) s)) (first_schema xs)
           → (s : SchemaPart) × ((first_schema xs ≡ Some s)
           × (held ≡ schema_from s (schema_parts start (folded xs) s)))
-      by None e = let g : Some held ≡ None = sym there ∙ was.definition
-          ∙ ap (option_map (λ s. schema_from s (schema_parts start (folded xs) s))) e in absurd (cc)
-      by (Some s) e =
-          let g : Some held ≡ Some (schema_from s (schema_parts start (folded xs) s)) = sym there
-          ∙ was.definition ∙ ap (option_map (λ s. schema_from s (schema_parts start (folded xs) s))) e in
-          (s, (e, ap (λ o. unwrap_or o held) g))
+      by None e g = absurd (cc)
+      by (Some s) e g = (s, (e, cc))
 
   pub schema_unknown : t.schema_definition ≡ None → first_schema xs ≡ None
-  schema_unknown absent = by (first_schema xs) refl
-    where
-      by : (o : Option SchemaPart) → first_schema xs ≡ o → first_schema xs ≡ None
-      by None e = e
-      by (Some s) e = let g : None ≡ Some (schema_from s (schema_parts start (folded xs) s)) =
-          sym absent ∙ was.definition
-          ∙ ap (option_map (λ s. schema_from s (schema_parts start (folded xs) s))) e in absurd (cc)
+  schema_unknown absent = grind (arith, absent, was.definition)
 
   -- the schema's items concern no type and no directive
   abbrev OnlySchema : ListItem → Tables → Type 0
   OnlySchema x u = (u.types ≡ t.types) × ((u.directive_definitions ≡ t.directive_definitions)
       × (u.waiting ≡ t.waiting))
-
-  no-directives : (x : ListItem) (u : Tables) → u.directive_definitions ≡ t.directive_definitions
-      → directive_part x ≡ None
-      → AreDirectivesOf (directive_definitions (xs ++ x ∷ [])) u.directive_definitions
-  no-directives x u same none = same_directives was x u same (filter_map-push_none directive_part xs x none)
 
   -- a further definition of the schema changes nothing, and is at fault
   pub Stands-schema_again : (s : SchemaPart) (u : Tables) (held : NodeView SchemaDefinition)
@@ -87,7 +71,7 @@ module _ {start : ℕ} {xs : List ListItem} {t : Tables} (was : Stands start xs 
         orphans = ap (map schema_extension_part) extensions ∙ was.orphans
             ∙ sym (λ i. option_map_or (λ _. []) (first i) (schema_extensions-push_unextended xs x refl i));
         types = same_types was x u same.0 refl refl;
-        directives = no-directives x u same.1.0 refl;
+        directives = same_directives was x u same.1.0 refl;
         waiting = same_waiting was x u same.1.1 refl refl;
         names = same_names was x u (ap keys_of same.1.1) refl;
         faults = now.0;
@@ -123,7 +107,7 @@ module _ {start : ℕ} {xs : List ListItem} {t : Tables} (was : Stands start xs 
         orphans = ap (map schema_extension_part) extensions
             ∙ sym (ap (λ o. option_map_or (λ _. []) o (schema_extensions (xs ++ x ∷ []))) first);
         types = same_types was x u same.0 refl refl;
-        directives = no-directives x u same.1.0 refl;
+        directives = same_directives was x u same.1.0 refl;
         waiting = same_waiting was x u same.1.1 refl refl;
         names = same_names was x u (ap keys_of same.1.1) refl;
         faults = more_faults was x u _ (ap (λ (f : Fold). f.faults) fold)
@@ -154,9 +138,9 @@ module _ {start : ℕ} {xs : List ListItem} {t : Tables} (was : Stands start xs 
             t.schema_extensions (e ∷ []) ∙ ap (λ l. l ++ schema_extension_part e ∷ []) (was.orphans
             ∙ ap (λ o. option_map_or (λ _. []) o (schema_extensions xs)) none)
             ∙ sym (ap (λ o. option_map_or (λ _. []) o (schema_extensions (xs ++ x ∷ []))) first
-            ∙ schema_extensions-push_extension xs (schema_extension_part e));
+            ∙ schema_extensions-push_extension xs _);
         types = same_types was x u same.0 refl refl;
-        directives = no-directives x u same.1.0 refl;
+        directives = same_directives was x u same.1.0 refl;
         waiting = same_waiting was x u same.1.1 refl refl;
         names = same_names was x u (ap keys_of same.1.1) refl;
         faults = now.0;
@@ -186,7 +170,7 @@ module _ {start : ℕ} {xs : List ListItem} {t : Tables} (was : Stands start xs 
             ∙ ap (λ o. option_map_or (λ _. []) o (schema_extensions xs)) is.1.0
             ∙ sym (ap (λ o. option_map_or (λ _. []) o (schema_extensions (xs ++ x ∷ []))) first);
         types = same_types was x u same.0 refl refl;
-        directives = no-directives x u same.1.0 refl;
+        directives = same_directives was x u same.1.0 refl;
         waiting = same_waiting was x u same.1.1 refl refl;
         names = same_names was x u (ap keys_of same.1.1) refl;
         faults = more_faults was x u _ (faults is.0 done is.1.1)

@@ -1,6 +1,6 @@
 use Rattle.apollo_meaning.proofs.Prelude.{List, refl, Added, ◌⊎◌, inl, inr}
-use Rattle.apollo_schema.specs.BuilderStands.{Building, HasFailed, IsFailed, IsOpenWith, StandsFor}
-use Rattle.apollo_schema.specs.BuilderStands.{Standing, Open, Failed}
+use Rattle.apollo_schema.specs.BuilderStands.{Building, HasFailed, IsFailed, IsOpenWith, StandsFor, Standing}
+use Rattle.apollo_schema.specs.BuilderStands.{Open, Failed}
 use Rattle.apollo_schema.proofs.laws.every_builder_stands_for_a_list_or_has_failed.Goals as goal
 
 either : (standing : Standing) → ((xs : List Added) × IsOpenWith xs standing) ⊎ IsFailed standing

@@ -1,9 +1,10 @@
-use Rattle.apollo_meaning.proofs.Prelude.{◌≡◌, true, false, List, [], ◌∷◌, ◌++◌, Option, subst, sym, ap}
-use Rattle.apollo_meaning.proofs.Prelude.{◌∙◌, rules, lookup, set_value, option_copied_mut, insert_entry}
-use Rattle.apollo_meaning.proofs.Prelude.{NameView, same_text, by_text, is_built_in, DirectiveDefinition}
-use Rattle.apollo_meaning.proofs.Prelude.{AreDirectivesOf}
+use Rattle.apollo_meaning.proofs.Prelude.{◌≡◌, true, false, List, [], ◌∷◌, ◌++◌, Option, subst, sym, ap, ◌∙◌}
+use Rattle.apollo_meaning.proofs.Prelude.{rules, lookup, set_value, option_copied_mut, insert_entry, NameView}
+use Rattle.apollo_meaning.proofs.Prelude.{same_text, by_text, is_built_in, DirectiveDefinition}
+use Rattle.apollo_meaning.proofs.Prelude.{AreDirectivesOf, Fault, refl}
 use Rattle.apollo_meaning.specs.declared.build_error.BuildError.TheVariants as errors
 use Rattle.apollo_folding.specs.Noting.{noting}
+use Rattle.apollo_folding.specs.declared.fold.Fold.{Fold}
 use Rattle.apollo_folding.proofs.DirectiveLemmas.{AreDirectivesOf-put, AreDirectivesOf-replace}
 use Rattle.apollo_folding.proofs.DirectiveLemmas.{AreDirectivesOf-drop, directive_faults-put}
 use Rattle.apollo_folding.proofs.DirectiveLemmas.{directive_faults-replace, directive_faults-drop}
@@ -17,26 +18,27 @@ looked-up : {V : Type 0} (table : List (NameView × V)) {x d : DirectiveDefiniti
 looked-up table is value found = ap (λ (x : DirectiveDefinition). lookup (by_text x.name.text) table) (sym is)
     ∙ sym value ∙ found
 
-pub returns-in_default-clause-defined : goal.returns-in_default-clause-defined
-returns-in_default-clause-defined c = λ ds was.
+-- where nothing is found, nothing is noted
+none-noted : (fold : Fold) {es : List Fault} → es ≡ [] → fold ≡ noting es fold
+none-noted fold none = sym (ap (λ l. noting l fold) none ∙ noting-none fold)
+
+pub returns-in_default : goal.returns-in_default
+returns-in_default c =
     let d = c.args.node.now in
     let absent = looked-up c.args.table.now c.deref.ensures c.get_mut.ensures.value
     (ap option_copied_mut c.in_default.is) in
     let h = c.get_mut.follows.holds-at-none in
     let name : c.in_ok-clone.field-0 ≡ d.value.name = search rules in
     let copy : c.in_ok-clone-2.field-0 ≡ d = search rules in
-    subst (AreDirectivesOf (ds ++ d ∷ [])) (sym (c.in_ok-insert.ensures.entries
-    ∙ (λ i. insert_entry same_text (h i) (name i) (copy i)))) (AreDirectivesOf-put was d absent)
+    record {
+      defined = λ ds was. subst (AreDirectivesOf (ds ++ d ∷ [])) (sym (c.in_ok-insert.ensures.entries
+          ∙ (λ i. insert_entry same_text (h i) (name i) (copy i)))) (AreDirectivesOf-put was d absent);
+      faults = λ ds was. none-noted c.args.self.now (directive_faults-put was d absent);
+      rest = refl;
+    }
 
-pub returns-in_default-clause-faults : goal.returns-in_default-clause-faults
-returns-in_default-clause-faults c = λ ds was.
-    let d = c.args.node.now in
-    let absent = looked-up c.args.table.now c.deref.ensures c.get_mut.ensures.value
-    (ap option_copied_mut c.in_default.is) in
-    sym (ap (λ l. noting l c.args.self.now) (directive_faults-put was d absent) ∙ noting-none c.args.self.now)
-
-pub returns-then-is_built_in-clause-defined : goal.returns-then-is_built_in-clause-defined
-returns-then-is_built_in-clause-defined c = λ ds was.
+pub returns-then-is_built_in : goal.returns-then-is_built_in
+returns-then-is_built_in c =
     let d = c.args.node.now in
     let v = c.in-Some.previous.now in
     let there = looked-up c.args.table.now c.deref.ensures c.get_mut.ensures.value
@@ -44,32 +46,16 @@ returns-then-is_built_in-clause-defined c = λ ds was.
     let built_in : is_built_in v.location ≡ true = search rules in
     let value = c.deref.ensures in
     let copy = c.in_ok-previous.ensures.cases in
-    subst (AreDirectivesOf (ds ++ d ∷ [])) (sym (c.get_mut.follows.holds c.in_ok-previous.field-0
-    ∙ (λ i. set_value (by_text (value i).name.text) c.args.table.now (copy i))))
-    (AreDirectivesOf-replace was d v there built_in)
+    record {
+      defined = λ ds was. subst (AreDirectivesOf (ds ++ d ∷ [])) (sym (c.get_mut.follows.holds _
+          ∙ (λ i. set_value (by_text (value i).name.text) c.args.table.now (copy i))))
+          (AreDirectivesOf-replace was d v there built_in);
+      faults = λ ds was. none-noted c.args.self.now (directive_faults-replace was d v there built_in);
+      rest = refl;
+    }
 
-pub returns-then-is_built_in-clause-faults : goal.returns-then-is_built_in-clause-faults
-returns-then-is_built_in-clause-faults c = λ ds was.
-    let d = c.args.node.now in
-    let v = c.in-Some.previous.now in
-    let there = looked-up c.args.table.now c.deref.ensures c.get_mut.ensures.value
-    (ap option_copied_mut c.in-Some.is) in
-    let built_in : is_built_in v.location ≡ true = search rules in
-    sym (ap (λ l. noting l c.args.self.now) (directive_faults-replace was d v there built_in)
-    ∙ noting-none c.args.self.now)
-
-pub returns-clause-defined : goal.returns-clause-defined
-returns-clause-defined c = λ ds was.
-    let d = c.args.node.now in
-    let v = c.in-Some.previous.now in
-    let there = looked-up c.args.table.now c.deref.ensures c.get_mut.ensures.value
-    (ap option_copied_mut c.in-Some.is) in
-    let handed_in : is_built_in v.location ≡ false = search rules in
-    subst (AreDirectivesOf (ds ++ d ∷ [])) (sym (c.get_mut.follows.holds v ∙ c.in-Some.ensures.as_found))
-    (AreDirectivesOf-drop was d v there handed_in)
-
-pub returns-clause-faults : goal.returns-clause-faults
-returns-clause-faults c = λ ds was.
+pub returns : goal.returns
+returns c =
     let d = c.args.node.now in
     let v = c.in-Some.previous.now in
     let there = looked-up c.args.table.now c.deref.ensures c.get_mut.ensures.value
@@ -79,4 +65,10 @@ returns-clause-faults c = λ ds was.
       d.value.name.location,
       errors.DirectiveDefinitionCollision v.value.name.location d.value.name,
     ) ∷ []) c.args.self.now = search rules in
-    noted ∙ ap (λ l. noting l c.args.self.now) (sym (directive_faults-drop was d v there handed_in))
+    record {
+      defined = λ ds was. subst (AreDirectivesOf (ds ++ d ∷ [])) (sym (c.get_mut.follows.holds v
+          ∙ c.in-Some.ensures.as_found)) (AreDirectivesOf-drop was d v there handed_in);
+      faults = λ ds was. noted
+          ∙ ap (λ l. noting l c.args.self.now) (sym (directive_faults-drop was d v there handed_in));
+      rest = search rules;
+    }

@@ -1,11 +1,11 @@
 use Rattle.apollo_meaning.proofs.Prelude.{◌≡◌, ℕ, ◌+◌, [], ◌∷◌, ◌++◌, map, length, take, sym, ap, ◌∙◌}
-use Rattle.apollo_meaning.proofs.Prelude.{append_assoc, arith, length-append, err_from_is_err_and, TypeKind}
-use Rattle.apollo_meaning.proofs.Prelude.{next_number, source_at, extended_parts, kind_of, of_kind, type_from}
+use Rattle.apollo_meaning.proofs.Prelude.{append_assoc, arith, length-append, TypeKind, next_number}
+use Rattle.apollo_meaning.proofs.Prelude.{source_at, extended_parts, kind_of, of_kind, type_from}
 use Rattle.apollo_meaning.proofs.Prelude.{extension_part, numbered, joining_faults, type_kind}
 use Rattle.apollo_meaning.proofs.Order.FoldingLemmas.{numbered-more, of_kind-turn, of_kind-past}
 use Rattle.apollo_meaning.proofs.Order.FoldingLemmas.{type_kind-from}
 use Rattle.apollo_folding.proofs.JoiningLemmas.{parts-numbered, joining-turn}
-use Rattle.apollo_folding.proofs.RefusalLemmas.{RefusedAs-weaker}
+use Rattle.apollo_folding.proofs.RefusalLemmas.{RefusedAs-through}
 use Rattle.apollo_folding.proofs.fold.Fold.extend_by_all.Goals as goal
 
 pub loop-extension-preserved : goal.loop-extension-preserved
@@ -66,6 +66,5 @@ returns-in_err-extend_by-clause-refused c =
     let kinds : length (of_kind (type_kind c.loop-extension.ty) (extended_parts (x ∷ []))) ≡ length (of_kind k
     (extended_parts (x ∷ []))) = ap (λ k. length (of_kind k (extended_parts (x ∷ [])))) was.kind in
     let past = of_kind-past k xs i x (omega arith) c.extension-item.is in
-    let exit = err_from_is_err_and c.from_residual.result c.from_residual.ensures.1 in
-    rw (exit.1, exit.2) (RefusedAs-weaker c.in_err-extend_by.field-0.0 _ _
-    (λ full. omega (arith, past, at, kinds, full)) c.in_err-extend_by.ensures.refused)
+    RefusedAs-through c.from_residual.result c.in_err-extend_by.field-0.0 c.from_residual.ensures.1
+    (λ full. omega (arith, past, at, kinds, full)) c.in_err-extend_by.ensures.refused

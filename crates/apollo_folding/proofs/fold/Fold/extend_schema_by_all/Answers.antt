@@ -48,18 +48,9 @@ loop-extension-preserved c =
     }
 
 pub returns-clause-folded : goal.returns-clause-folded
-returns-clause-folded c = λ head done h.
-    let xs = c.args.extensions.now in
-    let whole : take c.loop-extension.extension-index xs ≡ xs = take_all c.loop-extension.extension-index xs
-    (omega arith) in
-    c.loop-extension.invariant.folded head done h
-    ∙ ap (λ l. schema_from head (done ++ schema_numbered (next_number c.args.self.now.ids)
-    (map schema_extension_part l))) whole
+returns-clause-folded c = rw (take_all c.loop-extension.extension-index c.args.extensions.now
+    (omega arith)) at c.loop-extension.invariant.folded
 
 pub returns-clause-faults : goal.returns-clause-faults
-returns-clause-faults c = λ head done h.
-    let xs = c.args.extensions.now in
-    let whole : take c.loop-extension.extension-index xs ≡ xs = take_all c.loop-extension.extension-index xs
-    (omega arith) in
-    c.loop-extension.invariant.faults head done h ∙ ap (λ l. c.args.self.now.faults
-    ++ schema_joining_faults (map (λ s. s.1) done) (map schema_extension_part l)) whole
+returns-clause-faults c = rw (take_all c.loop-extension.extension-index c.args.extensions.now
+    (omega arith)) at c.loop-extension.invariant.faults

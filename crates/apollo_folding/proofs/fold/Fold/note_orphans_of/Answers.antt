@@ -12,8 +12,7 @@ loop-extension-preserved c =
     let x = c.extension-item.result in
     let so_far = extended_parts (take i xs) in
     let this = extended_parts (x ∷ []) in
-    c.in_ok-note_orphan.ensures.noted
-    ∙ ap (noting (map orphan this)) c.loop-extension.invariant
+    c.in_ok-note_orphan.ensures.noted ∙ ap (noting (map orphan this)) c.loop-extension.invariant
     ∙ noting-more c.args.self.now (map orphan so_far) (map orphan this)
     ∙ ap (λ l. noting l c.args.self.now) (sym (map-append orphan so_far this)
     ∙ ap (map orphan) (sym (extended_parts-turn xs i x (omega arith) c.extension-item.is)))

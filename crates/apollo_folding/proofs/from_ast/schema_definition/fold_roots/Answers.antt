@@ -1,4 +1,4 @@
-use Rattle.apollo_meaning.proofs.Prelude.{◌≡◌, ◌++◌, map, take, sym, ap, ◌∙◌, append_assoc, arith, take_all}
+use Rattle.apollo_meaning.proofs.Prelude.{◌++◌, map, take, sym, ap, ◌∙◌, append_assoc, arith, take_all}
 use Rattle.apollo_meaning.proofs.Prelude.{component_name}
 use Rattle.apollo_types.specs.SchemaRoots.{root_of}
 use Rattle.apollo_folding.specs.RootTables.{root_with_origin, first_named, with_roots, put_root, held_fault}
@@ -33,15 +33,9 @@ loop-root-preserved c =
     }
 
 pub returns-clause-named : goal.returns-clause-named
-returns-clause-named c = λ base rs h.
-    let xs = c.args.roots.now in
-    let whole : take c.loop-root.root-index xs ≡ xs = take_all c.loop-root.root-index xs (omega arith) in
-    c.loop-root.invariant.named base rs h
-    ∙ ap (λ l. with_roots base (rs ++ map (root_with_origin c.args.origin) l)) whole
+returns-clause-named c =
+    rw (take_all c.loop-root.root-index c.args.roots.now (omega arith)) at c.loop-root.invariant.named
 
 pub returns-clause-faults : goal.returns-clause-faults
-returns-clause-faults c = λ base rs h.
-    let xs = c.args.roots.now in
-    let whole : take c.loop-root.root-index xs ≡ xs = take_all c.loop-root.root-index xs (omega arith) in
-    c.loop-root.invariant.faults base rs h ∙ ap (λ l. c.args.faults.now ++ held_faults rs c.args.origin l)
-    whole
+returns-clause-faults c =
+    rw (take_all c.loop-root.root-index c.args.roots.now (omega arith)) at c.loop-root.invariant.faults

@@ -11,7 +11,6 @@ loop-name-preserved c =
     let k = c.in-Some.name.now in
     let ty = c.in-Some.ty.now in
     let done = c.loop-name.yielded in
-    c.in_ok-note_type.ensures
-    ∙ ap (λ m. noted_under (is_object ty) k m (declared_interfaces ty)) c.loop-name.invariant
-    ∙ implementers_map-push (map deref_pair done) k ty
+    c.in_ok-note_type.ensures ∙ ap (λ m. noted_under (is_object ty) k m (declared_interfaces ty))
+    c.loop-name.invariant ∙ implementers_map-push (map deref_pair done) k ty
     ∙ ap implementers_map (sym (map-append deref_pair done ((c.in-Some.name, c.in-Some.ty) ∷ [])))

@@ -17,10 +17,9 @@ invariant_of-self-2 c =
     let b = c.self.inside in
     let more = added b.ignore_builtin_redefinitions c.args.document.now.definitions in
     subst (λ (l : List ListItem). Stands b.first_number l c.take_document.new.self.tables)
-    (more_items b.added.items more
-    ∙ ap (λ (l : List Added). added_items (with_built_ins l)) (sym c.with-self-inside.ensures))
-    (c.in_default-take_document.ensures.stands b.first_number (added_items (whole_list b))
-    (holds-as b c.in-Open.is c.self.invariant))
+    (more_items b.added.items more ∙ ap (λ (l : List Added). added_items (with_built_ins l))
+    (sym c.with-self-inside.ensures)) (c.in_default-take_document.ensures.stands b.first_number
+    (added_items (whole_list b)) (holds-as b c.in-Open.is c.self.invariant))
 
 pub invariant_of-self-in-Err : goal.invariant_of-self-in-Err
 invariant_of-self-in-Err c =

@@ -8,11 +8,11 @@ pub returns-in-Open : goal.returns-in-Open
 returns-in-Open c =
     let b = c.self.inside in
     c.orphan_names.ensures b.first_number (added_items (whole_list b))
-    (holds-as b c.in-Open.is c.self.invariant)
-    ∙ ap (λ b. orphan_names (added_items (list_of b))) (seen-as b c.in-Open.is c.self.view_is)
+    (holds-as b c.in-Open.is c.self.invariant) ∙ ap (λ b. orphan_names (added_items (list_of b)))
+    (seen-as b c.in-Open.is c.self.view_is)
 
 pub returns-in-Failed : goal.returns-in-Failed
 returns-in-Failed c =
     let b = c.self.inside in
-    c.none.ensures
-    ∙ ap (λ b. orphan_names (added_items (list_of b))) (seen-as b c.in-Failed.is c.self.view_is)
+    c.none.ensures ∙ ap (λ b. orphan_names (added_items (list_of b)))
+    (seen-as b c.in-Failed.is c.self.view_is)

@@ -5,6 +5,6 @@ pub returns : goal.returns
 returns c =
     let held = c.args.self.now in
     let tables : c.in_ok-tables.tables ≡ held.tables = c.in_ok-tables.ensures.cases in
-    let sources : c.in_ok-sources.sources ≡ held.sources =
-    c.in_ok-sources.ensures.cases.1 (λ x y e. e) (λ x y e. e) in
+    let sources : c.in_ok-sources.sources ≡ held.sources = c.in_ok-sources.ensures.cases.1 (λ x y e. e)
+    (λ x y e. e) in
     record { cases = λ i. record { tables = tables i; sources = sources i } }

@@ -1,24 +1,21 @@
-use Rattle.apollo_meaning.proofs.Prelude.{sym, ◌∙◌, arith, err_from_is_err_and, with_adopted, implied_schema}
+use Rattle.apollo_meaning.proofs.Prelude.{sym, ◌∙◌, arith, with_adopted, implied_schema}
 use Rattle.apollo_meaning.proofs.Completion.CompletionLemmas.{faults-completed}
-use Rattle.apollo_folding.proofs.RefusalLemmas.{RefusedAs-weaker}
+use Rattle.apollo_folding.proofs.RefusalLemmas.{RefusedAs-through}
 use Rattle.apollo_meaning.proofs.Items.ItemLemmas.{length-folded-front}
 use Rattle.apollo_schema.proofs.tables.Tables.complete.Goals as goal
 
 pub returns-in_err-adopt-clause-refused : goal.returns-in_err-adopt-clause-refused
-returns-in_err-adopt-clause-refused c =
-    let exit = err_from_is_err_and c.from_residual.result c.from_residual.ensures.1 in
-    rw (exit.1, exit.2) (RefusedAs-weaker c.in_err-adopt.field-0.0 _ _ (λ full start xs was.
+returns-in_err-adopt-clause-refused c = RefusedAs-through c.from_residual.result c.in_err-adopt.field-0.0
+    c.from_residual.ensures.1 (λ full start xs was.
     let ys = with_adopted c.args.adopts xs in
     let some = full start xs was in
     omega (arith, some, length-folded-front ys (implied_schema c.args.adopts ys)))
-    c.in_err-adopt.ensures.refused)
+    c.in_err-adopt.ensures.refused
 
 pub returns-in_err-end-clause-refused : goal.returns-in_err-end-clause-refused
-returns-in_err-end-clause-refused c =
-    let exit = err_from_is_err_and c.from_residual-in_err-end.result c.from_residual-in_err-end.ensures.1 in
-    rw (exit.1, exit.2) (RefusedAs-weaker c.in_err-end.field-0.0 _ _ (λ full start xs was. full start
-    (with_adopted c.args.adopts xs) (c.in_ok-adopt.ensures.stands start xs was))
-    c.in_err-end.ensures.refused)
+returns-in_err-end-clause-refused c = RefusedAs-through c.from_residual-in_err-end.result
+    c.in_err-end.field-0.0 c.from_residual-in_err-end.ensures.1 (λ full start xs was. full start (with_adopted
+    c.args.adopts xs) (c.in_ok-adopt.ensures.stands start xs was)) c.in_err-end.ensures.refused
 
 pub returns-clause-completes : goal.returns-clause-completes
 returns-clause-completes c = λ start xs was.

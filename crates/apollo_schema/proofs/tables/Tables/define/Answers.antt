@@ -1,9 +1,9 @@
-use Rattle.apollo_meaning.proofs.Prelude.{is_some, refl, sym, ap, ◌∙◌, filter_map, err_from_is_err_and}
-use Rattle.apollo_meaning.proofs.Prelude.{TypePart, extended_part, extended_parts, items_of}
+use Rattle.apollo_meaning.proofs.Prelude.{is_some, refl, sym, ap, ◌∙◌, filter_map, TypePart, extended_part}
+use Rattle.apollo_meaning.proofs.Prelude.{extended_parts, items_of}
 use Rattle.std.specs.Option.{option_copied}
 use Rattle.apollo_folding.specs.DeclaredParts.{part_seen}
 use Rattle.apollo_schema.proofs.Stands.StandsLemmas.{Stands-again, Stands-new, new-spent}
-use Rattle.apollo_folding.proofs.RefusalLemmas.{RefusedAs-weaker}
+use Rattle.apollo_folding.proofs.RefusalLemmas.{RefusedAs-through}
 use Rattle.apollo_schema.proofs.tables.Tables.define.Goals as goal
 
 pub returns-in-Some-clause-stands : goal.returns-in-Some-clause-stands
@@ -15,11 +15,11 @@ returns-in-Some-clause-stands c = λ start xs was.
 pub returns-in_err-ty-clause-refused : goal.returns-in_err-ty-clause-refused
 returns-in_err-ty-clause-refused c =
     let p : TypePart = record (part_seen c.args.definition.now) { ignorable = c.args.ignores } in
-    let exit = err_from_is_err_and c.from_residual-in_err-ty.result c.from_residual-in_err-ty.ensures.1 in
-    rw (exit.1, exit.2) (RefusedAs-weaker c.in_err-ty.field-0.0 _ _ (λ full start xs was. new-spent was p
+    RefusedAs-through c.from_residual-in_err-ty.result c.in_err-ty.field-0.0
+    c.from_residual-in_err-ty.ensures.1 (λ full start xs was. new-spent was p
     (extended_parts c.as_slice.result.now) (ap is_some (sym c.get.ensures
     ∙ ap option_copied c.in_default.is)) (ap (filter_map extended_part) (ap items_of c.as_slice.ensures
-    ∙ c.take_waiting-extensions.ensures.taken)) full) c.in_err-ty.ensures.refused)
+    ∙ c.take_waiting-extensions.ensures.taken)) full) c.in_err-ty.ensures.refused
 
 pub returns-clause-stands : goal.returns-clause-stands
 returns-clause-stands c = λ start xs was.

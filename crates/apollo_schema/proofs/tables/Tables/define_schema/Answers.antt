@@ -1,10 +1,10 @@
-use Rattle.apollo_meaning.proofs.Prelude.{[], ◌∷◌, ◌++◌, refl, sym, subst, ◌∙◌, err_from_is_err_and}
-use Rattle.apollo_meaning.proofs.Prelude.{SchemaDefined, schema_definition_part}
+use Rattle.apollo_meaning.proofs.Prelude.{[], ◌∷◌, ◌++◌, refl, sym, subst, ◌∙◌, SchemaDefined}
+use Rattle.apollo_meaning.proofs.Prelude.{schema_definition_part}
 use Rattle.apollo_meaning.specs.declared.build_error.BuildError.TheVariants as errors
 use Rattle.apollo_folding.specs.Noting.{noting}
 use Rattle.apollo_schema.specs.Stands.{Stands}
 use Rattle.apollo_schema.specs.Takes.{with_schema}
-use Rattle.apollo_folding.proofs.RefusalLemmas.{RefusedAs-weaker}
+use Rattle.apollo_folding.proofs.RefusalLemmas.{RefusedAs-through}
 use Rattle.apollo_schema.proofs.Stands.SchemaStandsLemmas.{Stands-schema_again, Stands-schema_new}
 use Rattle.apollo_schema.proofs.Stands.SchemaStandsLemmas.{schema_new-spent}
 use Rattle.apollo_schema.proofs.tables.Tables.define_schema.Goals as goal
@@ -17,12 +17,10 @@ returns-in-Some-clause-stands c =
     ∷ []) c.args.self.now.fold))
 
 pub returns-in_err-put_schema-clause-refused : goal.returns-in_err-put_schema-clause-refused
-returns-in_err-put_schema-clause-refused c =
-    let exit = err_from_is_err_and c.from_residual-in_err-put_schema.result
-    c.from_residual-in_err-put_schema.ensures.1 in
-    rw (exit.1, exit.2) (RefusedAs-weaker c.in_err-put_schema.field-0.0 _ _
-    (λ full start xs was. schema_new-spent was (schema_definition_part c.args.node.now) c.in_default.is
-    full) c.in_err-put_schema.ensures.refused)
+returns-in_err-put_schema-clause-refused c = RefusedAs-through c.from_residual-in_err-put_schema.result
+    c.in_err-put_schema.field-0.0 c.from_residual-in_err-put_schema.ensures.1
+    (λ full start xs was. schema_new-spent was (schema_definition_part c.args.node.now) c.in_default.is full)
+    c.in_err-put_schema.ensures.refused
 
 pub returns-clause-stands : goal.returns-clause-stands
 returns-clause-stands c = λ start xs was.

@@ -1,9 +1,8 @@
 use Rattle.apollo_meaning.proofs.Prelude.{◌≡◌, false, cond, [], ◌∷◌, ◌++◌, Some, is_some, refl, sym, ap, ◌∙◌}
-use Rattle.apollo_meaning.proofs.Prelude.{lookup, option_copied_mut, err_from_is_err_and, same, by_text}
-use Rattle.apollo_meaning.proofs.Prelude.{key_of, items_held}
+use Rattle.apollo_meaning.proofs.Prelude.{lookup, option_copied_mut, same, by_text, key_of, items_held}
 use Rattle.apollo_folding.specs.DeclaredParts.{part_seen}
 use Rattle.apollo_schema.proofs.Stands.StandsLemmas.{Stands-early, Stands-late, late-spent}
-use Rattle.apollo_folding.proofs.RefusalLemmas.{RefusedAs-weaker}
+use Rattle.apollo_folding.proofs.RefusalLemmas.{RefusedAs-through}
 use Rattle.apollo_schema.proofs.tables.Tables.extend.Goals as goal
 
 pub returns-in_default-clause-stands : goal.returns-in_default-clause-stands
@@ -22,12 +21,11 @@ returns-in_err-extend_type-clause-refused c =
     let t = c.args.self.now in
     let p = part_seen c.args.extension.now in
     let ty = c.in-Some.ty.now in
-    let exit = err_from_is_err_and c.from_residual-in_err-extend_type.result
-    c.from_residual-in_err-extend_type.ensures.1 in
-    rw (exit.1, exit.2) (RefusedAs-weaker c.in_err-extend_type.field-0.0 _ _ (λ full start xs was.
+    RefusedAs-through c.from_residual-in_err-extend_type.result c.in_err-extend_type.field-0.0
+    c.from_residual-in_err-extend_type.ensures.1 (λ full start xs was.
     let there : lookup (by_text (key_of p)) t.types ≡ Some ty = sym c.get_mut.ensures.value
     ∙ ap option_copied_mut c.in-Some.is in
-    late-spent was p ty there full) c.in_err-extend_type.ensures.refused)
+    late-spent was p ty there full) c.in_err-extend_type.ensures.refused
 
 pub returns-clause-stands : goal.returns-clause-stands
 returns-clause-stands c = λ is start xs was.

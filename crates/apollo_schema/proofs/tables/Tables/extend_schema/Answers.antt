@@ -1,6 +1,6 @@
-use Rattle.apollo_meaning.proofs.Prelude.{refl, ap, rules, err_from_is_err_and, schema_extension_part}
+use Rattle.apollo_meaning.proofs.Prelude.{refl, ap, rules, schema_extension_part}
 use Rattle.apollo_folding.specs.declared.fold.Fold.{Fold}
-use Rattle.apollo_folding.proofs.RefusalLemmas.{RefusedAs-weaker}
+use Rattle.apollo_folding.proofs.RefusalLemmas.{RefusedAs-through}
 use Rattle.apollo_schema.proofs.Stands.SchemaStandsLemmas.{Stands-schema_early, Stands-schema_late}
 use Rattle.apollo_schema.proofs.Stands.SchemaStandsLemmas.{schema_late-spent}
 use Rattle.apollo_schema.proofs.tables.Tables.extend_schema.Goals as goal
@@ -10,12 +10,10 @@ returns-in_default-clause-stands c = λ start xs was. Stands-schema_early was c.
     refl (search rules) (refl, (refl, refl)) refl
 
 pub returns-in_err-extend_schema-clause-refused : goal.returns-in_err-extend_schema-clause-refused
-returns-in_err-extend_schema-clause-refused c =
-    let exit = err_from_is_err_and c.from_residual-in_err-extend_schema.result
-    c.from_residual-in_err-extend_schema.ensures.1 in
-    rw (exit.1, exit.2) (RefusedAs-weaker c.in_err-extend_schema.field-0.0 _ _
-    (λ full start xs was. schema_late-spent was (schema_extension_part c.args.node.now)
-    c.in-Some.definition c.in-Some.is full) c.in_err-extend_schema.ensures.refused)
+returns-in_err-extend_schema-clause-refused c = RefusedAs-through c.from_residual-in_err-extend_schema.result
+    c.in_err-extend_schema.field-0.0 c.from_residual-in_err-extend_schema.ensures.1
+    (λ full start xs was. schema_late-spent was (schema_extension_part c.args.node.now) c.in-Some.definition
+    c.in-Some.is full) c.in_err-extend_schema.ensures.refused
 
 pub returns-clause-stands : goal.returns-clause-stands
 returns-clause-stands c = λ start xs was. Stands-schema_late was (schema_extension_part c.args.node.now) _

@@ -1,10 +1,10 @@
 use Rattle.apollo_meaning.proofs.Prelude.{◌≡◌, ℕ, ◌+◌, ◌<◌, Bool, get_or, take, drop, List, [], ◌∷◌, ◌++◌}
 use Rattle.apollo_meaning.proofs.Prelude.{length, map, sym, ap, subst, ◌∙◌, append_assoc, arith, map-append}
-use Rattle.apollo_meaning.proofs.Prelude.{take_more, take-append-drop, take_all, err_from_is_err_and}
-use Rattle.apollo_meaning.proofs.Prelude.{Definition, ListItem, added, added_item, added_items, folded}
+use Rattle.apollo_meaning.proofs.Prelude.{take_more, take-append-drop, take_all, Definition, ListItem, added}
+use Rattle.apollo_meaning.proofs.Prelude.{added_item, added_items, folded}
 use Rattle.apollo_schema.specs.Stands.{Stands}
 use Rattle.apollo_meaning.proofs.Items.ItemLemmas.{length-folded-front}
-use Rattle.apollo_folding.proofs.RefusalLemmas.{RefusedAs-weaker}
+use Rattle.apollo_folding.proofs.RefusalLemmas.{RefusedAs-through}
 use Rattle.apollo_schema.proofs.tables.Tables.take.Goals as goal
 
 taken-append : (b : Bool) (ds es : List Definition)
@@ -37,8 +37,8 @@ returns-in_err-take_one-clause-refused c =
     let ds = c.args.definitions.now in
     let i = c.loop-definition.definition-index in
     let d = c.definition-item.result in
-    let exit = err_from_is_err_and c.from_residual.result c.from_residual.ensures.1 in
-    rw (exit.1, exit.2) (RefusedAs-weaker c.in_err-take_one.field-0.0 _ _ (λ full start xs was.
+    RefusedAs-through c.from_residual.result c.in_err-take_one.field-0.0 c.from_residual.ensures.1
+    (λ full start xs was.
     let some =
     full start (xs ++ added_items (added b (take i ds))) (c.loop-definition.invariant start xs was) in
     let turn = items-turn b xs ds i d (omega arith) c.definition-item.is in
@@ -54,8 +54,7 @@ returns-in_err-take_one-clause-refused c =
       length-folded-front
           (xs ++ added_items (added b (take (i + 1) ds))) (added_items (added b (drop (i + 1) ds))),
       ap (λ l. length (folded l)) whole,
-    ))
-    c.in_err-take_one.ensures.refused)
+    )) c.in_err-take_one.ensures.refused
 
 pub returns-clause-stands : goal.returns-clause-stands
 returns-clause-stands c =

@@ -10,7 +10,8 @@ use Rattle.apollo_schema.proofs.Stands.StandsLemmas.{Stands-other}
 use Rattle.apollo_schema.proofs.Stands.RoleLemmas.{executable-other, executable-item, executable-seen}
 use Rattle.apollo_schema.proofs.tables.Tables.take_one.Goals as goal
 
-pub returns-in_ok-define_directive-in-DirectiveDefinition-clause-stands : goal.returns-in_ok-define_directive-in-DirectiveDefinition-clause-stands
+pub returns-in_ok-define_directive-in-DirectiveDefinition-clause-stands
+    : goal.returns-in_ok-define_directive-in-DirectiveDefinition-clause-stands
 returns-in_ok-define_directive-in-DirectiveDefinition-clause-stands c = λ start xs was.
     let d : Definition = ast.DirectiveDefinition c.in-DirectiveDefinition.node in
     let now : Tables = record c.args.self.now
@@ -30,7 +31,8 @@ none_more : (xs : List ListItem) (t : Tables) (d : Definition) → directive_def
 none_more xs t d none = subst (λ ds. AreDirectivesOf ds t.directive_definitions)
     (sym (ap (λ ds. directive_definitions xs ++ ds) none ∙ append-nil (directive_definitions xs)))
 
-pub returns-in_ok-note_executable-in_default-definition : goal.returns-in_ok-note_executable-in_default-definition
+pub returns-in_ok-note_executable-in_default-definition
+    : goal.returns-in_ok-note_executable-in_default-definition
 returns-in_ok-note_executable-in_default-definition c =
     let t = c.args.self.now in
     let d = c.args.definition.now in
