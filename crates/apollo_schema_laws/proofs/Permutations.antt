@@ -1,11 +1,11 @@
 -- Lists with the same elements in another order: parts that change places, and what is made of each element.
-use Rattle.apollo_meaning.proofs.Prelude.{◌++◌, ◌<◌, ◌∷◌, ◌≡◌, Bool, List, None, Option, Some, [], ap}
-use Rattle.apollo_meaning.proofs.Prelude.{append_assoc, arith, cond, filter, filter_map, flat_map, get_or}
-use Rattle.apollo_meaning.proofs.Prelude.{length, option_map_or, refl, subst, suc, zero, ℕ, map, map-append}
+use Rattle.apollo_meaning.proofs.Prelude.{append_assoc, arith, Bool, filter, filter_map, flat_map, get_or}
+use Rattle.apollo_meaning.proofs.Prelude.{length, List, map, map-append, Option, refl, subst, suc, zero, ℕ}
+use Rattle.apollo_meaning.proofs.Prelude.{[], ◌++◌, ◌<◌, ◌∷◌, ◌≡◌}
 use Rattle.apollo_schema_laws.proofs.Rearranged.Words.{IsPermutation, IsPermutation-append_comm}
 use Rattle.apollo_schema_laws.proofs.Rearranged.Words.{IsPermutation-append_left, IsPermutation-append_right}
 use Rattle.apollo_schema_laws.proofs.Rearranged.Words.{IsPermutation-keeps, IsPermutation-refl}
-use Rattle.apollo_schema_laws.proofs.Rearranged.Words.{IsPermutation-trans, cons_option, set, swap}
+use Rattle.apollo_schema_laws.proofs.Rearranged.Words.{IsPermutation-trans, set, swap}
 use Rattle.std.proofs.lemmas.List.Edits.{swap_is}
 
 -- the first two of three parts in each other's place
@@ -47,31 +47,33 @@ module _ {X Y : Type 0} (f : X → List Y) where
       step (d ∷ l) i j a b = subst (λ m. IsPermutation (flat_map f (d ∷ l)) (flat_map f m))
           (swap_is (d ∷ l) i j d a b) (flat_map-swap (d ∷ l) i j d a b)
 
+-- where functions agree
+pub alike-permutation : {X Y : Type 0} (f g : X → List Y) → ((x : X) → f x ≡ g x) → (xs ys : List X)
+    → IsPermutation xs ys → IsPermutation (flat_map f xs) (flat_map g ys)
+alike-permutation {X} {Y} f g same xs ys p = subst (λ (h : X → List Y). IsPermutation (flat_map f xs)
+    (flat_map h ys)) (λ i x. same x i) (flat_map-permutation f xs ys p)
+
 -- what is made of each element of joined lists
 pub map-flat_map : {X Y Z : Type 0} (f : Y → Z) (g : X → List Y) (xs : List X)
     → map f (flat_map g xs) ≡ flat_map (λ x. map f (g x)) xs
 map-flat_map f g [] = refl
 map-flat_map f g (x ∷ xs) = simp (map-append, map-flat_map f g xs)
 
--- those that pass a test, and what a choice makes of those that it takes
-module _ {X : Type 0} (p : X → Bool) where
-  filter-flat : (xs : List X) → flat_map (λ x. cond (p x) (x ∷ []) []) xs ≡ filter p xs
-  filter-flat [] = refl
-  filter-flat (x ∷ xs) = grind (arith, filter-flat xs)
+-- what is made of a list one element after another, as of those that pass a test and of a choice
+module _ {X Y : Type 0} (make : List X → List Y) (none : [] ≡ make []) (each : (x : X) (xs : List X)
+    → make (x ∷ []) ++ make xs ≡ make (x ∷ xs)) where
+  made-flat : (xs : List X) → flat_map (λ x. make (x ∷ [])) xs ≡ make xs
+  made-flat [] = none
+  made-flat (x ∷ xs) = rw (made-flat xs) (each x xs)
 
-  pub filter-permutation : (xs ys : List X) → IsPermutation xs ys → IsPermutation (filter p xs) (filter p ys)
-  filter-permutation xs ys s =
-      rw (filter-flat xs, filter-flat ys) at (flat_map-permutation (λ x. cond (p x) (x ∷ []) []) xs ys s)
+  made-permutation : (xs ys : List X) → IsPermutation xs ys → IsPermutation (make xs) (make ys)
+  made-permutation xs ys s = rw (made-flat xs, made-flat ys) at (flat_map-permutation (λ x. make (x ∷ [])) xs
+      ys s)
 
-module _ {X Y : Type 0} (which : X → Option Y) where
-  filter_map-flat : (xs : List X)
-      → flat_map (λ x. option_map_or (λ y. y ∷ []) (which x) []) xs ≡ filter_map which xs
-  filter_map-flat [] = refl
-  filter_map-flat (x ∷ xs) = elim (which x) as (λ o. option_map_or (λ y. y ∷ []) o []
-      ++ flat_map (λ x. option_map_or (λ y. y ∷ []) (which x) []) xs ≡ cons_option o (filter_map which xs))
-      [ None ↦ filter_map-flat xs | Some y ↦ ap (λ l. y ∷ l) (filter_map-flat xs) ]
+pub filter-permutation : {X : Type 0} (p : X → Bool) (xs ys : List X) → IsPermutation xs ys
+    → IsPermutation (filter p xs) (filter p ys)
+filter-permutation p = made-permutation (filter p) refl (λ x xs. grind arith)
 
-  pub filter_map-permutation : (xs ys : List X) → IsPermutation xs ys
-      → IsPermutation (filter_map which xs) (filter_map which ys)
-  filter_map-permutation xs ys s = rw (filter_map-flat xs, filter_map-flat ys) at (flat_map-permutation
-      (λ x. option_map_or (λ y. y ∷ []) (which x) []) xs ys s)
+pub filter_map-permutation : {X Y : Type 0} (which : X → Option Y) (xs ys : List X) → IsPermutation xs ys
+    → IsPermutation (filter_map which xs) (filter_map which ys)
+filter_map-permutation which = made-permutation (filter_map which) refl (λ x xs. grind arith)

@@ -1,12 +1,7 @@
 pub mod Bare
-pub mod BareCompletion
 pub mod Dropped
 pub mod Found
-pub mod Orphans
-pub mod Rearranging
 pub mod Regrouped
-pub mod Reported
-pub mod Schemas
 pub mod Sorts
 pub mod Types
 pub mod Words

@@ -1,22 +1,19 @@
 -- What a definition is about, and what lists say of a subject, where those of its groups stand in both in the
 -- same order.
-use Rattle.apollo_meaning.proofs.Prelude.{◌&&◌, ◌∙◌, ◌∷◌, ◌≡◌, Bool, Defined, DirectiveDefinition, Extended}
-use Rattle.apollo_meaning.proofs.Prelude.{List, ListItem, NodeView, Option, Other, SchemaDefined}
-use Rattle.apollo_meaning.proofs.Prelude.{SchemaExtended, TypePart, [], ap, arith, defined_part}
-use Rattle.apollo_meaning.proofs.Prelude.{defined_schema, directive_definitions, extended_part}
+use Rattle.apollo_meaning.proofs.Prelude.{ap, arith, Bool, Defined, defined_part, defined_schema}
+use Rattle.apollo_meaning.proofs.Prelude.{directive_definitions, DirectiveDefinition, Extended, extended_part}
 use Rattle.apollo_meaning.proofs.Prelude.{extended_schema, extensions_of, false, filter, filter_map, find}
-use Rattle.apollo_meaning.proofs.Prelude.{first, first_schema, found_at, is_some, key_of, option_map_or, refl}
-use Rattle.apollo_meaning.proofs.Prelude.{same, same-true, schema_extensions, schema_faults, slice_get, sym}
-use Rattle.apollo_meaning.proofs.Prelude.{true, ℕ}
-use Rattle.apollo_schema_laws.proofs.Rearranged.Words.{DefinitionsOf, DirectiveDefinitionsOf, ExtensionsOf}
-use Rattle.apollo_schema_laws.proofs.Rearranged.Words.{Group, IsOwn, IsTest, SchemaDefinitions}
-use Rattle.apollo_schema_laws.proofs.Rearranged.Words.{SchemaExtensions, chosen-wider, directive_of}
-use Rattle.apollo_schema_laws.proofs.Rearranged.Words.{directive_part, filter-wider, filter_map-wider}
-use Rattle.apollo_schema_laws.proofs.Rearranged.Words.{find-first, has_text, is_handed_in, is_in}
-use Rattle.apollo_schema_laws.proofs.Rearranged.Words.{lookup-keyed}
+use Rattle.apollo_meaning.proofs.Prelude.{first, first_schema, found_at, is_some, key_of, List, ListItem}
+use Rattle.apollo_meaning.proofs.Prelude.{lookup-keyed, NodeView, Option, option_map_or, Other, refl, same}
+use Rattle.apollo_meaning.proofs.Prelude.{same-true, schema_extensions, SchemaDefined, SchemaExtended}
+use Rattle.apollo_meaning.proofs.Prelude.{slice_get, sym, true, TypePart, ℕ, [], ◌&&◌, ◌∙◌, ◌∷◌, ◌≡◌}
+use Rattle.apollo_schema_laws.proofs.Rearranged.Words.{chosen-wider, DefinitionsOf, directive_of}
+use Rattle.apollo_schema_laws.proofs.Rearranged.Words.{directive_part, DirectiveDefinitionsOf, ExtensionsOf}
+use Rattle.apollo_schema_laws.proofs.Rearranged.Words.{filter-wider, filter_map-wider, find-first, Group}
+use Rattle.apollo_schema_laws.proofs.Rearranged.Words.{has_text, is_handed_in, is_in, IsOwn, IsTest}
+use Rattle.apollo_schema_laws.proofs.Rearranged.Words.{SchemaDefinitions, SchemaExtensions}
 use Rattle.graphql_nodes.proofs.Texts.{same-refl}
 use Rattle.graphql_ast.specs.declared.definition.Definition.TheVariants as ast
-use Rattle.apollo_meaning.specs.declared.build_error.BuildError.TheVariants as errors
 
 pub data Subject : Type 0 where
   TypeNamed : List ℕ → Subject
@@ -130,21 +127,12 @@ module _ (xs ys : List ListItem) where
   found_at-agree (Defined d) a = simp (first-agree, extensions-agree)
   found_at-agree (Extended e) a = simp (extensions-agree, first-agree)
   found_at-agree (SchemaDefined s) a = simp (first_schema-agree, schema_extensions-agree)
-  found_at-agree (SchemaExtended e) a =
-      λ i. option_map_or (λ s. schema_faults (s ∷ schema_extensions-agree (a SchemaExtensions refl) i) e)
-      (first_schema-agree (a SchemaDefinitions refl) i) []
-  found_at-agree (Other (ast.DirectiveDefinition n)) a = ap (λ o. option_map_or (λ kept. (
-    n.value.name.location,
-    errors.DirectiveDefinitionCollision kept.value.name.location n.value.name,
-  ) ∷ []) o []) (handed_in-agree n.value.name.text (a (DirectiveDefinitionsOf n.value.name.text) refl))
+  found_at-agree (SchemaExtended e) a = simp (first_schema-agree, schema_extensions-agree)
+  found_at-agree (Other (ast.DirectiveDefinition n)) a = simp handed_in-agree
   found_at-agree (Other d) a = refl
 
 -- what is found at an item is decided by those of its subject before it
 pub found_at-own : IsOwn same_subject subject_laws subject found_at
 found_at-own before x =
-    found_at-agree before _ x
-    (λ g is. sym (filter-wider own _ (λ y h. ap (same_subject _) (sym (in-subject g y h) ∙ is)
-    ∙ subject_laws.itself (subject x)) before))
-  where
-    own : ListItem → Bool
-    own y = same_subject (subject x) (subject y)
+    found_at-agree before _ x (λ g is. sym (filter-wider (λ y. same_subject (subject x) (subject y)) _
+    (λ y h. ap (same_subject _) (sym (in-subject g y h) ∙ is) ∙ subject_laws.itself (subject x)) before))

@@ -1,17 +1,14 @@
 -- Lists: what tests keep, what is found, and groups of elements by keys that differ.
-use Rattle.apollo_schema_laws.proofs.Words.Lists.{◌≡◌, Bool, true, false, cond, ◌&&◌, List, [], ◌∷◌, ◌++◌}
-use Rattle.apollo_schema_laws.proofs.Words.Lists.{None, Option, Some, map, option_map, filter, find, refl}
-use Rattle.apollo_schema_laws.proofs.Words.Lists.{sym, ap, ◌∙◌, arith, not, subst, true≢false, ◌+◌, ◌≤◌}
-use Rattle.apollo_schema_laws.proofs.Words.Lists.{length, flat_map, length-append, filter-append}
-use Rattle.apollo_schema_laws.proofs.Words.Lists.{filter_passes, recursion_from_All, filter-all, find-first}
-use Rattle.apollo_schema_laws.proofs.Words.Lists.{one-element-permutation, map-id, each-append}
-use Rattle.apollo_schema_laws.proofs.Words.Lists.{filter-permutation, AllByRecursion, filter_map, list_any}
-use Rattle.apollo_schema_laws.proofs.Words.Lists.{IsDistinct, IfSome, filter-fails, each-weaken, each-filter}
-use Rattle.apollo_schema_laws.proofs.Words.Lists.{flat_map-each, IsPermutation-refl, IsPermutation-trans}
-use Rattle.apollo_schema_laws.proofs.Words.Lists.{IsPermutation-append_right, IsPermutation-filter_both}
-use Rattle.apollo_schema_laws.proofs.Words.Lists.{IsEquivalence, IsPermutation}
-use Rattle.apollo_component.proofs.Lists.BySubject.{filter-wider}
-use Rattle.apollo_schema_laws.proofs.Words.Types.{first_of_each, first_of_each-distinct, first_of_each-map}
+use Rattle.apollo_schema_laws.proofs as laws
+pub use laws.Words.{◌≡◌, Bool, true, false, cond, ◌&&◌, List, [], ◌∷◌, ◌++◌, None, Option, Some, map}
+pub use laws.Words.{option_map, filter, find, refl, sym, ap, ◌∙◌, arith, not, subst, true≢false, ◌+◌, ◌≤◌}
+pub use laws.Words.{length, flat_map, length-append, filter-append, filter_passes, recursion_from_All}
+pub use laws.Words.{filter-all, find-first, one-element-permutation, map-id, each-append, filter-permutation}
+pub use laws.Words.{AllByRecursion, filter_map, list_any, IfSome, filter-fails, each-weaken, each-filter}
+pub use laws.Words.{flat_map-each, IsPermutation-refl, IsPermutation-trans, IsPermutation-append_right}
+pub use laws.Words.{IsPermutation-filter_both, IsEquivalence, IsPermutation, filter-wider, first_of_each}
+pub use laws.Words.{first_of_each-distinct, first_of_each-map}
+use laws.Words.{IsDistinct}
 
 pub filter-filter : {X : Type 0} (p q : X → Bool) (xs : List X)
     → filter p (filter q xs) ≡ filter (λ x. q x && p x) xs
@@ -75,8 +72,7 @@ map-each f g (x ∷ xs) a = λ i. a.0 i ∷ map-each f g xs a.1 i
 pub map-same : {X Y : Type 0} (f g : X → Y) (xs : List X) → map f xs ≡ map g xs
     → AllByRecursion (λ x. f x ≡ g x) xs
 map-same f g [] h = tt
-map-same f g (x ∷ xs) h =
-    let both = h in (cc, map-same f g xs (cc))
+map-same f g (x ∷ xs) h = (cc, map-same f g xs (cc))
 
 pub filter-flat_map : {X Y : Type 0} (p : Y → Bool) (f : X → List Y) (xs : List X)
     → filter p (flat_map f xs) ≡ flat_map (λ x. filter p (f x)) xs
@@ -110,8 +106,7 @@ passes p xs = recursion_from_All _ _ (filter_passes p xs)
 pub if-found : {X : Type 0} (P : X → Type 0) (p : X → Bool) (xs : List X) → AllByRecursion P xs
     → IfSome (find p xs) P
 if-found P p [] a = tt
-if-found P p (x ∷ xs) a = elim (p x) as (λ b. IfSome (cond b (Some x) (find p xs)) P)
-    [ true ↦ a.0 | false ↦ if-found P p xs a.1 ]
+if-found P p (x ∷ xs) a = grind (arith, a.0, if-found P p xs a.1)
 
 pub found-holds : {X : Type 0} (P : X → Type 0) (p : X → Bool) (xs : List X) (y : X) → AllByRecursion P xs
     → find p xs ≡ Some y → P y
@@ -119,8 +114,7 @@ found-holds P p xs y a e = rw e at (if-found P p xs a)
 
 pub option_map-twice : {X Y Z : Type 0} (g : Y → Z) (f : X → Y) (o : Option X)
     → option_map g (option_map f o) ≡ option_map (λ x. g (f x)) o
-option_map-twice g f None = refl
-option_map-twice g f (Some x) = refl
+option_map-twice g f o = grind arith
 
 -- lists that are empty when something is made of each element, and when joined
 pub map-empty : {X Y : Type 0} (f : X → Y) (xs : List X) → map f xs ≡ [] → xs ≡ []
@@ -153,8 +147,8 @@ distinct-by_keys same key xs d = distinct-from_first _ xs (all-first same key xs
 
 pub keys-distinct : {K X : Type 0} (same : K → K → Bool) (key : X → K) (xs : List X)
     → IsDistinct (λ a b. same (key a) (key b)) xs → IsDistinct same (map key xs)
-keys-distinct same key xs d = distinct-from_first same _ (sym (first_of_each-map same key xs) ∙ ap (map key)
-    (all-first _ (λ x. x) xs (subst (IsDistinct (λ a b. same (key a) (key b))) (sym (map-id xs)) d)))
+keys-distinct same key xs d = distinct-from_first same _ (sym (first_of_each-map same key xs)
+    ∙ ap (map key) (all-first _ _ xs (subst (IsDistinct (λ a b. same (key a) (key b))) (sym (map-id xs)) d)))
 
 module _ {K X : Type 0} (same : K → K → Bool) (laws : IsEquivalence same) (key : X → K) where
   -- where all keys differ each element is alone of its key
@@ -236,12 +230,7 @@ pub same-once : {K : Type 0} (same : K → K → Bool) → IsEquivalence same �
     → (k : K) → length (filter (λ j. same j k) ks) ≤ 1
 unfolding IsDistinct
 same-once same laws [] d k = omega arith
-same-once same laws (j ∷ ks) d k = elim (same j k) as (λ b. same j k ≡ b
-    → length (cond b (j ∷ filter (λ i. same i k) ks) (filter (λ i. same i k) ks)) ≤ 1) [
-      | true ↦ λ e. omega (
-        arith,
-        ap length (filter-fails (λ i. same j i ≡ false) (λ i. same i k)
-            (λ i apart. laws.symm i k ∙ sym (laws.congr j k i e) ∙ apart) ks d.0),
-      )
-      | false ↦ λ e. same-once same laws ks d.1 k
-    ] refl
+same-once same laws (j ∷ ks) d k =
+    let none : same j k ≡ true → filter (λ i. same i k) ks ≡ [] = λ e. filter-fails (λ i. same j i ≡ false) _
+    (λ i apart. laws.symm i k ∙ sym (laws.congr j k i e) ∙ apart) ks d.0 in
+    grind (arith, none, same-once same laws ks d.1 k)

@@ -1,21 +1,22 @@
 -- What definitions say without their locations, with or without the mark of what is built-in, and what is
--- found in a list of them.
-use Rattle.apollo_meaning.proofs.Prelude.{Added, Bool, Defined, Definition, DirectiveDefinition, Directives}
-use Rattle.apollo_meaning.proofs.Prelude.{Extended, List, ListItem, NodeView, None, Option, Other}
-use Rattle.apollo_meaning.proofs.Prelude.{SchemaDefined, SchemaExtended, SchemaPart, Some, TypeKind, TypePart}
-use Rattle.apollo_meaning.proofs.Prelude.{[], added_item, added_items, arith, cond, defined_part}
-use Rattle.apollo_meaning.proofs.Prelude.{defined_schema, directive_definitions, extended_part}
-use Rattle.apollo_meaning.proofs.Prelude.{extended_schema, extensions_of, false, filter_map, find, first}
-use Rattle.apollo_meaning.proofs.Prelude.{first_schema, is_built_in, item_of, kind_of, map, map-map, of_kind}
-use Rattle.apollo_meaning.proofs.Prelude.{option_map, option_map_or, refl, schema_extensions, true, ℕ, ◌&&◌}
-use Rattle.apollo_meaning.proofs.Prelude.{◌∷◌, ◌≡◌}
+-- found in a list of them and in what completes it.
+use Rattle.apollo_meaning.proofs.Prelude.{Added, added_item, added_items, adopted_by, ap, arith, Bool}
+use Rattle.apollo_meaning.proofs.Prelude.{completed, cond, Defined, defined_part, defined_schema, Definition}
+use Rattle.apollo_meaning.proofs.Prelude.{directive_definitions, DirectiveDefinition, Directives, Extended}
+use Rattle.apollo_meaning.proofs.Prelude.{extended_names, extended_part, extended_schema, extensions_of}
+use Rattle.apollo_meaning.proofs.Prelude.{false, filter_map, find, find-made, first, first_schema}
+use Rattle.apollo_meaning.proofs.Prelude.{implied_schema, is_built_in, item_of, kind_of, List, ListItem}
+use Rattle.apollo_meaning.proofs.Prelude.{lookup-keyed, map, map-append, map-map, NodeView, None, of_kind}
+use Rattle.apollo_meaning.proofs.Prelude.{OperationType, Option, option_map, option_map_or, orphans_of, Other}
+use Rattle.apollo_meaning.proofs.Prelude.{refl, Root, roots_in, schema_extensions, schema_for, SchemaDefined}
+use Rattle.apollo_meaning.proofs.Prelude.{SchemaExtended, SchemaPart, Some, sym, true, TypeKind, TypePart}
+use Rattle.apollo_meaning.proofs.Prelude.{whole, with_adopted, ℕ, [], ◌&&◌, ◌∙◌, ◌∷◌, ◌≡◌}
 use Rattle.apollo_schema_laws.proofs.Rearranged.Words.{directive_meant, directive_of, directive_part}
-use Rattle.apollo_schema_laws.proofs.Rearranged.Words.{find-made, has_text, is_handed_in, last_or}
-use Rattle.apollo_schema_laws.proofs.Rearranged.Words.{lookup-keyed}
+use Rattle.apollo_schema_laws.proofs.Rearranged.Words.{filter-map, flat_map-map, has_text, implicit_roots}
+use Rattle.apollo_schema_laws.proofs.Rearranged.Words.{is_handed_in, last_or}
 use Rattle.std.proofs.lemmas.Option.{slice_get-map}
 use Rattle.graphql_nodes.specs.Comparing.{bare_name, bare_node}
 use Rattle.graphql_nodes.specs.declared.source.SourceSpan.{SourceSpan}
-use Rattle.graphql_nodes.specs.declared.type_kind.TypeKind.TheVariants as kinds
 use Rattle.graphql_ast.specs.Bare.{bare_directive}
 use Rattle.graphql_ast.specs.BareDeclarations.{bare_parts}
 use Rattle.graphql_ast.specs.BareDocuments.{bare_definition}
@@ -23,8 +24,9 @@ use Rattle.graphql_ast.specs.BareTypeSystem.{bare_directive_definition, bare_roo
 use Rattle.graphql_ast.specs.Parts.{of_type}
 use Rattle.graphql_ast.specs.declared.definition.Definition.TheVariants as ast
 use Rattle.graphql_ast.specs.declared.parts.Parts.{Parts}
-use Rattle.apollo_component.proofs.Lists.Each.{filter-map}
 use Rattle.apollo_schema_laws.specs.Equal.{AreEqualLists, compared}
+use Rattle.apollo_meaning.specs.Completion.ImpliedSchema.{implicit_root}
+use Rattle.apollo_schema_laws.proofs.Permutations.{map-flat_map}
 
 -- of a location only whether it is marked built-in
 abbrev pub marked : Bool → Option SourceSpan
@@ -48,8 +50,7 @@ bare_other d = bare_definition d
 -- what a kind has of parts
 pub of_type-bare : (kind : TypeKind) (ps : Parts)
     → of_type kind (bare_parts ps) ≡ bare_parts (of_type kind ps)
-of_type-bare kinds.Scalar ps = refl
-of_type-bare kind ps = refl
+of_type-bare kind ps = grind arith
 
 -- the rest keeps its mark too, and whether it may be ignored, or neither
 module _ (marks : Bool) where
@@ -95,7 +96,7 @@ module _ (marks : Bool) where
       → filter_map defined_part (unplaced_list xs) ≡ map unplaced_part (filter_map defined_part xs)
   defined-unplaced = chosen-unplaced defined_part unplaced_part (λ x. grind arith)
 
-  pub extended-unplaced : (xs : List ListItem)
+  extended-unplaced : (xs : List ListItem)
       → filter_map extended_part (unplaced_list xs) ≡ map unplaced_part (filter_map extended_part xs)
   extended-unplaced = chosen-unplaced extended_part unplaced_part (λ x. grind arith)
 
@@ -131,8 +132,7 @@ module _ (marks : Bool) where
 -- what is there unless something is found
 pub unless-unplaced : {P R : Type 0} (bare : P → P) (other : R → R) (o : Option R) (ps : List P)
     → option_map_or (λ _. []) (option_map other o) (map bare ps) ≡ map bare (option_map_or (λ _. []) o ps)
-unless-unplaced bare other None ps = refl
-unless-unplaced bare other (Some r) ps = refl
+unless-unplaced bare other o ps = grind arith
 
 -- without marks
 abbrev pub bare_part : TypePart → TypePart
@@ -149,47 +149,105 @@ abbrev said : Bool × Definition → ListItem
 said (b, ast.DirectiveDefinition n) = Other (ast.DirectiveDefinition (record n { location = marked b }))
 said (b, d) = item_of d
 
--- of a definition
 added-said : (a : Added) → unplaced_item false (added_item a) ≡ said (compared a)
 added-said a = grind arith
 
--- and of each of a list
-all-said : (xs : List Added) → bare_list (added_items xs) ≡ map said (map compared xs)
-all-said xs = simp map-map (λ i. map (λ a. added-said a i) xs)
-
 -- so equal lists say the same without locations
-pub equal-said : (xs ys : List Added) → AreEqualLists xs ys
+equal-said : (xs ys : List Added) → AreEqualLists xs ys
     → bare_list (added_items xs) ≡ bare_list (added_items ys)
-equal-said xs ys alike = simp (all-said, alike)
+equal-said xs ys alike =
+    let each : (zs : List Added) → bare_list (added_items zs) ≡ map said (map compared zs) =
+    λ zs. simp (map-map, added-said) in
+    simp (each, alike)
 
--- The definition that a directive's name means.
-
+-- the definition that a directive's name means is found among bare ones
 module _ (n : List ℕ) where
-  -- the first that isn't marked, among bare ones
-  pub find-bare : (ds : Directives)
-      → find (λ d. has_text n d && is_handed_in d) (map bare_directive_node ds)
-      ≡ option_map bare_directive_node (find (λ d. has_text n d && is_handed_in d) ds)
-  find-bare ds = simp (find-made, mark-kept)
-
-  -- the last of them
   last-bare : (o : Option (NodeView DirectiveDefinition)) (ds : Directives)
       → last_or (option_map bare_directive_node o) (map bare_directive_node ds)
       ≡ option_map bare_directive_node (last_or o ds)
   last-bare o [] = refl
   last-bare o (d ∷ ds) = last-bare (Some d) ds
 
+  -- the first that isn't marked, among bare ones
+  pub find-bare : (ds : Directives)
+      → find (λ d. has_text n d && is_handed_in d) (map bare_directive_node ds)
+      ≡ option_map bare_directive_node (find (λ d. has_text n d && is_handed_in d) ds)
+  find-bare ds = simp (find-made, mark-kept)
+
   -- the one that is meant
   pub directive_of-bare : (ds : Directives)
       → directive_of (map bare_directive_node ds) n ≡ option_map bare_directive_node (directive_of ds n)
   directive_of-bare ds = grind (arith, find-bare ds, filter-map, last-bare)
 
-  -- what is compared of it is found among bare ones
   meant-bare : (xs : List ListItem)
-      → directive_meant xs n ≡ option_map (λ d. d.value) (directive_of (directive_definitions (bare_list xs))
-      n)
+      → directive_meant xs n
+      ≡ option_map (λ d. d.value) (directive_of (directive_definitions (bare_list xs)) n)
   meant-bare xs = grind (arith, directives-unplaced false xs, directive_of-bare)
 
-  -- so it is equal in lists that say the same without locations
-  pub directives-alike : (xs ys : List ListItem) → bare_list xs ≡ bare_list ys
-      → directive_meant xs n ≡ directive_meant ys n
-  directives-alike xs ys alike = simp (meant-bare, alike)
+-- What a list is completed with, types that are adopted and an implied schema definition, comes without
+-- locations of a list without locations.
+
+module _ (marks : Bool) where
+  -- what extensions of a name are given
+  adopted_by-unplaced : (ps : List TypePart)
+      → adopted_by (map (unplaced_part marks) ps) ≡ unplaced_list marks (adopted_by ps)
+  adopted_by-unplaced ps = grind arith
+
+  -- roots of joined parts
+  pub roots-unplaced : (ss : List SchemaPart)
+      → roots_in (map (unplaced_schema_part marks) ss) ≡ map (bare_node bare_root_operation) (roots_in ss)
+  roots-unplaced ss = simp (flat_map-map, map-flat_map)
+
+  -- the schema definition that stands for such roots
+  schema_for-unplaced : (adopts : Bool) (named implicit : List Root)
+      → schema_for adopts (map (bare_node bare_root_operation) named) (map (bare_node bare_root_operation)
+      implicit) ≡ unplaced_list marks (schema_for adopts named implicit)
+  schema_for-unplaced adopts named implicit = grind arith
+
+  module _ (xs : List ListItem) where
+    -- the names that are extended, and the extensions of a name without a definition
+    pub extended_names-unplaced : extended_names (unplaced_list marks xs) ≡ extended_names xs
+    extended_names-unplaced = simp (extended-unplaced, map-map)
+
+    pub orphans-unplaced : (n : List ℕ)
+        → orphans_of (unplaced_list marks xs) n ≡ map (unplaced_part marks) (orphans_of xs n)
+    orphans-unplaced n = simp (first-unplaced, extensions-unplaced, unless-unplaced)
+
+    pub with_adopted-unplaced : (adopts : Bool)
+        → with_adopted adopts (unplaced_list marks xs) ≡ unplaced_list marks (with_adopted adopts xs)
+    with_adopted-unplaced true = simp (extended_names-unplaced, orphans-unplaced, adopted_by-unplaced)
+        (simp (map-append, map-flat_map))
+    with_adopted-unplaced false = refl
+
+    -- the roots that the names of object types imply
+    implicit-unplaced : implicit_roots (unplaced_list marks xs) ≡ map (bare_node bare_root_operation)
+        (implicit_roots xs)
+    implicit-unplaced = simp (one, map-append)
+      where
+        one : (op : OperationType)
+            → implicit_root (unplaced_list marks xs) op ≡ map (bare_node bare_root_operation)
+            (implicit_root xs op)
+        one op = grind (arith, first-unplaced marks xs)
+
+    -- the schema definition that is implied
+    pub implied_schema-unplaced : (adopts : Bool)
+        → implied_schema adopts (unplaced_list marks xs) ≡ unplaced_list marks (implied_schema adopts xs)
+    implied_schema-unplaced adopts =
+        simp (first_schema-unplaced marks xs, schema_extensions-unplaced marks xs, roots-unplaced)
+        (simp (implicit-unplaced, schema_for-unplaced, unless-unplaced))
+
+  -- all that the list is completed with
+  pub completed-unplaced : (adopts : Bool) (xs : List ListItem)
+      → completed adopts (unplaced_list marks xs) ≡ unplaced_list marks (completed adopts xs)
+  completed-unplaced adopts xs = simp (with_adopted-unplaced, implied_schema-unplaced, map-append)
+
+-- all that equal lists mean is the same without locations
+pub equal-whole : (adopts : Bool) (xs ys : List Added) → AreEqualLists xs ys
+    → bare_list (whole adopts xs) ≡ bare_list (whole adopts ys)
+equal-whole adopts xs ys alike = sym (completed-unplaced false adopts _)
+    ∙ ap (completed adopts) (equal-said xs ys alike) ∙ completed-unplaced false adopts _
+
+-- so equal lists mean equal definitions of a directive
+pub directives-alike : (adopts : Bool) (xs ys : List Added) (n : List ℕ) → AreEqualLists xs ys
+    → directive_meant (whole adopts xs) n ≡ directive_meant (whole adopts ys) n
+directives-alike adopts xs ys n alike = simp (meant-bare, equal-whole adopts xs ys alike)

@@ -1,39 +1,48 @@
--- The types and the schema definitions that lists mean. What `==` compares of them is decided by the parts
--- that they are made of, without locations and origins.
-use Rattle.apollo_meaning.proofs.Prelude.{◌∙◌, ◌∷◌, ◌≡◌, List, ListItem, Mutation, NameView, Option, Query}
-use Rattle.apollo_meaning.proofs.Prelude.{SchemaPart, Some, SourcedSchema, Subscription, TypePart, ap, arith}
-use Rattle.apollo_meaning.proofs.Prelude.{cond, extensions_of, false, find, first, first_of_each}
-use Rattle.apollo_meaning.proofs.Prelude.{first_schema, flat_map, folding_order, kind_of, map, of_kind}
-use Rattle.apollo_meaning.proofs.Prelude.{option_map, refl, same_text, schema_definition_of}
-use Rattle.apollo_meaning.proofs.Prelude.{schema_extensions, schema_from, sym, ℕ, map-map}
-use Rattle.apollo_schema_laws.proofs.Rearranged.Words.{AreRearranged, DefinitionsOf, ExtensionsOf}
-use Rattle.apollo_schema_laws.proofs.Rearranged.Words.{SchemaDefinitions, SchemaExtensions, option_cases}
-use Rattle.apollo_schema_laws.proofs.Rearranged.Words.{root_in, roots_of, same_operation}
-use Rattle.apollo_schema_laws.proofs.Rearranged.Words.{schema_directives_of, schema_meant, schema_parts}
-use Rattle.apollo_schema_laws.proofs.Rearranged.Words.{schema_sourced, type_meant, flat_map-map, find-made}
+-- The types, the schema definitions and the schemas that lists mean. What `==` compares of them is decided by
+-- the parts that they are made of, without locations and origins.
+use Rattle.apollo_meaning.proofs.Prelude.{Added, added_items, ap, arith, Bool, ComponentName, ComponentOrigin}
+use Rattle.apollo_meaning.proofs.Prelude.{cond, extensions_of, extensions_with_origin, Fault, find, find-made}
+use Rattle.apollo_meaning.proofs.Prelude.{first, first_of_each, first_schema, flat_map, folding_order}
+use Rattle.apollo_meaning.proofs.Prelude.{kind_of, length, List, ListItem, map, map-map, Mutation, NameView}
+use Rattle.apollo_meaning.proofs.Prelude.{NodeView, of_kind, OperationType, Option, option_map, parts, Query}
+use Rattle.apollo_meaning.proofs.Prelude.{refl, same_operation, same_text, schema_definition_of}
+use Rattle.apollo_meaning.proofs.Prelude.{schema_extensions, schema_parts, schema_sourced, SchemaDefinition}
+use Rattle.apollo_meaning.proofs.Prelude.{SchemaPart, Some, Sourced, SourcedSchema, Subscription, subst, sym}
+use Rattle.apollo_meaning.proofs.Prelude.{type_from, TypePart, unwrap_or, whole, ℕ, [], ◌∙◌, ◌∷◌, ◌≡◌}
+use Rattle.apollo_schema_laws.proofs.Rearranged.Words.{AreRearranged, directive_meant, faults_of}
+use Rattle.apollo_schema_laws.proofs.Rearranged.Words.{flat_map-map, IsPermutation, option_cases}
+use Rattle.apollo_schema_laws.proofs.Rearranged.Words.{schema_meant, type_meant}
 use Rattle.graphql_nodes.specs.Comparing.{bare_name}
-use Rattle.graphql_nodes.specs.declared.operation_type.OperationType.{OperationType}
 use Rattle.graphql_ast.specs.BareDeclarations.{bare_item, bare_parts}
-use Rattle.graphql_ast.specs.Parts.{Sort, Directives, Item, listed, with_lists}
+use Rattle.graphql_ast.specs.Parts.{Directives, Item, listed, Sort, with_lists}
 use Rattle.graphql_ast.specs.declared.parts.Parts.{Parts}
 use Rattle.graphql_ast.specs.declared.directive.Directive.{Directive}
-use Rattle.apollo_component.specs.BareComponents.{bare_directives, bare_component_name}
-use Rattle.apollo_component.specs.declared.component.ComponentName.{ComponentName}
-use Rattle.apollo_component.specs.declared.extension.ComponentOrigin.{ComponentOrigin}
-use Rattle.apollo_types.specs.BareTypes.{BareType, bare_extended_type, BareSchemaDefinition}
-use Rattle.apollo_types.specs.BareTypes.{bare_schema_definition}
+use Rattle.apollo_component.specs.BareComponents.{bare_component_name}
+use Rattle.apollo_types.specs.BareTypes.{bare_extended_type, bare_schema_definition, BareSchemaDefinition}
+use Rattle.apollo_types.specs.BareTypes.{BareType}
 use Rattle.apollo_meaning.specs.Items.Parts.{held_parts}
-use Rattle.apollo_meaning.specs.Types.Components.{Sourced}
-use Rattle.apollo_meaning.specs.Types.Meaning.{type_from, parts, extensions_with_origin}
 use Rattle.apollo_schema_laws.proofs.Permutations.{map-flat_map}
-use Rattle.apollo_schema_laws.proofs.Rearranged.Bare.{bare_list, bare_part, bare_schema_part}
+use Rattle.apollo_schema_laws.proofs.Rearranged.Bare.{bare_list, bare_part, bare_schema_part, equal-whole}
 use Rattle.apollo_schema_laws.proofs.Rearranged.Bare.{extensions-unplaced, first-unplaced}
 use Rattle.apollo_schema_laws.proofs.Rearranged.Bare.{first_schema-unplaced, of_kind-unplaced, of_type-bare}
 use Rattle.apollo_schema_laws.proofs.Rearranged.Bare.{schema_extensions-unplaced}
 use Rattle.apollo_schema_laws.proofs.Types.Kinds.{bare-made, bare_of, held, kept, kept-map, kept_by, shown_in}
 use Rattle.apollo_schema_laws.specs.TypeSections.{is_keyed, name_of}
-use Rattle.apollo_schema_laws.proofs.Subjects.{extensions-agree, first-agree, first_schema-agree}
-use Rattle.apollo_schema_laws.proofs.Subjects.{schema_extensions-agree}
+use Rattle.std.proofs.lemmas.List.{nil_from_length}
+use Rattle.std.proofs.lemmas.List.Sorted.{length_permutation}
+use Rattle.apollo_meaning.specs.Schema.Definition.{no_schema}
+use Rattle.apollo_schema_laws.proofs.Rearranged.Found.{extensions-rearranged, faults-rearranged}
+use Rattle.apollo_schema_laws.proofs.Rearranged.Found.{first-rearranged, first_schema-rearranged}
+use Rattle.apollo_schema_laws.proofs.Rearranged.Found.{schema_extensions-rearranged}
+use Rattle.apollo_schema_laws.specs.Equal.{AreEqualLists}
+use Rattle.apollo_schema_laws.specs.BuiltAlike.{BuildEqualSchemas, BuildFaultlessTogether, BuildSameFaults}
+use Rattle.apollo_schema_laws.specs.BuiltAlike.{MeanEqualSchemas, StandFor}
+use Rattle.apollo_schema.specs.BuilderStands.{Building, Failed, IsOpenBy, IsOpenWith, OfAdded, Open}
+use Rattle.apollo_schema.specs.BuilderStands.{sources_of, Standing, StandsFor}
+use Rattle.apollo_schema.specs.Built.{IsFoundIn}
+use Rattle.apollo_schema.specs.EqualSchemas.{AreEqualSchemas, bare_schema}
+use Rattle.apollo_schema.specs.declared.schema.Schema.{Schema}
+use Rattle.apollo_schema.specs.MeantSchema.{IsPartOf, MeansSchema}
 
 -- parts without the origins of their components
 abbrev parts_of : {P : Type 0} → List (ComponentOrigin × P) → List P
@@ -99,17 +108,6 @@ find-root : (op : OperationType) (rs : List (OperationType × ComponentName))
     ≡ option_map (λ r. r.1) (find (λ r. same_operation op r.0) (map bare_root rs))
 find-root op rs = rw (find-made (λ r. same_operation op r.0) bare_root rs) (grind arith)
 
-forget-root : (op : OperationType) (ps : List SourcedSchema)
-    → option_map bare_component_name (root_in op ps) ≡ plain_root op (map bare_schema_part (parts_of ps))
-forget-root op ps = find-root op (flat_map roots_of ps)
-    ∙ ap (λ rs. option_map (λ r. r.1) (find (λ r. same_operation op r.0) rs))
-    (simp (map-flat_map, map-map, flat_map-map))
-
-forget-schema_directives : (ps : List SourcedSchema)
-    → bare_directives (record { 0 = flat_map schema_directives_of ps })
-    ≡ plain_schema_directives (map bare_schema_part (parts_of ps))
-forget-schema_directives ps = simp (map-flat_map, map-map, flat_map-map)
-
 -- what `==` compares of the definition, by its head and its parts without locations
 plain_definition : SchemaPart → List SchemaPart → BareSchemaDefinition
 plain_definition head ps = record {
@@ -125,13 +123,7 @@ forget-definition : (head : SchemaPart) (ps : List SourcedSchema)
     → bare_schema_definition (schema_definition_of head ps) ≡ plain_definition (bare_schema_part head)
     (map bare_schema_part (parts_of ps))
 unfolding plain_definition
-forget-definition head ps = λ i. record {
-  description = option_map bare_name head.description;
-  directives = forget-schema_directives ps i;
-  query = forget-root Query ps i;
-  mutation = forget-root Mutation ps i;
-  subscription = forget-root Subscription ps i;
-}
+forget-definition head ps = simp (find-root, map-flat_map, map-map, flat_map-map)
 
 -- the type that a name means by its first definition and its extensions, without locations, and the schema
 -- definition by its own
@@ -148,45 +140,23 @@ FoldsByKind = (start : ℕ) (xs : List ListItem) (n : List ℕ) (d : TypePart) �
     ≡ of_kind (kind_of d) (extensions_of xs n)
 
 module _ (folds : FoldsByKind) where
-  -- what a name means in a list is that of its first definition and its extensions there
+  -- what a name means in a list is that of its first definition and its extensions there, without locations
   type-meant : (start : ℕ) (xs : List ListItem) (n : List ℕ)
-      → type_meant start xs n ≡ type_meant_of (option_map bare_part (first xs n))
-      (map bare_part (extensions_of xs n))
-  type-meant start xs n = option_cases (first xs n) (λ e. ap of e ∙ sym (ap to e)) (λ d e. ap of e
-      ∙ ap Some (forget-type d (parts start (folding_order xs) n d)
-      ∙ ap (λ es. plain_type (bare_part d) (map bare_part (d ∷ es))) (folds start xs n d e)
-      ∙ ap (λ es. plain_type (bare_part d) (bare_part d ∷ es)) (own_kind d (extensions_of xs n)))
-      ∙ sym (ap to e))
-    where
-      of : Option TypePart → Option BareType
-      of o = option_map bare_extended_type (option_map (λ d. type_from d (parts start (folding_order xs) n d))
-          o)
-
-      to : Option TypePart → Option BareType
-      to o = type_meant_of (option_map bare_part o) (map bare_part (extensions_of xs n))
-
-      own_kind : (d : TypePart) (es : List TypePart)
-          → map bare_part (of_kind (kind_of d) es) ≡ of_kind (kind_of (bare_part d)) (map bare_part es)
-      own_kind d es = sym (of_kind-unplaced false d es)
+      → type_meant start xs n ≡ type_meant_of (first (bare_list xs) n) (extensions_of (bare_list xs) n)
+  type-meant start xs n = simp (first-unplaced, extensions-unplaced) (option_cases (first xs n) (λ e. simp e)
+      (λ d e. simp (e, of_kind-unplaced) (ap Some (forget-type d (parts start (folding_order xs) n d)
+      ∙ ap (plain_type (bare_part d)) (simp (folds start xs n d e))))))
 
   -- so the types that rearranged lists mean are equal
   pub types-rearranged : (start other : ℕ) (xs ys : List ListItem) (n : List ℕ) → AreRearranged xs ys
       → type_meant start xs n ≡ type_meant other ys n
-  types-rearranged start other xs ys n r = type-meant start xs n
-      ∙ (λ i. type_meant_of (option_map bare_part (first-agree xs ys n (r.in_order (DefinitionsOf n)) i))
-      (map bare_part (extensions-agree xs ys n (r.in_order (ExtensionsOf n)) i)))
-      ∙ sym (type-meant other ys n)
+  types-rearranged start other xs ys n r = rw (type-meant start xs n, type-meant other ys n)
+      (simp (first-unplaced, extensions-unplaced, first-rearranged xs ys r, extensions-rearranged xs ys r))
 
-  -- and those of lists that say the same without locations
-  pub types-alike : (start other : ℕ) (xs ys : List ListItem) (n : List ℕ) → bare_list xs ≡ bare_list ys
-      → type_meant start xs n ≡ type_meant other ys n
-  types-alike start other xs ys n alike =
-      of start xs ∙ ap (λ zs. type_meant_of (first zs n) (extensions_of zs n)) alike ∙ sym (of other ys)
-    where
-      of : (start : ℕ) (zs : List ListItem)
-          → type_meant start zs n ≡ type_meant_of (first (bare_list zs) n) (extensions_of (bare_list zs) n)
-      of start zs = type-meant start zs n
-          ∙ sym (λ i. type_meant_of (first-unplaced false zs n i) (extensions-unplaced false zs n i))
+  -- and those of equal lists
+  pub types-alike : (start other : ℕ) (adopts : Bool) (xs ys : List Added) (n : List ℕ) → AreEqualLists xs ys
+      → type_meant start (whole adopts xs) n ≡ type_meant other (whole adopts ys) n
+  types-alike start other adopts xs ys n alike = simp (type-meant, equal-whole adopts xs ys alike)
 
 -- the extensions that are folded for the schema are all of its extensions, in order
 abbrev pub FoldsAll : Type 0
@@ -196,36 +166,100 @@ FoldsAll = (start : ℕ) (xs : List ListItem) (s : SchemaPart) → first_schema 
 module _ (folds : FoldsAll) where
   -- what a list means is that of its first schema definition and the extensions of the schema
   schema-meant : (start : ℕ) (xs : List ListItem)
-      → schema_meant start xs ≡ schema_meant_of (option_map bare_schema_part (first_schema xs))
-      (map bare_schema_part (schema_extensions xs))
-  schema-meant start xs = option_cases (first_schema xs) (λ e. ap of e ∙ sym (ap to e)) (λ s e. ap of e
-      ∙ ap Some (forget-definition s (schema_parts start (folding_order xs) s)
-      ∙ ap (λ es. plain_definition (bare_schema_part s) (map bare_schema_part (s ∷ es))) (folds start xs s e))
-      ∙ sym (ap to e))
-    where
-      of : Option SchemaPart → Option BareSchemaDefinition
-      of o = option_map (λ d. bare_schema_definition d.value)
-          (option_map (λ s. schema_from s (schema_parts start (folding_order xs) s)) o)
-
-      to : Option SchemaPart → Option BareSchemaDefinition
-      to o = schema_meant_of (option_map bare_schema_part o) (map bare_schema_part (schema_extensions xs))
+      → schema_meant start xs ≡ schema_meant_of (first_schema (bare_list xs))
+      (schema_extensions (bare_list xs))
+  schema-meant start xs = simp (first_schema-unplaced, schema_extensions-unplaced)
+      (option_cases (first_schema xs) (λ e. simp e)
+      (λ s e. simp e (ap Some (forget-definition s (schema_parts start (folding_order xs) s)
+      ∙ ap (plain_definition (bare_schema_part s)) (simp (folds start xs s e))))))
 
   -- so the schema definitions that rearranged lists mean are equal
   pub schema-rearranged : (start other : ℕ) (xs ys : List ListItem) → AreRearranged xs ys
       → schema_meant start xs ≡ schema_meant other ys
-  schema-rearranged start other xs ys r = schema-meant start xs
-      ∙ (λ i. schema_meant_of (option_map bare_schema_part
-      (first_schema-agree xs ys (r.in_order SchemaDefinitions) i)) (map bare_schema_part
-      (schema_extensions-agree xs ys (r.in_order SchemaExtensions) i))) ∙ sym (schema-meant other ys)
+  schema-rearranged start other xs ys r = rw (schema-meant start xs, schema-meant other ys)
+      (simp (first_schema-unplaced, schema_extensions-unplaced)
+      (simp (first_schema-rearranged xs ys r, schema_extensions-rearranged xs ys r)))
 
-  -- and those of lists that say the same without locations
-  pub schema-alike : (start other : ℕ) (xs ys : List ListItem) → bare_list xs ≡ bare_list ys
-      → schema_meant start xs ≡ schema_meant other ys
-  schema-alike start other xs ys alike = of start xs
-      ∙ ap (λ zs. schema_meant_of (first_schema zs) (schema_extensions zs)) alike ∙ sym (of other ys)
-    where
-      of : (start : ℕ) (zs : List ListItem)
-          → schema_meant start zs ≡ schema_meant_of (first_schema (bare_list zs))
-          (schema_extensions (bare_list zs))
-      of start zs = schema-meant start zs ∙ sym (λ i. schema_meant_of (first_schema-unplaced false zs i)
-          (schema_extensions-unplaced false zs i))
+  -- and those of equal lists
+  pub schema-alike : (start other : ℕ) (adopts : Bool) (xs ys : List Added) → AreEqualLists xs ys
+      → schema_meant start (whole adopts xs) ≡ schema_meant other (whole adopts ys)
+  schema-alike start other adopts xs ys alike = simp (schema-meant, equal-whole adopts xs ys alike)
+
+-- what `==` compares of the schema definition that a schema has, by what it compares of that of the list, if
+-- there is one
+bare-or_none : (o : Option (NodeView SchemaDefinition))
+    → bare_schema_definition (unwrap_or o no_schema).value
+    ≡ unwrap_or (option_map (λ d. bare_schema_definition d.value) o) (bare_schema_definition no_schema.value)
+bare-or_none o = grind arith
+
+-- the schemas that two lists mean are equal where the lists mean equal schema definitions, types and
+-- directives
+pub schemas-alike : (adopts : Bool) (xs ys : List Added)
+    → ((start other : ℕ) → schema_meant start (whole adopts xs) ≡ schema_meant other (whole adopts ys))
+    → ((start other : ℕ) (n : List ℕ) → type_meant start (whole adopts xs) n
+    ≡ type_meant other (whole adopts ys) n)
+    → ((n : List ℕ) → directive_meant (whole adopts xs) n ≡ directive_meant (whole adopts ys) n)
+    → MeanEqualSchemas adopts xs ys
+schemas-alike adopts xs ys definitions types directives start other s t a b = λ i. record {
+  definition = same_definition i;
+  directive_definitions = λ n. same_directive n i;
+  types = λ n. same_type n i;
+}
+  where
+    same_definition : (bare_schema s).definition ≡ (bare_schema t).definition
+    same_definition = simp (a.definition, b.definition, bare-or_none, definitions start other)
+
+    same_type : (n : List ℕ) → (bare_schema s).types n ≡ (bare_schema t).types n
+    same_type n = simp (a.types.each n, types start other n, b.types.each n)
+
+    same_directive : (n : List ℕ)
+        → (bare_schema s).directive_definitions n ≡ (bare_schema t).directive_definitions n
+    same_directive n = simp (a.directives.each, directives, b.directives.each)
+
+-- what holds of what was added to a builder holds of the list that it stands for
+of_list : (P : ℕ → List Added → Type 0) (start : ℕ) (xs : List Added) (b : Building) → StandsFor start xs b
+    → OfAdded P b → P start xs
+of_list P start xs b stands = by b.start b.standing stands.0 stands.1
+  where
+    by : (n : ℕ) (standing : Standing) → n ≡ start → IsOpenWith xs standing → IsOpenBy P n standing
+        → P start xs
+    by n (Open list files) first is holds = subst (P start) is (subst (λ m. P m list) first holds)
+    by n (Failed source) first is holds = elim is [ ]
+
+-- what is found of a builder's list is found of the list that it stands for
+found : (start : ℕ) (xs : List Added) (b : Building) (s : Schema) (faults : List Fault) → StandsFor start xs b
+    → IsFoundIn b s faults → IsPartOf start b.adopts xs (sources_of b) s faults
+found start xs b s faults = of_list (λ first zs. IsPartOf first b.adopts zs (sources_of b) s faults) start xs
+    b
+
+-- builders that stand for lists that mean equal schemas are built to equal ones
+module _ (xs ys : List Added) (schemas : (adopts : Bool) → MeanEqualSchemas adopts xs ys) (b c : Building)
+    (stand : StandFor xs ys b c) where
+  meant : (s t : Schema) → MeansSchema stand.start b.adopts xs s → MeansSchema stand.other c.adopts ys t
+      → AreEqualSchemas s t
+  meant s t m n = schemas b.adopts stand.start stand.other s t m
+      (subst (λ (a : Bool). MeansSchema stand.other a ys t) (sym stand.one_setting) n)
+
+  pub built-alike : BuildEqualSchemas b c
+  built-alike s t m n = meant s t (of_list (λ start zs. MeansSchema start b.adopts zs s) stand.start xs b
+      stand.first m) (of_list (λ start zs. MeansSchema start c.adopts zs t) stand.other ys c stand.second n)
+
+-- and those that stand for rearranged lists find the same faults
+module _ (xs ys : List Added) (r : AreRearranged (added_items xs) (added_items ys)) (b c : Building)
+    (stand : StandFor xs ys b c) where
+  same_faults : IsPermutation (faults_of b.adopts xs) (faults_of c.adopts ys)
+  same_faults = subst (λ (a : Bool). IsPermutation (faults_of b.adopts xs) (faults_of a ys)) stand.one_setting
+      (faults-rearranged b.adopts xs ys r)
+
+  pub found-rearranged : ((adopts : Bool) → MeanEqualSchemas adopts xs ys) → BuildSameFaults b c
+  found-rearranged schemas s t faults others f g =
+      let first = found stand.start xs b s faults stand.first f in
+      let second = found stand.other ys c t others stand.second g in
+      (rw (first.1.0.0, second.1.0.0) same_faults, meant xs ys schemas b c stand s t first.0 second.0)
+
+  pub faultless-rearranged : BuildFaultlessTogether b c
+  faultless-rearranged faultless t others g =
+      let its = (found stand.other ys c t others stand.second g).1.0 in
+      its.1 (its.0 ∙ nil_from_length _ (length_permutation _ _ same_faults
+      ∙ ap length (of_list (λ start zs. faults_of b.adopts zs ≡ []) stand.start xs b stand.first
+      faultless)))

@@ -1,33 +1,17 @@
 -- What holds of each component of a type, and of the schema's definition, that parts make.
-use Rattle.std.proofs.Common.{◌≡◌, ◌∙◌, Bool, true, false, cond, List, [], None, Some, ap, map, find, refl}
-use Rattle.std.proofs.Common.{subst, sym, option_map}
-use Rattle.std.specs.List.{AllByRecursion, cons_option, flat_map}
-use Rattle.std.specs.Option.{IfSome}
-use Rattle.graphql_nodes.specs.SameText.{same_text}
-use Rattle.graphql_nodes.specs.declared.operation_type.OperationType.{OperationType}
-use Rattle.graphql_nodes.specs.declared.operation_type.OperationType.TheVariants.{Mutation, Query}
-use Rattle.graphql_nodes.specs.declared.operation_type.OperationType.TheVariants.{Subscription}
-use Rattle.graphql_nodes.specs.declared.type_kind.TypeKind.{TypeKind}
-use Rattle.graphql_ast.specs.Parts.{Sort, Directives, has, part_of, sorts}
-use Rattle.apollo_component.specs.FirstOfEach.{first_of_each}
-use Rattle.apollo_component.specs.WriteOut.{SourcedPart}
-use Rattle.apollo_component.specs.declared.component.ComponentName.{ComponentName}
-use Rattle.apollo_component.specs.declared.extension.ComponentOrigin.{ComponentOrigin}
-use Rattle.apollo_component.proofs.FirstOfEachLemmas.{each-first}
-use Rattle.apollo_component.proofs.Lists.Each.{each-append, each-weaken}
-use Rattle.apollo_types.specs.Components.{of_directive, of_root}
-use Rattle.apollo_types.specs.SchemaDefinitionWriteOut.{schema_components}
-use Rattle.apollo_types.specs.TypeWriteOut.{type_components}
-use Rattle.apollo_meaning.specs.Items.Parts.{SchemaPart, TypePart}
-use Rattle.apollo_meaning.specs.Schema.Definition.{SourcedSchema, root_in, roots_of, same_operation}
-use Rattle.apollo_meaning.specs.Schema.Definition.{schema_definition_of}
-use Rattle.apollo_meaning.specs.Types.Components.{Sourced, component, component_name}
-use Rattle.apollo_meaning.specs.Types.Meaning.{type_of_kind}
-use Rattle.apollo_schema_laws.specs.Sections.{as_parts, in_sections}
-use Rattle.apollo_schema_laws.specs.TypeSections.{name_of}
-use Rattle.apollo_schema_laws.proofs.Types.Kinds.{held, kept, sections-made, shown_in}
-use Rattle.apollo_schema_laws.proofs.Types.WrittenParts.{components-sections}
-use Rattle.apollo_schema_laws.proofs.Lists.{each-flat_map, each-map, each-of, if-found}
+use Rattle.apollo_schema_laws.proofs as laws
+pub use laws.Words.{◌≡◌, ◌∙◌, Bool, true, false, cond, List, [], None, Some, ap, map, find, refl, subst, sym}
+pub use laws.Words.{option_map, AllByRecursion, cons_option, flat_map, IfSome, same_text, OperationType}
+pub use laws.Words.{Mutation, Query, Subscription, TypeKind, first_of_each, SourcedPart, ComponentName}
+pub use laws.Words.{ComponentOrigin, each-first, each-append, each-weaken, of_directive, of_root}
+pub use laws.Words.{schema_components, type_components, SchemaPart, TypePart, SourcedSchema, root_in}
+pub use laws.Words.{roots_of, same_operation, schema_definition_of, Sourced, component, component_name}
+pub use laws.Words.{type_of_kind, as_parts, in_sections, name_of}
+pub use laws.Types.Kinds.{held, kept, sections-made, shown_in}
+pub use laws.Types.WrittenParts.{components-sections}
+pub use laws.Lists.{each-flat_map, each-map, each-of, if-found}
+pub use Rattle.graphql_ast.specs.Parts.{Sort, Directives, has, sorts}
+use Rattle.graphql_ast.specs.Parts.{part_of}
 
 -- what is made of one sort of some parts
 each-sourced : {S A C : Type 0} (Q : C → Type 0) (make : ComponentOrigin → A → C) (held : S
@@ -53,7 +37,7 @@ module _ (P : SourcedPart → Type 0) where
         parts s = as_parts (part_of s) (cond (has kind s) (kept s (shown_in (held s) ps)) [])
 
         shown : (s : Sort) → Holds s → AllByRecursion (λ x. P (x.0, part_of s x.1)) (shown_in (held s) ps)
-        shown s h = each-sourced _ _ (held s) ps h
+        shown s h = each-sourced _ _ _ ps h
 
         first : (s : Sort) → Holds s → (b : Bool)
             → AllByRecursion (λ x. P (x.0, part_of s x.1))
@@ -101,7 +85,7 @@ module _ (P : ComponentOrigin → Type 0) where
   pub each-of_type : (ps : List Sourced) → AllByRecursion (λ s. P s.0) ps
       → (kind : TypeKind) (head : TypePart)
       → AllByRecursion (λ c. P c.0) (type_components (type_of_kind kind head ps))
-  each-of_type ps a kind head = type-made _ ps kind head (λ s there. each-from (held s) ps a)
+  each-of_type ps a kind head = type-made _ ps kind head (λ s there. each-from _ ps a)
 
   pub each-of_schema : (ps : List SourcedSchema) → AllByRecursion (λ s. P s.0) ps → (head : SchemaPart)
       → AllByRecursion (λ c. P c.0) (schema_components (schema_definition_of head ps))

@@ -1,29 +1,23 @@
 -- What a type is written out as, and types of a table, read as items of a list, and what that says of one
 -- name.
-use Rattle.apollo_schema_laws.proofs.Words.Lists.{◌≡◌, Bool, List, [], ◌∷◌, None, Option, map, refl, ℕ, true}
-use Rattle.apollo_schema_laws.proofs.Words.Lists.{false, cond, ◌++◌, filter, flat_map, sym, ap, subst, ◌∙◌}
-use Rattle.apollo_schema_laws.proofs.Words.Lists.{append_assoc, append-nil, map-append, filter-append}
-use Rattle.apollo_schema_laws.proofs.Words.Lists.{AllByRecursion, IsDistinct, list_any, option_map_or}
-use Rattle.apollo_schema_laws.proofs.Words.Lists.{map-map, arith, filter_map-unmade}
-use Rattle.apollo_schema_laws.proofs.Words.Syntax.{NameView, SourceSpan, TypeKind, type_definition}
-use Rattle.apollo_schema_laws.proofs.Words.Syntax.{type_extension, Parts, is_built_in, same, same_text}
-use Rattle.apollo_schema_laws.proofs.Words.Syntax.{by_text, HasUniqueKeys, keys_of, values_of, lookup}
-use Rattle.apollo_schema_laws.proofs.Words.Syntax.{Definition}
-use Rattle.apollo_schema_laws.proofs.Words.Types.{extension_location, by_origin, of_origin, identities}
-use Rattle.apollo_schema_laws.proofs.Words.Types.{origins_in, ComponentOrigin, ExtensionId, PartsByOrigin}
-use Rattle.apollo_schema_laws.proofs.Words.Types.{type_kind, type_name, type_location, type_description}
-use Rattle.apollo_schema_laws.proofs.Words.Types.{type_components, write_type, ExtendedType, Scalar, Object}
-use Rattle.apollo_schema_laws.proofs.Words.Types.{Interface}
-use Rattle.apollo_schema_laws.proofs.Words.Meaning.{Defined, Extended, item_of, added, added_items}
-use Rattle.apollo_schema_laws.proofs.Words.Meaning.{ignorable_if, ListItem, TypePart, write_held_type}
-use Rattle.apollo_schema_laws.proofs.Words.Meaning.{TypeNamed}
-use Rattle.apollo_schema_laws.proofs.Words.Written.{in_sections, type_sections}
-use Rattle.graphql_nodes.specs.declared.type_kind.TypeKind.TheVariants as kinds
-use Rattle.graphql_ast.specs.Parts.{Sort, Directives, has, listed, of_type}
+use Rattle.apollo_schema_laws.proofs as laws
+pub use laws.Words.{◌≡◌, Bool, List, [], ◌∷◌, None, Option, map, refl, ℕ, true, false, cond, ◌++◌, filter}
+pub use laws.Words.{flat_map, sym, ap, subst, ◌∙◌, append_assoc, append-nil, map-append, filter-append}
+pub use laws.Words.{AllByRecursion, list_any, option_map_or, map-map, arith, filter_map-unmade, NameView}
+pub use laws.Words.{SourceSpan, TypeKind, type_definition, type_extension, Parts, is_built_in, same}
+pub use laws.Words.{same_text, by_text, HasUniqueKeys, keys_of, values_of, lookup, extension_location}
+pub use laws.Words.{by_origin, of_origin, identities, origins_in, ComponentOrigin, ExtensionId, PartsByOrigin}
+pub use laws.Words.{type_kind, type_name, type_location, type_description, type_components, write_type}
+pub use laws.Words.{ExtendedType, Scalar, Object, Interface, Defined, Extended, item_of, added, added_items}
+pub use laws.Words.{ignorable_if, ListItem, TypePart, write_held_type, TypeNamed, in_sections, type_sections}
+use laws.Words.{IsDistinct}
+pub use laws.Lists.{new_to_these, each-made, filter-alike}
+pub use laws.Sections.{of_origin-sections, parts_in}
+pub use laws.Items.{about, is_about, lookup-past, defined_names, defined_names-append}
+use Rattle.graphql_ast.specs.declared.definition.Definition.{Definition}
+pub use Rattle.graphql_ast.specs.Parts.{Sort, Directives, has, listed}
+use Rattle.graphql_ast.specs.Parts.{of_type}
 use Rattle.apollo_component.specs.declared.extension.ComponentOrigin.TheVariants as origins
-use Rattle.apollo_schema_laws.proofs.Lists.{new_to_these, each-made, filter-alike}
-use Rattle.apollo_schema_laws.proofs.Sections.{of_origin-sections, parts_in}
-use Rattle.apollo_schema_laws.proofs.Items.{about, is_about, lookup-past, defined_names, defined_names-append}
 
 -- the components of a type are those of its sections
 pub components-sections : (t : ExtendedType) → type_components t ≡ in_sections (type_sections t)
@@ -63,14 +57,7 @@ item-made : (kind : TypeKind) (name : NameView) (description : Option NameView) 
     → (item_of (type_definition kind description name parts location)
     ≡ Defined (part_of kind name description location parts))
     × (item_of (type_extension kind name parts location) ≡ Extended (part_of kind name None location parts))
-item-made kinds.Scalar name description location parts own = (
-  ap (λ d. Defined (part_of kinds.Scalar name description location d)) own,
-  ap (λ d. Extended (part_of kinds.Scalar name None location d)) own,
-)
-item-made kind name description location parts own = (
-  ap (λ d. Defined (part_of kind name description location d)) own,
-  ap (λ d. Extended (part_of kind name None location d)) own,
-)
+item-made kind name description location parts own = (grind (arith, own), grind (arith, own))
 
 module _ (t : ExtendedType) where
   -- the parts of its definition and of its extensions
@@ -141,13 +128,11 @@ module _ (c : Bool) where
     -- the items of a type are about its name
     each-held : (t : ExtendedType)
         → AllByRecursion (λ x. is_about (TypeNamed n) x ≡ same n (type_name t).text) (held_items t)
-    each-held t = elim (is_built_in (type_location t)) as (λ b. AllByRecursion (λ x. is_about (TypeNamed n) x
+    each-held t =
+        let extensions = each-made _ _ (λ e. refl) (written t).extensions in
+        elim (is_built_in (type_location t)) as (λ b. AllByRecursion (λ x. is_about (TypeNamed n) x
         ≡ same n (type_name t).text) (cond b (extension_items t) (Defined (definition_as t c)
         ∷ extension_items t))) [ true ↦ extensions | false ↦ (refl, extensions) ]
-      where
-        extensions : AllByRecursion (λ x. is_about (TypeNamed n) x ≡ same n (type_name t).text)
-            (extension_items t)
-        extensions = each-made _ _ (λ e. refl) (written t).extensions
 
     -- so a table of types says of a name what its type does
     pub about-types : (es : List (NameView × ExtendedType)) → HasUniqueKeys same_text es
@@ -156,10 +141,15 @@ module _ (c : Bool) where
         ≡ option_map_or held_items (lookup (by_text n) es) []
     unfolding IsDistinct
     about-types [] d named = refl
-    about-types (e ∷ es) d named = filter-append _ (held_items e.1) _
-        ∙ (λ i. (filter-alike _ _ _ (each-held e.1)
-        ∙ ap (λ (k : NameView). cond (same n k.text) (held_items e.1) []) named.0) i ++ about-types es d.1
-        named.1 i) ∙ grind (arith, (lookup-past n e es d), append-nil)
+    about-types (e ∷ es) d named = grind (
+      arith,
+      filter-append (is_about (TypeNamed n)) (held_items e.1) (flat_map held_items (values_of es)),
+      filter-alike _ _ _ (each-held e.1),
+      named.0,
+      about-types es d.1 named.1,
+      lookup-past n e es d,
+      append-nil,
+    )
 
   -- and defines the types that aren't built in
   defines-held : (t : ExtendedType)
@@ -172,6 +162,11 @@ module _ (c : Bool) where
       → defined_names (flat_map held_items (values_of es)) ≡ filter (new_to_these same_text known)
       (keys_of es)
   defines-types known [] named marked = refl
-  defines-types known (e ∷ es) named marked = defined_names-append (held_items e.1) _
-      ∙ (λ i. (defines-held e.1 ∙ (λ j. cond (marked.0 j) [] (named.0 j ∷ []))) i ++ defines-types known es
-      named.1 marked.1 i) ∙ grind arith
+  defines-types known (e ∷ es) named marked = grind (
+    arith,
+    defined_names-append (held_items e.1) (flat_map held_items (values_of es)),
+    defines-held e.1,
+    marked.0,
+    named.0,
+    defines-types known es named.1 marked.1,
+  )

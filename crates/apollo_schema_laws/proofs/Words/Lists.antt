@@ -6,8 +6,8 @@ pub use Rattle.std.proofs.Common.{◌++◌, ◌+◌, ◌==◌, ◌||◌, ◌∙�
 pub use Rattle.std.specs.Cmp.{IsEquivalence, nat_eq_equiv, on_equiv}
 pub use Rattle.std.specs.Cmp.Lexicographic.{nat_list_eq_equiv}
 unfoldable pub use Rattle.std.specs.List.{IsDistinct}
-pub use Rattle.std.specs.List.{flat_map, All, Contains, AllByRecursion, cons_option, enumerate_from}
-pub use Rattle.std.specs.List.{filter_map, last_or, list_all, list_any, range_with_len}
+pub use Rattle.std.specs.List.{flat_map, All, AllByRecursion, cons_option, enumerate_from, filter_map}
+pub use Rattle.std.specs.List.{last_or, list_all, list_any, range_with_len}
 pub use Rattle.std.specs.List.Sorted.{IsPermutation}
 pub use Rattle.std.specs.Option.{IfSome, option_eq, option_map_or, option_or, unwrap_or}
 pub use Rattle.std.specs.Prelude.{nat_eq, ◌≢◌}

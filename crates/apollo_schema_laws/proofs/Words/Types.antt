@@ -3,7 +3,7 @@ pub use Rattle.apollo_component.specs.BareComponents.{bare_component, bare_compo
 pub use Rattle.apollo_component.specs.EachAfter.{each_after}
 pub use Rattle.apollo_component.specs.Extensions.{extension_id, id_of, number_of, extension_location, same_id}
 pub use Rattle.apollo_component.specs.Extensions.{same_origin}
-pub use Rattle.apollo_component.specs.FirstOfEach.{first_of_each, same_key}
+pub use Rattle.apollo_component.specs.FirstOfEach.{first_of_each}
 pub use Rattle.apollo_component.specs.WriteOut.{SourcedPart, by_origin, identities, of_extensions, of_origin}
 pub use Rattle.apollo_component.specs.WriteOut.{origins_in, written_type}
 pub use Rattle.apollo_component.specs.declared.component.Component.{Component}
@@ -22,7 +22,7 @@ pub use Rattle.apollo_types.specs.Components.{of_directive, of_root, root_node}
 pub use Rattle.apollo_types.specs.SchemaDefinitionWriteOut.{has_implied_root, has_own_root, implied_name}
 pub use Rattle.apollo_types.specs.SchemaDefinitionWriteOut.{is_implied, is_some_object, is_written}
 pub use Rattle.apollo_types.specs.SchemaDefinitionWriteOut.{schema_components, write_schema_definition}
-pub use Rattle.apollo_types.specs.SchemaRoots.{named_roots, operation_types, root_of}
+pub use Rattle.apollo_types.specs.SchemaRoots.{operation_types, root_of}
 pub use Rattle.apollo_types.specs.TypeKinds.{is_object}
 pub use Rattle.apollo_types.specs.TypeWriteOut.{type_components, type_description, type_kind, type_location}
 pub use Rattle.apollo_types.specs.TypeWriteOut.{type_name, write_type}

@@ -1,4 +1,4 @@
-use Rattle.apollo_schema_laws.proofs.Rearranged.Schemas.{built-alike, schemas-alike}
+use Rattle.apollo_schema_laws.proofs.Rearranged.Types.{built-alike, schemas-alike}
 use Rattle.apollo_schema_laws.proofs.rearranged_builds.equal_lists.Goals as goal
 
 pub returns-clause-schemas : goal.returns-clause-schemas

@@ -1,4 +1,4 @@
-use Rattle.apollo_schema_laws.proofs.Rearranged.Rearranging.{one_by_one}
+use Rattle.apollo_schema_laws.proofs.Rearranged.Found.{one_by_one}
 use Rattle.apollo_schema_laws.proofs.rearrangement.documents_one_by_one.Goals as goal
 
 pub returns : goal.returns

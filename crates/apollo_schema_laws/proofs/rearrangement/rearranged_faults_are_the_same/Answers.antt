@@ -1,6 +1,5 @@
-use Rattle.apollo_meaning.specs.Items.ListItems.{added_items}
 use Rattle.apollo_schema_laws.proofs.Rearranged.Found.{faults-rearranged}
 use Rattle.apollo_schema_laws.proofs.rearrangement.rearranged_faults_are_the_same.Goals as goal
 
 pub returns : goal.returns
-returns c = λ adopts xs ys. faults-rearranged adopts (added_items xs) (added_items ys)
+returns c = faults-rearranged

@@ -1,5 +1,5 @@
-use Rattle.apollo_schema_laws.proofs.Rearranged.Rearranging.{rearranged-refl, rearranged-sym}
-use Rattle.apollo_schema_laws.proofs.Rearranged.Rearranging.{rearranged-trans}
+use Rattle.apollo_schema_laws.proofs.Rearranged.Found.{rearranged-refl, rearranged-sym}
+use Rattle.apollo_schema_laws.proofs.Rearranged.Found.{rearranged-trans}
 use Rattle.apollo_schema_laws.proofs.rearrangement.rearranging_is_an_equivalence.Goals as goal
 
 pub returns-clause-itself : goal.returns-clause-itself
