@@ -1,8 +1,8 @@
 -- A text that is refused for its format is refused for nothing else, and is not of the form.
-use Rattle.std.proofs.Common.{◌≡◌, ◌++◌, ℕ, List, codes, refl, subst, sym, ◌∙◌, inl, inr}
+use Rattle.std.proofs.Common.{◌≡◌, ℕ, List, subst, sym, ◌∙◌, inl, inr}
 use Rattle.graphql_nodes.specs.declared.name.InvalidNameError.{InvalidNameError}
 use Rattle.apollo_coordinate.specs.CoordinateText.{IsAttributeText, IsFieldArgumentText, IsDirectiveText}
-use Rattle.apollo_coordinate.specs.CoordinateText.{SaysCoordinate}
+use Rattle.apollo_coordinate.specs.CoordinateText.{IsDirectiveArgumentText, SaysCoordinate}
 use Rattle.apollo_coordinate.specs.Refusals.{IsNoNames, IsNoAttribute, IsNoDirective, IsNoArgument, IsNoPair}
 use Rattle.apollo_coordinate.specs.Refusals.{IsNoArgumentOf, IsNoFieldArgument, IsNoDirectiveArgument}
 use Rattle.apollo_coordinate.specs.declared.coordinates.TypeAttributeCoordinate.{TypeAttributeCoordinate}
@@ -17,7 +17,7 @@ use Rattle.apollo_coordinate.specs.declared.parse_error.SchemaCoordinateParseErr
 use Rattle.apollo_coordinate.proofs.GrammarLemmas.{cut_lacks, no_attribute, no_directive, no_field_argument}
 use Rattle.apollo_coordinate.proofs.GrammarLemmas.{no_directive_argument}
 use Rattle.apollo_coordinate.proofs.MarkLemmas.{one_cut}
-use Rattle.apollo_coordinate.proofs.TextLemmas.{field_argument_form}
+use Rattle.apollo_coordinate.proofs.TextLemmas.{field_argument_form, directive_argument_form}
 
 -- a form whose refusals for the format are its only ones
 abbrev pub IsRefusedAlone : (List ℕ → SchemaCoordinateParseError → Type 0) → Type 0
@@ -86,12 +86,5 @@ field_argument_said t c e said none = no_field_argument t e none (subst IsFieldA
 
 pub directive_argument_said : (t : List ℕ) (c : DirectiveArgumentCoordinate) (e : SchemaCoordinateParseError)
     → SaysCoordinate t (DirectiveArgument c) → IsNoDirectiveArgument t e → ⊥
-directive_argument_said t c e said none =
-    let head : IsDirectiveText (codes "@" ++ c.directive.text) = (c.directive.text, refl, said.1.0.0) in
-    no_directive_argument t e none (
-      codes "@" ++ c.directive.text,
-      c.argument.text,
-      sym said.0,
-      head,
-      said.1.1.0.0,
-    )
+directive_argument_said t c e said none = no_directive_argument t e none (subst IsDirectiveArgumentText said.0
+    (directive_argument_form c said.1.0.0 said.1.1.0.0))

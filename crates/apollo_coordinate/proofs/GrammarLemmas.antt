@@ -1,6 +1,6 @@
 -- What the marks of a text say of its form, and that a refused text is outside the grammar.
 use Rattle.std.proofs.Common.{◌≡◌, ◌≢◌, ◌<◌, ◌++◌, ℕ, List, [], ◌∷◌, true, false, not, nat_eq, codes, refl}
-use Rattle.std.proofs.Common.{sym, ap, subst, ◌∙◌, inl, inr, arith}
+use Rattle.std.proofs.Common.{sym, ap, subst, ◌∙◌, inl, inr, arith, append-nil}
 use Rattle.std.specs.Cmp.Lexicographic.{pointwise}
 use Rattle.std.proofs.lemmas.List.Elements.{All-weaker, All-append, All-cons}
 use Rattle.graphql_nodes.specs.NameSyntax.{IsName, IsNameStart, IsNameContinue}
@@ -20,16 +20,10 @@ abbrev pub IsMark : ℕ → Type 0
 IsMark c = IsNameContinue c → ⊥
 
 pub low_mark : (c : ℕ) → c < 48 → IsMark c
-low_mark c low (inl (inl (inl p))) = omega arith
-low_mark c low (inl (inl (inr p))) = omega arith
-low_mark c low (inl (inr e)) = omega arith
-low_mark c low (inr p) = omega arith
+low_mark c low continues = grind (arith, continues)
 
 pub middle_mark : (c : ℕ) → 57 < c → c < 65 → IsMark c
-middle_mark c above below (inl (inl (inl p))) = omega arith
-middle_mark c above below (inl (inl (inr p))) = omega arith
-middle_mark c above below (inl (inr e)) = omega arith
-middle_mark c above below (inr p) = omega arith
+middle_mark c above below continues = grind (arith, continues)
 
 pub point : IsMark 46
 point = low_mark 46 (omega arith)
@@ -59,8 +53,7 @@ name_first (c ∷ cs) more name at = at_sign (inl (subst IsNameStart (head_same 
 
 -- what the marks of each form are
 pub type_begins : (t : List ℕ) → IsTypeText t → BeginsAt t → ⊥
-type_begins [] name at = absurd name
-type_begins (c ∷ cs) name at = at_sign (inl (subst IsNameStart (head_same at.1) name.0))
+type_begins t name at = name_first t [] name (rw (append-nil t) at)
 
 pub attribute_begins : (t : List ℕ) → IsAttributeText t → BeginsAt t → ⊥
 attribute_begins t form at = name_first form.0 (codes "." ++ form.1) form.3 (at.0, sym form.2 ∙ at.1)
@@ -98,18 +91,28 @@ attribute_cut t form lacks = no_cut 46 form.0 form.1 (subst (Lacks 46) form.2 la
 -- a text of the grammar is of the form that its marks say
 pub only_directive_argument : (t : List ℕ) → BeginsAt t → (Lacks 40 t → ⊥) → IsCoordinateText t
     → IsDirectiveArgumentText t
-only_directive_argument t at cut (inl form) = absurd (type_begins t form at)
-only_directive_argument t at cut (inr (inl form)) = absurd (attribute_begins t form at)
-only_directive_argument t at cut (inr (inr (inl form))) = absurd (field_argument_begins t form at)
-only_directive_argument t at cut (inr (inr (inr (inl form)))) = absurd (cut (directive_lacks t form))
-only_directive_argument t at cut (inr (inr (inr (inr form)))) = form
+only_directive_argument t at cut form = grind (
+  arith,
+  form,
+  at,
+  cut,
+  type_begins t,
+  attribute_begins t,
+  field_argument_begins t,
+  directive_lacks t,
+)
 
 pub only_directive : (t : List ℕ) → BeginsAt t → Lacks 40 t → IsCoordinateText t → IsDirectiveText t
-only_directive t at lacks (inl form) = absurd (type_begins t form at)
-only_directive t at lacks (inr (inl form)) = absurd (attribute_begins t form at)
-only_directive t at lacks (inr (inr (inl form))) = absurd (field_argument_begins t form at)
-only_directive t at lacks (inr (inr (inr (inl form)))) = form
-only_directive t at lacks (inr (inr (inr (inr form)))) = absurd (argument_cut IsDirectiveText t form lacks)
+only_directive t at lacks form = grind (
+  arith,
+  form,
+  at,
+  lacks,
+  type_begins t,
+  attribute_begins t,
+  field_argument_begins t,
+  argument_cut IsDirectiveText t,
+)
 
 pub argument_begins : (t : List ℕ) → IsDirectiveArgumentText t → BeginsAt t
 argument_begins t form = (
@@ -127,23 +130,32 @@ only_field_argument t never cut (inr (inr (inr (inr form)))) = absurd (never (ar
 
 pub only_attribute : (t : List ℕ) → (BeginsAt t → ⊥) → Lacks 40 t → (Lacks 46 t → ⊥) → IsCoordinateText t
     → IsAttributeText t
-only_attribute t never lacks cut (inl form) = absurd (cut (name_lacks 46 point t form))
-only_attribute t never lacks cut (inr (inl form)) = form
-only_attribute t never lacks cut (inr (inr (inl form))) = absurd (argument_cut IsAttributeText t form lacks)
-only_attribute t never lacks cut (inr (inr (inr (inl form)))) = absurd (never (form.0, form.1))
-only_attribute t never lacks cut (inr (inr (inr (inr form)))) = absurd (never (argument_begins t form))
+only_attribute t never lacks cut form = grind (
+  arith,
+  form,
+  never,
+  lacks,
+  cut,
+  name_lacks 46 point t,
+  argument_begins t,
+  argument_cut IsAttributeText t,
+)
 
 pub only_type : (t : List ℕ) → (BeginsAt t → ⊥) → Lacks 40 t → Lacks 46 t → IsCoordinateText t → IsTypeText t
-only_type t never lacks whole (inl form) = form
-only_type t never lacks whole (inr (inl form)) = absurd (attribute_cut t form whole)
-only_type t never lacks whole (inr (inr (inl form))) = absurd (argument_cut IsAttributeText t form lacks)
-only_type t never lacks whole (inr (inr (inr (inl form)))) = absurd (never (form.0, form.1))
-only_type t never lacks whole (inr (inr (inr (inr form)))) = absurd (never (argument_begins t form))
+only_type t never lacks whole form = grind (
+  arith,
+  form,
+  never,
+  lacks,
+  whole,
+  attribute_cut t,
+  argument_begins t,
+  argument_cut IsAttributeText t,
+)
 
 -- what a form refuses is outside it
 pub no_names : (ty a : List ℕ) (e : SchemaCoordinateParseError) → IsNoNames ty a e → IsName ty → IsName a → ⊥
-no_names ty a e (inl first) name other = first.0 name
-no_names ty a e (inr second) name other = second.1.0 other
+no_names ty a e none name other = grind (arith, none)
 
 pub no_attribute : (t : List ℕ) (e : SchemaCoordinateParseError) → IsNoAttribute t e → IsAttributeText t → ⊥
 no_attribute t e (inl none) form = attribute_cut t form none.0

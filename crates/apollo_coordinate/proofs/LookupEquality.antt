@@ -28,8 +28,8 @@ module _ (fields : ComparesBy field_eq.ghosts.eq bare_field_definition)
     (input_values : ComparesBy input_value_eq.ghosts.eq bare_input_value_definition)
     (enum_values : ComparesBy enum_value_eq.ghosts.eq bare_enum_value_definition) where
   pub attribute_at : (a b : TypeAttributeLookup) → At attribute.ghosts.eq bare_attribute_lookup a b
-  attribute_at (attributes.Field x) (attributes.Field y) =
-      under fields BareLookup.Field (λ b c e. cc) x.now.node.value y.now.node.value
+  attribute_at (attributes.Field x) (attributes.Field y) = under fields BareLookup.Field (λ b c e. cc)
+      x.now.node.value y.now.node.value
   attribute_at (attributes.InputField x) (attributes.InputField y) =
       under input_values BareLookup.InputField (λ b c e. cc) x.now.node.value y.now.node.value
   attribute_at (attributes.EnumValue x) (attributes.EnumValue y) =
@@ -47,6 +47,6 @@ module _ (fields : ComparesBy field_eq.ghosts.eq bare_field_definition)
         attribute_at (attributes.InputField x) (attributes.InputField y)
     answer_at (answers.EnumValue x) (answers.EnumValue y) =
         attribute_at (attributes.EnumValue x) (attributes.EnumValue y)
-    answer_at (answers.Argument x) (answers.Argument y) =
-        under input_values BareLookup.Argument (λ b c e. cc) x.now.value y.now.value
+    answer_at (answers.Argument x) (answers.Argument y) = under input_values BareLookup.Argument (λ b c e. cc)
+        x.now.value y.now.value
     answer_at a b = (λ h. cc, λ h. cc)

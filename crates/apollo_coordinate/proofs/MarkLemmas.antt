@@ -11,8 +11,7 @@ use Rattle.graphql_nodes.proofs.Comparisons.{head_same, tail_same}
 use Rattle.apollo_coordinate.specs.Refusals.{Lacks, IsCut}
 
 pub lacks_all : (mark : ℕ) (t : List ℕ) → position_or_len (λ b. nat_eq b mark) t ≡ length t → Lacks mark t
-lacks_all mark t none =
-    All-from_get_or (λ b. b ≢ mark) t 0
+lacks_all mark t none = All-from_get_or (λ b. b ≢ mark) t 0
     (λ i h. eqb-false _ mark (fails_before_first (λ b. nat_eq b mark) t i 0 (omega arith)))
 
 pub lacks_before : (mark : ℕ) (t : List ℕ) → Lacks mark (before_first (λ b. nat_eq b mark) t)
@@ -21,8 +20,8 @@ lacks_before mark t =
     All-from_get_or (λ b. b ≢ mark) (take n t) 0 (λ i h.
     let k : i < n = subst (λ (m : ℕ). i < m) (length-prefix_len (λ (b : ℕ). not (nat_eq b mark)) t) h in
     let P : ℕ → Type 0 = λ b. b ≢ mark in
-    subst P (sym (get_or-take n t i 0 k))
-    (eqb-false _ mark (fails_before_first (λ b. nat_eq b mark) t i 0 k)))
+    subst P (sym (get_or-take n t i 0 k)) (eqb-false _ mark (fails_before_first (λ b. nat_eq b mark) t i 0
+    k)))
 
 pub first_cut : (mark : ℕ) (t : List ℕ) → position_or_len (λ b. nat_eq b mark) t < length t
     → IsCut mark t (before_first (λ b. nat_eq b mark) t) (after_first (λ b. nat_eq b mark) t)
@@ -30,8 +29,7 @@ first_cut mark t some =
     let p = λ (b : ℕ). nat_eq b mark in
     let here : get_or t (position_or_len p t) 0 ≡ mark = eqb-true _ mark (passes_at_first p t 0 some) in (
       lacks_before mark t,
-      split_at_first p t 0 some
-          ∙ ap (λ (b : ℕ). before_first p t ++ (b ∷ after_first p t)) here,
+      split_at_first p t 0 some ∙ ap (λ (b : ℕ). before_first p t ++ (b ∷ after_first p t)) here,
     )
 
 -- a text without the mark is cut nowhere

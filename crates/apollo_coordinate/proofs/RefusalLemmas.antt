@@ -1,5 +1,5 @@
 -- The error that a refusal is answered as.
-use Rattle.std.proofs.Common.{◌≡◌, sym, subst}
+use Rattle.std.proofs.Common.{◌≡◌}
 use Rattle.apollo_coordinate.specs.Refusals.{WhenRefused}
 use Rattle.apollo_coordinate.specs.declared.parse_error.SchemaCoordinateParseError.{SchemaCoordinateParseError}
 use Rattle.apollo_coordinate.specs.declared.parse_error.SchemaCoordinateParseError.TheVariants.{InvalidFormat}
@@ -9,6 +9,6 @@ use Rattle.apollo_coordinate.specs.declared.parse_error.SchemaCoordinateParseErr
 -- what holds of the error that is asked for holds of the one that is answered, unless memory ran out
 pub answered : (Holds : SchemaCoordinateParseError → Type 0) (e asked : SchemaCoordinateParseError)
     → Holds asked → WhenRefused (λ error. error ≡ asked) e → WhenRefused Holds e
-answered Holds InvalidFormat asked holds same = subst Holds (sym same) holds
-answered Holds (InvalidName n) asked holds same = subst Holds (sym same) holds
 answered Holds Memory asked holds same = tt
+answered Holds InvalidFormat asked holds same = rw same holds
+answered Holds (InvalidName n) asked holds same = rw same holds

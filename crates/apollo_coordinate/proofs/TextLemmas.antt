@@ -13,6 +13,7 @@ use Rattle.apollo_coordinate.specs.CoordinateText.{bare_coordinate}
 use Rattle.apollo_coordinate.specs.Refusals.{Lacks}
 use Rattle.apollo_coordinate.specs.Readings.{IsReadingOf, IsReadBack}
 use Rattle.apollo_coordinate.specs.declared.coordinates.FieldArgumentCoordinate.{FieldArgumentCoordinate}
+use Rattle.apollo_coordinate.specs.declared.coordinates.DirectiveArgumentCoordinate.{DirectiveArgumentCoordinate}
 use Rattle.apollo_coordinate.specs.declared.coordinates.SchemaCoordinate.{SchemaCoordinate}
 use Rattle.apollo_coordinate.specs.declared.coordinates.SchemaCoordinate.TheVariants.{Ty, TypeAttribute}
 use Rattle.apollo_coordinate.specs.declared.coordinates.SchemaCoordinate.TheVariants.{FieldArgument}
@@ -23,26 +24,21 @@ use Rattle.apollo_coordinate.specs.declared.parse_error.SchemaCoordinateParseErr
 use Rattle.apollo_coordinate.specs.declared.parse_error.SchemaCoordinateParseError.TheVariants.{InvalidName}
 use Rattle.apollo_coordinate.specs.declared.parse_error.SchemaCoordinateParseError.TheVariants.{Memory}
 use Rattle.apollo_coordinate.proofs.MarkLemmas.{one_cut}
-use Rattle.apollo_coordinate.proofs.GrammarLemmas.{BeginsAt, point, bracket, colon, name_lacks, type_begins}
-use Rattle.apollo_coordinate.proofs.GrammarLemmas.{attribute_begins, field_argument_begins, attribute_lacks}
-use Rattle.apollo_coordinate.proofs.GrammarLemmas.{directive_lacks, attribute_cut, argument_cut}
+use Rattle.apollo_coordinate.proofs.GrammarLemmas.{BeginsAt, argument_begins, point, bracket, colon}
+use Rattle.apollo_coordinate.proofs.GrammarLemmas.{name_lacks, type_begins, attribute_begins}
+use Rattle.apollo_coordinate.proofs.GrammarLemmas.{field_argument_begins, attribute_lacks, directive_lacks}
+use Rattle.apollo_coordinate.proofs.GrammarLemmas.{attribute_cut, argument_cut}
 
 pub field_argument_form : (c : FieldArgumentCoordinate) → IsName c.ty.text → IsName c.field.text
     → IsName c.argument.text → IsFieldArgumentText (coordinate_text (FieldArgument c))
 field_argument_form c ty field argument =
-    let head : IsAttributeText (c.ty.text ++ (codes "." ++ c.field.text)) = (
-      c.ty.text,
-      c.field.text,
-      refl,
-      ty,
-      field,
-    ) in (
-      c.ty.text ++ (codes "." ++ c.field.text),
-      c.argument.text,
-      sym (append_assoc c.ty.text (codes "." ++ c.field.text) (codes "(" ++ (c.argument.text ++ codes ":)"))),
-      head,
-      argument,
-    )
+    let head : IsAttributeText (c.ty.text ++ (codes "." ++ c.field.text)) = (_, _, refl, ty, field) in
+    (_, _, sym (append_assoc c.ty.text (codes "." ++ c.field.text) _), head, argument)
+
+pub directive_argument_form : (c : DirectiveArgumentCoordinate) → IsName c.directive.text
+    → IsName c.argument.text → IsDirectiveArgumentText (coordinate_text (DirectiveArgument c))
+directive_argument_form c directive argument =
+    (codes "@" ++ c.directive.text, c.argument.text, refl, (c.directive.text, refl, directive), argument)
 
 -- the text in the grammar
 pub in_grammar : (c : SchemaCoordinate) → HasNames c → IsCoordinateText (coordinate_text c)
@@ -50,13 +46,7 @@ in_grammar (Ty c) names = inl names.0
 in_grammar (TypeAttribute c) names = inr (inl (c.ty.text, c.attribute.text, refl, names.0, names.1.0))
 in_grammar (FieldArgument c) names = inr (inr (inl (field_argument_form c names.0 names.1.0 names.1.1.0)))
 in_grammar (Directive c) names = inr (inr (inr (inl (c.directive.text, refl, names.0))))
-in_grammar (DirectiveArgument c) names = inr (inr (inr (inr (
-  codes "@" ++ c.directive.text,
-  c.argument.text,
-  refl,
-  (c.directive.text, refl, names.0),
-  names.1.0,
-))))
+in_grammar (DirectiveArgument c) names = inr (inr (inr (inr (directive_argument_form c names.0 names.1.0))))
 
 -- the marks of the text
 abbrev HasMarks : SchemaCoordinate → List ℕ → Type 0
@@ -73,13 +63,7 @@ marks (Ty c) names = (
   name_lacks 46 point c.ty.text names.0,
 )
 marks (TypeAttribute c) names =
-    let form : IsAttributeText (coordinate_text (TypeAttribute c)) = (
-      c.ty.text,
-      c.attribute.text,
-      refl,
-      names.0,
-      names.1.0,
-    ) in
+    let form : IsAttributeText (coordinate_text (TypeAttribute c)) = (_, _, refl, names.0, names.1.0) in
     (attribute_begins _ form, attribute_lacks _ form, attribute_cut _ form)
 marks (FieldArgument c) names =
     let form = field_argument_form c names.0 names.1.0 names.1.1.0 in
@@ -88,13 +72,8 @@ marks (Directive c) names =
     let form : IsDirectiveText (coordinate_text (Directive c)) = (c.directive.text, refl, names.0) in
     ((c.directive.text, refl), directive_lacks _ form, tt)
 marks (DirectiveArgument c) names =
-    let head : IsDirectiveText (codes "@" ++ c.directive.text) = (c.directive.text, refl, names.0) in
-    let form : IsDirectiveArgumentText (coordinate_text (DirectiveArgument c)) =
-    (codes "@" ++ c.directive.text, c.argument.text, refl, head, names.1.0) in (
-      (c.directive.text ++ (codes "(" ++ (c.argument.text ++ codes ":)")), refl),
-      argument_cut IsDirectiveText _ form,
-      tt,
-    )
+    let form = directive_argument_form c names.0 names.1.0 in
+    (argument_begins _ form, argument_cut IsDirectiveText _ form, tt)
 
 bare_same : (n m : NameView) → n.text ≡ m.text → bare_name n ≡ bare_name m
 bare_same n m h = λ i. record { text = h i; location = None }
@@ -109,18 +88,14 @@ same_form : (c d : SchemaCoordinate) → HasNames c → HasNames d → coordinat
     → HasMarks c (coordinate_text c) → HasMarks d (coordinate_text c) → bare_coordinate c ≡ bare_coordinate d
 same_form (Ty c) (Ty d) m n h u v = let n = bare_same c.ty d.ty h in λ i. Ty (record { ty = n i })
 same_form (TypeAttribute c) (TypeAttribute d) m n h u v =
-    let cut = one_cut 46 c.ty.text c.attribute.text d.ty.text d.attribute.text (name_lacks 46 point c.ty.text
-    m.0) (name_lacks 46 point d.ty.text n.0) h in
+    let cut = one_cut 46 _ _ _ _ (name_lacks 46 point c.ty.text m.0) (name_lacks 46 point d.ty.text n.0) h in
     let first = bare_same c.ty d.ty cut.0 in
     let second = bare_same c.attribute d.attribute cut.1 in
     λ i. TypeAttribute (record { ty = first i; attribute = second i })
 same_form (FieldArgument c) (FieldArgument d) m n h u v =
-    let cut = one_cut 46 c.ty.text (c.field.text ++ (codes "(" ++ (c.argument.text ++ codes ":)"))) d.ty.text
-    (d.field.text ++ (codes "(" ++ (d.argument.text ++ codes ":)"))) (name_lacks 46 point c.ty.text m.0)
-    (name_lacks 46 point d.ty.text n.0) h in
-    let next = one_cut 40 c.field.text (c.argument.text ++ codes ":)") d.field.text (d.argument.text
-    ++ codes ":)") (name_lacks 40 bracket c.field.text m.1.0) (name_lacks 40 bracket d.field.text n.1.0)
-    cut.1 in
+    let cut = one_cut 46 _ _ _ _ (name_lacks 46 point c.ty.text m.0) (name_lacks 46 point d.ty.text n.0) h in
+    let next = one_cut 40 c.field.text _ d.field.text _ (name_lacks 40 bracket c.field.text m.1.0)
+    (name_lacks 40 bracket d.field.text n.1.0) cut.1 in
     let first = bare_same c.ty d.ty cut.0 in
     let second = bare_same c.field d.field next.0 in
     let third = argument_same c.argument d.argument m.1.1.0 n.1.1.0 next.1 in
@@ -128,9 +103,8 @@ same_form (FieldArgument c) (FieldArgument d) m n h u v =
 same_form (Directive c) (Directive d) m n h u v =
     let n = bare_same c.directive d.directive (tail_same h) in λ i. Directive (record { directive = n i })
 same_form (DirectiveArgument c) (DirectiveArgument d) m n h u v =
-    let cut = one_cut 40 c.directive.text (c.argument.text ++ codes ":)") d.directive.text (d.argument.text
-    ++ codes ":)") (name_lacks 40 bracket c.directive.text m.0) (name_lacks 40 bracket d.directive.text
-    n.0) (tail_same h) in
+    let cut = one_cut 40 c.directive.text _ d.directive.text _ (name_lacks 40 bracket c.directive.text m.0)
+    (name_lacks 40 bracket d.directive.text n.0) (tail_same h) in
     let first = bare_same c.directive d.directive cut.0 in
     let second = argument_same c.argument d.argument m.1.0 n.1.0 cut.1 in
     λ i. DirectiveArgument (record { directive = first i; argument = second i })

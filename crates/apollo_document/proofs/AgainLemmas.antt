@@ -1,7 +1,7 @@
 -- A list builds one document, and a built document is that of its own write-out.
-use Rattle.std.proofs.Common.{◌≡◌, ◌∙◌, ap, sym, subst, refl, Bool, true, false, cond, not, List, [], ◌∷◌}
-use Rattle.std.proofs.Common.{◌++◌, map, filter, Option, None, Some, option_map, is_some, unwrap_or}
-use Rattle.std.specs.List.{AllByRecursion, AllZip, IsDistinct, filter_map, flat_map, find, cons_option}
+use Rattle.std.proofs.Common.{arith, ◌≡◌, ◌∙◌, ap, sym, subst, refl, Bool, true, List, [], ◌∷◌, ◌++◌, map}
+use Rattle.std.proofs.Common.{filter, Option, None, Some, option_map, is_some, unwrap_or}
+use Rattle.std.specs.List.{AllByRecursion, AllZip, IsDistinct, filter_map, flat_map, find}
 use Rattle.std.proofs.lemmas.List.{map-append}
 use Rattle.std.proofs.lemmas.List.Folds.{flat_map-map}
 use Rattle.graphql_nodes.specs.NameView.{NameView}
@@ -58,8 +58,7 @@ module _ {A B : Type 0} (R : A → B → Type 0) where
 
   -- lists that are related to one list are one, where each thing has one value
   one_list : IsOne → (ks : List A) (es fs : List B) → AllZip R ks es → AllZip R ks fs → es ≡ fs
-  one_list one [] [] [] h g = refl
-  one_list one [] [] (f ∷ fs) h g = absurd g
+  one_list one [] [] fs h g = grind (arith, g)
   one_list one (k ∷ ks) (e ∷ es) [] h g = absurd g
   one_list one (k ∷ ks) (e ∷ es) (f ∷ fs) h g =
       let first = one k e f h.0 g.0 in let rest = one_list one ks es fs h.1 g.1 in λ i. first i ∷ rest i
@@ -67,12 +66,8 @@ module _ {A B : Type 0} (R : A → B → Type 0) where
 
   one_option : IsOne → (k : Option A) (e f : Option B) → AllZip R (listed k) (listed e)
       → AllZip R (listed k) (listed f) → e ≡ f
-  one_option one k e f h g = by e f (one_list one (listed k) (listed e) (listed f) h g)
-    where
-      by : (e f : Option B) → listed e ≡ listed f → e ≡ f
-      by None None is = refl
-      by (Some e) (Some f) is = cc
-      by e f is = cc
+  one_option one k e f h g =
+      let same : listed e ≡ listed f = one_list one _ _ _ h g in grind arith
 
   -- what follows for each of the second list, from what is so of each of the first
   each_second : {C : Type 0} (Q : A → Type 0) (f : B → C) (P : C → Type 0)
@@ -91,7 +86,7 @@ module _ {A B : Type 0} (R : A → B → Type 0) where
     self_option : (k : Option A) (e : Option B) → AllZip R (listed k) (listed e)
         → AllZip R (listed (option_map erase e)) (listed e)
     self_option k None h = tt
-    self_option k (Some e) h = self_list (listed k) (e ∷ []) h
+    self_option k (Some e) h = self_list _ (e ∷ []) h
 
 -- ---- the same under names
 
@@ -107,9 +102,7 @@ module _ {A B : Type 0} (R : A → B → Type 0) where
   unfolding IsDistinct
   distinct_table erase [] [] h g = tt
   distinct_table erase (k ∷ ks) (e ∷ es) h g = (
-    each_second (IsUnderName R) (λ l. same_key same_text k l ≡ false) (λ f. (f.0, erase f.1))
-        (λ (y : NameView × A). same_text e.0 y.0 ≡ false)
-        (λ l f z a. (λ i. same_text (h.0.0 i) (z.0 i)) ∙ a) ks es h.1 g.0,
+    each_second _ _ _ _ (λ l f z a. (λ i. same_text (h.0.0 i) (z.0 i)) ∙ a) ks es h.1 g.0,
     distinct_table erase ks es h.1 g.1,
   )
   distinct_table erase ks es h g = absurd h
@@ -120,23 +113,10 @@ module _ {A B : Type 0} (R : A → B → Type 0) where
 has_its_name : (os : List Op)
     → AllByRecursion (λ x. x.1.value.name ≡ Some x.0) (filter_map operation_under_name os)
 has_its_name [] = tt
-has_its_name (n ∷ os) = by n.value.name refl (has_its_name os)
-  where
-    by : (o : Option NameView) → n.value.name ≡ o
-        → AllByRecursion (λ x. x.1.value.name ≡ Some x.0) (filter_map operation_under_name os)
-        → AllByRecursion (λ (x : NameView × Op). x.1.value.name ≡ Some x.0) (cons_option
-        (option_map (λ (name : NameView). (name, n)) o) (filter_map operation_under_name os))
-    by None h rest = rest
-    by (Some m) h rest = (h, rest)
+has_its_name (n ∷ os) = grind (arith, has_its_name os)
 
 has_no_name : (o : Option Op) (n : Op) → first_if_anonymous o ≡ Some n → n.value.name ≡ None
-has_no_name None n h = cc
-has_no_name (Some m) n h = by m.value.name refl h
-  where
-    by : (x : Option NameView) → m.value.name ≡ x → cond (not (is_some x)) (Some m) None ≡ Some n
-        → n.value.name ≡ None
-    by None e h = let is : m ≡ n = cc in ap (λ (n : Op). n.value.name) (sym is) ∙ e
-    by (Some k) e h = cc
+has_no_name o n h = grind (arith, h)
 
 -- ---- a write-out as a list
 
@@ -149,8 +129,7 @@ as_items b erase make (e ∷ es) = ap (λ l. (b, make (erase e.1)) ∷ l) (as_it
 anonymous-written : (b : Bool) (o : Option (NodeView Operation))
     → map (λ (x : Definition). (b, x)) (map (λ n. d.OperationDefinition (erase_operation n)) (listed o))
     ≡ anonymous_items b (option_map erase_operation o)
-anonymous-written b None = refl
-anonymous-written b (Some n) = refl
+anonymous-written b o = grind arith
 
 abbrev written_of : Bool → ExecutableDocument → List DocumentItem
 written_of b document = written b (option_map erase_operation document.operations.anonymous)
@@ -168,15 +147,13 @@ is_written b document =
     map-append with (map op (listed first ++ values_of named)) (map fragment (values_of others))
     ∙ (λ i. map with (map-append op (listed first) (values_of named) i) ++ as_items b erase_fragment
     d.FragmentDefinition others i)
-    ∙ ap (λ l. l ++ map (fragment_item b) (entries_by erase_fragment others))
-    (map-append with (map op (listed first)) (map op (values_of named))
+    ∙ ap (λ l. l ++ map (fragment_item b) (entries_by erase_fragment others)) (map-append with _ _
     ∙ (λ i. anonymous-written b first i ++ as_items b erase_operation d.OperationDefinition named i))
 
 location-erased : (o : Option (NodeView Operation))
     → option_map (λ (n : Op). n.location) (option_map erase_operation o)
     ≡ option_map (λ (n : NodeView Operation). n.location) o
-location-erased None = refl
-location-erased (Some n) = refl
+location-erased o = grind arith
 
 -- what the law of typed sets says
 pub record TypedSetsLaw : Type 0 where
@@ -214,12 +191,9 @@ module _ (sets : TypedSetsLaw) (s : Option Schema) where
   pub one_document : (xs : List DocumentItem) (a b : ExecutableDocument) → IsDocumentOf s xs a
       → IsDocumentOf s xs b → a ≡ record b { sources = a.sources }
   one_document xs a b h g =
-      let anonymous = one_option (IsOperationOf s) one_operation (kept_anonymous s xs) _ _ h.anonymous
-      g.anonymous in
-      let named = one_list (IsUnderName (IsOperationOf s)) (one_table (IsOperationOf s) one_operation)
-      (kept_named s xs) _ _ h.named g.named in
-      let fragments = one_list (IsUnderName (IsFragmentOf s)) (one_table (IsFragmentOf s) one_fragment)
-      (kept_fragments s xs) _ _ h.fragments g.fragments in
+      let anonymous = one_option _ one_operation _ _ _ h.anonymous g.anonymous in
+      let named = one_list _ (one_table _ one_operation) _ _ _ h.named g.named in
+      let fragments = one_list _ (one_table _ one_fragment) _ _ _ h.fragments g.fragments in
       λ i. record {
         sources = a.sources;
         operations = record { anonymous = anonymous i; named = named i };
@@ -263,7 +237,7 @@ module _ (sets : TypedSetsLaw) (s : Option Schema) where
       → k.1.value.name ≡ Some k.0 → IsSoundOperation s (e.0, erase_operation e.1)
   sound_entry k e h a = (
     ap (λ (z : Op). z.value.name) h.1.1.1.0 ∙ a ∙ ap Some (sym h.0),
-    is_sound (name.NamedOperation e.1.value.operation_type e.0) k.1 e.1 h.1,
+    is_sound _ k.1 e.1 h.1,
   )
 
   sound_fragment : (k : NameView × Frag) (e : NameView × NodeView Fragment) → IsUnderName (IsFragmentOf s) k e
@@ -287,22 +261,14 @@ module _ (sets : TypedSetsLaw) (s : Option Schema) where
   sound_option None (Some e) h a = absurd h
   sound_option (Some k) (Some e) h a = (
     ap (λ (z : Op). z.value.name) h.0.1.1.0 ∙ a k refl,
-    is_sound (name.AnonymousOperation e.value.operation_type) k e h.0,
+    is_sound _ k e h.0,
   )
 
   is_its_fragment : (ns : List Frag)
       → AllByRecursion (λ (x : NameView × Frag). (x.1.value.name ≡ x.0) × (is_on_type s x.1 ≡ true))
       (map fragment_under_name (filter (is_on_type s) ns))
   is_its_fragment [] = tt
-  is_its_fragment (n ∷ ns) = by (is_on_type s n) refl (is_its_fragment ns)
-    where
-      by : (b : Bool) → is_on_type s n ≡ b
-          → AllByRecursion (λ x. (x.1.value.name ≡ x.0) × (is_on_type s x.1 ≡ true)) (map fragment_under_name
-          (filter (is_on_type s) ns))
-          → AllByRecursion (λ (x : NameView × Frag). (x.1.value.name ≡ x.0) × (is_on_type s x.1 ≡ true))
-          (map fragment_under_name (cond b (n ∷ filter (is_on_type s) ns) (filter (is_on_type s) ns)))
-      by true h rest = ((refl, h), rest)
-      by false h rest = rest
+  is_its_fragment (n ∷ ns) = grind (arith, is_its_fragment ns)
 
   module _ (xs : List DocumentItem) (b : Bool) (document : ExecutableDocument)
       (h : IsDocumentOf s xs document) where
@@ -344,14 +310,13 @@ module _ (sets : TypedSetsLaw) (s : Option Schema) where
     pub document_is_again : (again : ExecutableDocument)
         → IsDocumentOf s (document_list b (erased_definitions document)) again
         → again ≡ record document { sources = again.sources }
-    document_is_again again g = one_document (document_list b (erased_definitions document)) again document g
-        document_is_itself
+    document_is_again again g = one_document _ again document g document_is_itself
 
     pub faults_again : document_faults s (document_list b (erased_definitions document))
         ≡ ambiguous_again document.operations
     faults_again =
         let first = document.operations.anonymous in
         ap (document_faults s) (is_written b document) ∙ kept_again.faults ∙ flat_map-map {B = NameView × Op}
-        (λ x. ambiguous_if (option_map (λ n. n.location) (option_map erase_operation first)))
-        (λ e. (e.0, erase_operation e.1)) document.operations.named
-        ∙ ap (λ p. flat_map (λ x. ambiguous_if p) document.operations.named) (location-erased first)
+        (λ x. ambiguous_if (option_map (λ n. n.location) (option_map erase_operation first))) _
+        document.operations.named ∙ ap (λ p. flat_map (λ x. ambiguous_if p) document.operations.named)
+        (location-erased first)

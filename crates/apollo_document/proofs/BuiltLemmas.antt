@@ -1,11 +1,9 @@
 -- Tables that stand for a list hold its document.
-use Rattle.std.proofs.Common.{◌≡◌, ◌∙◌, ap, sym, subst, refl, Bool, true, false, cond, List, [], ◌∷◌, ◌++◌}
-use Rattle.std.proofs.Common.{filter, Option, None, Some, option_map, is_some, unwrap_or}
-use Rattle.std.specs.List.{AllByRecursion, AllZip, filter_map, find, cons_option}
+use Rattle.std.proofs.Common.{arith, ◌≡◌, ◌∙◌, ap, subst, refl, true, List, [], ◌∷◌, ◌++◌, filter, Option}
+use Rattle.std.proofs.Common.{None, Some, option_map, is_some, unwrap_or}
+use Rattle.std.specs.List.{AllByRecursion, AllZip, filter_map, find}
 use Rattle.graphql_nodes.specs.NameView.{NameView, plain_name}
-use Rattle.graphql_nodes.specs.SameText.{same_text}
 use Rattle.graphql_ast.specs.declared.selection.Selection as ast
-use Rattle.apollo_component.specs.FirstOfEach.{same_key}
 use Rattle.apollo_schema.specs.declared.schema.Schema.{Schema}
 use Rattle.apollo_executable.specs.Listed.{listed}
 use Rattle.apollo_executable.specs.Erasure.{erased_set}
@@ -15,14 +13,13 @@ use Rattle.apollo_document.specs.Typable.{Fault, has_type}
 use Rattle.apollo_document.specs.declared.selection_path.SelectionPath.{SelectionPath}
 use Rattle.apollo_document.specs.declared.selection_path.ExecutableDefinitionName.{ExecutableDefinitionName}
 use Rattle.apollo_document.specs.declared.selection_path.ExecutableDefinitionName.TheVariants as roots
-use Rattle.apollo_document.specs.DocumentFaults.{rooted_faults, faults_in_operation, on_type_faults}
-use Rattle.apollo_document.specs.DocumentFaults.{faults_in_fragment}
+use Rattle.apollo_document.specs.DocumentFaults.{faults_in_operation, faults_in_fragment}
 use Rattle.apollo_executable.specs.declared.document.ExecutableDocument.{ExecutableDocument}
 use Rattle.apollo_document.specs.Stripped.{stripped}
 use Rattle.apollo_document.specs.TypedSelections.{IsTypedSet}
 use Rattle.apollo_document.specs.Elaborated.{elaborated}
 use Rattle.apollo_document.specs.AddedDefinitions.{DocumentItem, operations}
-use Rattle.apollo_document.specs.KeptDefinitions.{root_type_of, is_rooted, is_anonymous, first_if_anonymous}
+use Rattle.apollo_document.specs.KeptDefinitions.{root_type_of, is_rooted, first_if_anonymous}
 use Rattle.apollo_document.specs.KeptDefinitions.{operation_under_name, kept_anonymous, kept_named}
 use Rattle.apollo_document.specs.KeptDefinitions.{kept_fragments}
 use Rattle.apollo_document.specs.TypedDefinitions.{IsOperationOf, IsFragmentOf}
@@ -46,51 +43,21 @@ module _ (s : Option Schema) where
   rooted_first : (os : List Op) (n : Op) → first_if_anonymous (find (is_rooted s) os) ≡ Some n
       → is_rooted s n ≡ true
   rooted_first [] n h = cc
-  rooted_first (o ∷ os) n h = by (is_rooted s o) refl h (rooted_first os n)
-    where
-      same : (c : Bool) → is_rooted s o ≡ true → cond c (Some o) None ≡ Some n → is_rooted s n ≡ true
-      same true e h = let is : o ≡ n = cc in ap (is_rooted s) (sym is) ∙ e
-      same false e h = cc
-
-      by : (b : Bool) → is_rooted s o ≡ b
-          → first_if_anonymous (cond b (Some o) (find (is_rooted s) os)) ≡ Some n
-          → (first_if_anonymous (find (is_rooted s) os) ≡ Some n → is_rooted s n ≡ true)
-          → is_rooted s n ≡ true
-      by true e h rest = same (is_anonymous o) e h
-      by false e h rest = rest h
+  rooted_first (o ∷ os) n h = grind (arith, h, rooted_first os n)
 
   abbrev AreRooted : List (NameView × Op) → Type 0
   AreRooted = AllByRecursion (λ (x : NameView × Op). is_rooted s x.1 ≡ true)
 
   rooted_named : (os : List Op) → AreRooted (filter_map operation_under_name (filter (is_rooted s) os))
   rooted_named [] = tt
-  rooted_named (o ∷ os) = by (is_rooted s o) refl (rooted_named os)
-    where
-      put : (x : Option NameView) → is_rooted s o ≡ true
-          → AreRooted (filter_map operation_under_name (filter (is_rooted s) os))
-          → AreRooted (cons_option (option_map (λ (name : NameView). (name, o)) x)
-          (filter_map operation_under_name (filter (is_rooted s) os)))
-      put None e rest = rest
-      put (Some m) e rest = (e, rest)
-
-      by : (b : Bool) → is_rooted s o ≡ b
-          → AreRooted (filter_map operation_under_name (filter (is_rooted s) os))
-          → AreRooted (filter_map operation_under_name (cond b (o ∷ filter (is_rooted s) os)
-          (filter (is_rooted s) os)))
-      by true e rest = put o.value.name e rest
-      by false e rest = rest
+  rooted_named (o ∷ os) = grind (arith, rooted_named os)
 
   pub anonymous_rooted : (xs : List DocumentItem)
       → AllByRecursion (λ n. is_rooted s n ≡ true) (listed (kept_anonymous s xs))
-  anonymous_rooted xs = by (kept_anonymous s xs) refl
-    where
-      by : (o : Option Op) → kept_anonymous s xs ≡ o → AllByRecursion (λ n. is_rooted s n ≡ true) (listed o)
-      by None e = tt
-      by (Some n) e = (rooted_first (operations xs) n e, tt)
+  anonymous_rooted xs = grind (arith, rooted_first (operations xs))
 
   pub named_rooted : (xs : List DocumentItem) → AreRooted (kept_named s xs)
-  named_rooted xs = each-first (λ x. is_rooted s x.1 ≡ true) (same_key same_text) _
-      (rooted_named (operations xs))
+  named_rooted xs = each-first _ _ _ (rooted_named _)
 
 -- ---- what is made of each
 
@@ -163,12 +130,9 @@ module _ (sets : ElaboratedSetsLaw) (s : Option Schema) where
 
     pub is_document : IsDocumentOf s xs document_of
     is_document = record {
-      anonymous = built_option (IsOperationOf s) (typed_operation s) (λ n. is_rooted s n ≡ true)
-          built_operation (kept_anonymous s xs) (anonymous_rooted s xs);
-      named = built_table (IsOperationOf s) (typed_operation s) (λ n. is_rooted s n ≡ true) built_operation
-          (kept_named s xs) (named_rooted s xs);
-      fragments = built_table (IsFragmentOf s) (typed_fragment s) (λ n. Unit {0}) (λ n _. built_fragment n)
-          (kept_fragments s xs) (any_table (kept_fragments s xs));
+      anonymous = built_option _ _ _ built_operation _ (anonymous_rooted s xs);
+      named = built_table _ _ _ built_operation _ (named_rooted s xs);
+      fragments = built_table _ _ _ (λ n _. built_fragment n) _ (any_table (kept_fragments s xs));
     }
 
     pub built_document : (t : Tables) (document : ExecutableDocument) → Stands s xs t
@@ -186,9 +150,7 @@ module _ (s : Option Schema) (n : Op) where
       → root_type_of s n.value.operation_type ≡ Some root → below ≡ n.value.selection_set
       → faults_of_selections s root (record { root = name; nested_fields = [] }) below
       ≡ faults_in_operation s name n
-  operation_faults_made name root below r selections =
-      ap (faults_of_selections s root (record { root = name; nested_fields = [] })) selections
-      ∙ ap (rooted_faults s name n) (sym r)
+  operation_faults_made name root below r selections = rw (selections, r) refl
 
 module _ (s : Option Schema) (n : Frag) where
   pub fragment_faults_made : (name ty : NameView) (below : List ast.Selection)
@@ -196,6 +158,4 @@ module _ (s : Option Schema) (n : Frag) where
       → below ≡ n.value.selection_set
       → faults_of_selections s ty (record { root = roots.Fragment name; nested_fields = [] }) below
       ≡ faults_in_fragment s n
-  fragment_faults_made name ty below there named is selections =
-      (λ i. faults_of_selections s (is i) (record { root = roots.Fragment (named i); nested_fields = [] })
-      (selections i)) ∙ ap (on_type_faults s n) (sym there)
+  fragment_faults_made name ty below there named is selections = rw (named, is, selections, there) refl

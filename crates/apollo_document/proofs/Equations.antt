@@ -1,7 +1,7 @@
 -- What elaboration gives of a field, an inline fragment and a list, by what it gives of what is below.
 use Rattle.std.proofs.Common.{◌≡◌, ◌∙◌, ℕ, ◌+◌, ◌-◌, ◌<◌, ◌==◌, ap, sym, refl, Bool, true, List, [], ◌∷◌}
-use Rattle.std.proofs.Common.{◌++◌, map, length, take, get_or, append-nil, arith, unwrap_or, Option, Some}
-use Rattle.std.proofs.Common.{None, Result, Ok, Err}
+use Rattle.std.proofs.Common.{◌++◌, map, length, take, get_or, append-nil, arith, Option, Some, None, Result}
+use Rattle.std.proofs.Common.{Ok}
 use Rattle.std.specs.List.{filter_map, flat_map, cons_option}
 use Rattle.std.proofs.lemmas.Bool.{eqb-true}
 use Rattle.std.proofs.lemmas.List.{nil_from_length, length-append, length-map, take_more, flat_map_more}
@@ -44,7 +44,7 @@ pub is_bare-map : {A B : Type 0} (g : A → B) (xs : List A) → is_bare (map g 
 is_bare-map g xs = ap (λ n. n == 0) (length-map xs g)
 
 pub bare-nil : {A : Type 0} (xs : List A) → is_bare xs ≡ true → xs ≡ []
-bare-nil xs h = nil_from_length xs (eqb-true (length xs) 0 h)
+bare-nil xs h = nil_from_length xs (eqb-true _ 0 h)
 
 -- what is made of a typable field or fragment, by what each selection below gives in a type
 pub below-each : {X Y A B E : Type 0} (each : X → NameView → Option Y) (xs : List X) (make : (NameView
@@ -56,22 +56,17 @@ below-each each xs make judged = λ i. if_typable (make (λ t. filter_map-map ea
 
 -- the code finds what is typable as an option, and pushes what is wrong
 is_ok : {A E : Type 0} (r : Result A E) (a : A) → Some a ≡ if_typable (λ x. x) r → r ≡ Ok a
-is_ok {A} (Ok b) a h = ap Ok (sym (ap (λ (o : Option A). unwrap_or o b) h))
-is_ok (Err wrong) a h = cc
+is_ok r a h = grind (arith, h)
 
 module _ {A : Type 0} (below : A → List Fault) (location : Option SourceSpan) (path : SelectionPath) where
   pub none_found : (r : Result A Wrong) → None ≡ if_typable (λ x. x) r
       → below_or_wrong (λ _. []) location path r ≡ below_or_wrong below location path r
-  none_found (Ok b) h = cc
-  none_found (Err wrong) h = refl
+  none_found r h = grind (arith, h)
 
   pub one_found : (r : Result A Wrong) (a : A) (before : List Fault) → Some a ≡ if_typable (λ x. x) r
       → (before ++ below_or_wrong (λ _. []) location path r) ++ below a ≡ before ++ below_or_wrong below
       location path r
-  one_found r a before h =
-      let is = is_ok r a h in
-      (λ i. (before ++ below_or_wrong (λ _. []) location path (is i)) ++ below a) ∙ ap (λ l. l ++ below a)
-      (append-nil before) ∙ (λ i. before ++ below_or_wrong below location path (sym is i))
+  one_found r a before h = rw (is_ok r a h, append-nil before)
 
 module _ (s : Option Schema) where
   -- what elaboration gives of a list, below a field or a fragment
@@ -128,7 +123,7 @@ module _ (s : Option Schema) where
         ap Some (m ∙ (λ i. field_over (same i) d (typed i)))
         ∙ (λ i. Some (field_over f d (elaborated s (is i) (selections i))))
         ∙ (λ i. if_typable (typed_field f.alias f.name f.arguments f.directives (typed_in f.selection_set))
-        (sym (is_ok (field_judged s ty f) d h) i)) ∙ sym (elaborated-field f)
+        (sym (is_ok _ d h) i)) ∙ sym (elaborated-field f)
 
     pub fragment_made : (f g : ast_inline.InlineFragment) (below : List ast.Selection) (t : NameView)
         (set : SelectionSet) (made : InlineFragment)
@@ -143,27 +138,21 @@ module _ (s : Option Schema) where
         (record { type_condition = f.type_condition; directives = f.directives; selection_set = set }) in
         ap Some (m ∙ (λ i. over (same i) (typed i)) ∙ (λ i. over f (elaborated s t (selections i))))
         ∙ (λ i. if_typable (typed_inline_fragment f.type_condition f.directives
-        (typed_in f.selection_set)) (sym (is_ok (typable_fragment s ty f.type_condition) t h) i))
-        ∙ sym (elaborated-fragment f)
+        (typed_in f.selection_set)) (sym (is_ok _ t h) i)) ∙ sym (elaborated-fragment f)
 
 -- a list without what was pushed last
 pub unpushed : {A : Type 0} (xs old new : List A) (x : A) (size : ℕ) → size ≡ length old → old ≡ xs ++ x ∷ []
     → new ≡ take (size - 1) old → new ≡ xs
 unpushed xs old new x size all is popped =
     let less : length (xs ++ x ∷ []) - 1 ≡ length xs = omega (arith, length-append xs (x ∷ [])) in
-    popped ∙ (λ i. take (all i - 1) old) ∙ (λ i. take (length (is i) - 1) (is i))
-    ∙ ap (λ (n : ℕ). take n (xs ++ x ∷ [])) less ∙ take-append_seam xs (x ∷ [])
+    rw (popped, all, is, less) (take-append_seam xs (x ∷ []))
 
 -- one more selection of a list
 pub kept_more : {X Y : Type 0} (h : X → Option Y) (bs cs : List Y) (xs : List X) (i : ℕ) (d : X)
     (o : Option Y) → i < length xs → bs ≡ filter_map h (take i xs) → o ≡ h (get_or xs i d)
     → cs ≡ bs ++ cons_option o [] → cs ≡ filter_map h (take (i + 1) xs)
-kept_more h bs cs xs i d o w p q r = r ∙ (λ j. p j ++ cons_option (q j) [])
-    ∙ sym (filter_map-append h (take i xs) (get_or xs i d ∷ [])) ∙ ap (filter_map h)
-    (sym (take_more xs i d w))
+kept_more h bs cs xs i d o w p q r = rw (take_more xs i d w, filter_map-append, r, p, q) refl
 
 pub all_more : {X A : Type 0} (f : X → List A) (bs cs : List A) (xs : List X) (i : ℕ) (x : X) → i < length xs
     → x ≡ get_or xs i x → cs ≡ bs ++ flat_map f (take i xs) → cs ++ f x ≡ bs ++ flat_map f (take (i + 1) xs)
-all_more f bs cs xs i x w is p = ap (λ u. u ++ f x) p ∙ flat_map_more f bs (take i xs) x
-    ∙ (λ j. bs ++ flat_map f (take i xs ++ is j ∷ [])) ∙ ap (λ u. bs ++ flat_map f u)
-    (sym (take_more xs i x w))
+all_more f bs cs xs i x w is p = rw (take_more xs i x w, ← is, p) (flat_map_more f bs _ x)

@@ -134,12 +134,12 @@ module _ (s : Option Schema) where
       ∙ t.0 in
       let b = below (child_of x.definition) t.1 in
       let within : SelectionPath → SelectionPath = λ path. inside path (response_key_of x.alias x.name) in (
-        ap (elaborated_field s ty) (erased-field x) ∙ elaborated-field s ty (field_erased x)
+        ap (elaborated_field s ty) (erased-field x) ∙ elaborated-field s ty _
             ∙ ap (if_typable (typed_field x.alias x.name x.arguments x.directives
             (typed_in s (erased_set x.selection_set)))) c
             ∙ (λ i. Some (roll-Field (record x { selection_set = b.0 i }))),
         λ location path. ap (faults_of_field s ty location path) (erased-field x)
-            ∙ faults-field s ty location path (field_erased x)
+            ∙ faults-field s ty location path _
             ∙ ap (below_or_wrong (λ d. faults_of_selections s (child_of d) (within path)
             (erased_set x.selection_set)) location (within path)) c ∙ b.1 (within path),
       )
@@ -148,12 +148,12 @@ module _ (s : Option Schema) where
   fragment_again x below ty h =
       let t = along (fragment-roll s ty x) h in
       let b = below t.0 t.1.1 in (
-        ap (elaborated_fragment s ty) (erased-fragment x) ∙ elaborated-fragment s ty (fragment_erased x)
+        ap (elaborated_fragment s ty) (erased-fragment x) ∙ elaborated-fragment s ty _
             ∙ ap (if_typable (typed_inline_fragment x.type_condition x.directives
             (typed_in s (erased_set x.selection_set)))) t.1.0
             ∙ (λ i. Some (roll-InlineFragment (record x { selection_set = b.0 i }))),
         λ location path. ap (faults_of_fragment s ty location path) (erased-fragment x)
-            ∙ faults-fragment s ty location path (fragment_erased x)
+            ∙ faults-fragment s ty location path _
             ∙ ap (below_or_wrong (λ child. faults_of_selections s child path (erased_set x.selection_set))
             location path) t.1.0 ∙ b.1 path,
       )
@@ -166,7 +166,7 @@ module _ (s : Option Schema) where
   selection_again (typed_layer.Selection-F.Field n) ty h =
       let m = in_place_of n n.value.0 in
       let u = layer.Selection-F.Field (in_place_of n (erased_field n.value.0)) in
-      let b = n.value.1 ty (along (selection-roll s ty (typed_layer.Selection-F.Field m)) h) in (
+      let b = n.value.1 ty (along (selection-roll s ty _) h) in (
         ap (elaborated_selection s ty) (erased-typed-field m) ∙ elaborated-roll s ty u
             ∙ ap (option_map (λ f. roll-Selection (typed_layer.Selection-F.Field (in_place_of n f)))) b.0,
         λ path. ap (faults_of_selection s ty path) (erased-typed-field m) ∙ faults-roll ty path u
@@ -180,7 +180,7 @@ module _ (s : Option Schema) where
   selection_again (typed_layer.Selection-F.InlineFragment n) ty h =
       let m = in_place_of n n.value.0 in
       let u = layer.Selection-F.InlineFragment (in_place_of n (erased_inline_fragment n.value.0)) in
-      let b = n.value.1 ty (along (selection-roll s ty (typed_layer.Selection-F.InlineFragment m)) h) in (
+      let b = n.value.1 ty (along (selection-roll s ty _) h) in (
         ap (elaborated_selection s ty) (erased-typed-fragment m) ∙ elaborated-roll s ty u
             ∙ ap (option_map (λ f. roll-Selection (typed_layer.Selection-F.InlineFragment (in_place_of n f))))
             b.0,
@@ -196,7 +196,7 @@ module _ (s : Option Schema) where
 
   pub stripped_again : (ty : NameView) (x : SelectionSet) → IsTypedSet s ty x
       → stripped s ty (erased_set x) ≡ erased_set x
-  stripped_again ty x h = sym (erased_is_stripped s ty (erased_set x)) ∙ ap erased_set (set_is_again x ty h).0
+  stripped_again ty x h = sym (erased_is_stripped s ty _) ∙ ap erased_set (set_is_again x ty h).0
 
   pub faultless_again : (ty : NameView) (path : SelectionPath) (x : SelectionSet) → IsTypedSet s ty x
       → faults_of_selections s ty path (erased_set x) ≡ []
@@ -209,5 +209,5 @@ module _ (s : Option Schema) where
   -- a set that is typed and erased to the stripped list is the one that stands for it
   pub only_elaborated : (ty : NameView) (xs : List ast.Selection) (set : SelectionSet)
       → erased_set set ≡ stripped s ty xs → IsTypedSet s ty set → set ≡ elaborated s ty xs
-  only_elaborated ty xs set h g = one_typed ty set (elaborated s ty xs) g (elaborated_is_typed s ty xs) (h
+  only_elaborated ty xs set h g = one_typed ty set _ g (elaborated_is_typed s ty xs) (h
       ∙ sym (erased_is_stripped s ty xs))

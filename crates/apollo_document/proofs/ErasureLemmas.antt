@@ -1,6 +1,6 @@
 -- What elaboration gives, erased, is the untyped list stripped.
-use Rattle.std.proofs.Common.{◌≡◌, ◌∙◌, ap, sym, subst, refl, List, [], ◌∷◌, map, Option, Some, None}
-use Rattle.std.proofs.Common.{option_map, Result, Ok, Err}
+use Rattle.std.proofs.Common.{arith, ◌≡◌, ◌∙◌, ap, sym, subst, refl, List, [], ◌∷◌, map, Option, Some}
+use Rattle.std.proofs.Common.{option_map, Result}
 use Rattle.std.specs.List.{cons_option}
 use Rattle.graphql_nodes.specs.NameView.{NameView}
 use Rattle.graphql_nodes.specs.NodeView.{NodeView}
@@ -23,14 +23,13 @@ use Rattle.apollo_executable.specs.declared.selection.InlineFragment.{InlineFrag
 use Rattle.apollo_executable.specs.declared.selection.FragmentSpread.{FragmentSpread}
 use Rattle.apollo_executable.specs.Erasure as e
 use Rattle.apollo_executable.specs.Erasure.{erased, erased_field, erased_inline_fragment, erased_set}
-use Rattle.apollo_document.specs.Typable.{child_of, is_bare, typable_field, typable_fragment, if_typable}
+use Rattle.apollo_document.specs.Typable.{is_bare, typable_field, typable_fragment, if_typable}
 use Rattle.apollo_document.specs.Stripped.{SS, SF, SI, in_place_of, strip_step, strip_field_step}
 use Rattle.apollo_document.specs.Stripped.{strip_fragment_step, kept_field, kept_fragment, stripped_selection}
 use Rattle.apollo_document.specs.Stripped.{stripped_field, stripped_inline_fragment, stripped}
-use Rattle.apollo_document.specs.Elaborated.{TS, TF, TI, typed_spread, selection_step, field_step}
-use Rattle.apollo_document.specs.Elaborated.{fragment_step, set_of, typed_field, typed_inline_fragment}
-use Rattle.apollo_document.specs.Elaborated.{elaborated_selection, elaborated_field, elaborated_fragment}
-use Rattle.apollo_document.specs.Elaborated.{elaborated}
+use Rattle.apollo_document.specs.Elaborated.{TS, TF, TI, selection_step, field_step, fragment_step, set_of}
+use Rattle.apollo_document.specs.Elaborated.{typed_field, typed_inline_fragment, elaborated_selection}
+use Rattle.apollo_document.specs.Elaborated.{elaborated_field, elaborated_fragment, elaborated}
 use Rattle.apollo_document.proofs.Equations.{below-each, typed_in, elaborated-field, elaborated-fragment}
 
 -- ---- what is left of a field and of a fragment, by what is left of what is below
@@ -69,7 +68,7 @@ erased-typed_field : (alias : Option NameView) (name : NameView) (arguments : Li
     directives (λ t. map erased (below t)) d
 erased-typed_field alias name arguments directives below d = typed_folds.fold-roll-Field _ _ _ _ _ _ _ _ _
     ∙ ap (λ (xs : List ast.Selection). kept_field alias name arguments directives (λ t. xs) d)
-    (erased-set_of (child_of d) (below (child_of d)))
+    (erased-set_of _ _)
 
 erased-typed_inline_fragment : (condition : Option NameView) (directives : DirectiveList) (below : NameView
     → List Selection) (t : NameView)
@@ -100,19 +99,16 @@ erased-typed-fragment n = typed_folds.fold-roll-Selection _ _ _ _ _ _ _ _
 
 map-cons_option : {A B : Type 0} (f : A → B) (o : Option A) (xs : List A)
     → map f (cons_option o xs) ≡ cons_option (option_map f o) (map f xs)
-map-cons_option f None xs = refl
-map-cons_option f (Some x) xs = refl
+map-cons_option f o xs = grind arith
 
 map-if_typable : {A B C E : Type 0} (g : B → C) (f : A → B) (h : A → C) → ((a : A) → g (f a) ≡ h a)
     → (r : Result A E) → option_map g (if_typable f r) ≡ if_typable h r
-map-if_typable g f h e (Ok a) = ap Some (e a)
-map-if_typable g f h e (Err wrong) = refl
+map-if_typable g f h e r = grind (arith, e)
 
 option_fuse : {A B C D : Type 0} (g : B → C) (f : A → B) (k : D → C) (h : A → D)
     → ((a : A) → g (f a) ≡ k (h a)) → (o : Option A)
     → option_map g (option_map f o) ≡ option_map k (option_map h o)
-option_fuse g f k h e None = refl
-option_fuse g f k h e (Some a) = ap Some (e a)
+option_fuse g f k h e o = grind (arith, e)
 
 -- ---- what elaboration gives, erased
 
@@ -140,7 +136,7 @@ module _ (s : Option Schema) where
   pub stripped-spread : (ty : NameView) (n : NodeView syntax_spread.FragmentSpread)
       → stripped_selection s ty (variant.FragmentSpread n) ≡ Some (variant.FragmentSpread n)
   stripped-spread ty n = ap (stripped_selection s ty) (sym (variant.rolls-FragmentSpread n))
-      ∙ stripped-roll ty (layer.Selection-F.FragmentSpread n) ∙ ap Some (variant.rolls-FragmentSpread n)
+      ∙ stripped-roll ty _ ∙ ap Some (variant.rolls-FragmentSpread n)
 
   abbrev PS : ast.Selection → Type 0
   PS x = (ty : NameView) → option_map erased (elaborated_selection s ty x) ≡ stripped_selection s ty x
@@ -161,22 +157,19 @@ module _ (s : Option Schema) where
   -- the elements come with their proofs
   below_same : (ys : List WS) (t : NameView) → AreSame t (map (λ (y : WS). y.0) ys)
   below_same [] t = refl
-  below_same (y ∷ ys) t = map-cons_option erased (elaborated_selection s t y.0) _
-      ∙ (λ i. cons_option (y.1 t i) (below_same ys t i))
+  below_same (y ∷ ys) t = map-cons_option erased _ _ ∙ (λ i. cons_option (y.1 t i) (below_same ys t i))
 
   field_same : (f : ast_field.Field) → ((t : NameView) → AreSame t f.selection_set) → PF f
-  field_same f h ty = ap (option_map erased_field) (elaborated-field s ty f) ∙ map-if_typable erased_field _
-      (kept_field f.alias f.name f.arguments f.directives (kept_in s f.selection_set))
+  field_same f h ty = ap (option_map erased_field) (elaborated-field s ty f) ∙ map-if_typable erased_field _ _
       (λ d. erased-typed_field f.alias f.name f.arguments f.directives (typed_in s f.selection_set) d
-      ∙ (λ i. kept_field f.alias f.name f.arguments f.directives (λ t. h t i) d))
-      (typable_field s ty f.name (is_bare f.selection_set)) ∙ sym (stripped-field s ty f)
+      ∙ (λ i. kept_field f.alias f.name f.arguments f.directives (λ t. h t i) d)) _
+      ∙ sym (stripped-field s ty f)
 
   fragment_same : (f : ast_inline.InlineFragment) → ((t : NameView) → AreSame t f.selection_set) → PI f
   fragment_same f h ty = ap (option_map erased_inline_fragment) (elaborated-fragment s ty f)
-      ∙ map-if_typable erased_inline_fragment _ (kept_fragment f.type_condition f.directives
-      (kept_in s f.selection_set)) (λ c. erased-typed_inline_fragment f.type_condition f.directives
-      (typed_in s f.selection_set) c ∙ (λ i. kept_fragment f.type_condition f.directives (λ t. h t i) c))
-      (typable_fragment s ty f.type_condition) ∙ sym (stripped-fragment s ty f)
+      ∙ map-if_typable erased_inline_fragment _ _ (λ c. erased-typed_inline_fragment f.type_condition
+      f.directives (typed_in s f.selection_set) c ∙ (λ i. kept_fragment f.type_condition f.directives
+      (λ t. h t i) c)) _ ∙ sym (stripped-fragment s ty f)
 
   selection_same : (y : layer.Selection-F WS ((f : ast_field.Field) × PF f) ((f : ast_inline.InlineFragment)
       × PI f))
@@ -185,26 +178,18 @@ module _ (s : Option Schema) where
       (λ y. y.0) (λ y. y.0) (λ y. y.0) y))
   selection_same (layer.Selection-F.Field n) ty =
       let m = in_place_of n n.value.0 in
-      ap (option_map erased) (elaborated-roll ty (layer.Selection-F.Field m))
-      ∙ option_fuse erased _ (λ (f : ast_field.Field). ast.roll-Selection
-      (layer.Selection-F.Field (in_place_of m f))) erased_field (λ (f : Field). erased-typed-field
-      (in_place_of m f)) (elaborated_field s ty n.value.0)
-      ∙ ap (option_map (λ (f : ast_field.Field). ast.roll-Selection (layer.Selection-F.Field
-      (in_place_of m f)))) (n.value.1 ty) ∙ sym (stripped-roll ty (layer.Selection-F.Field m))
-  selection_same (layer.Selection-F.FragmentSpread n) ty =
-      ap (option_map erased) (elaborated-roll ty (layer.Selection-F.FragmentSpread n))
-      ∙ ap Some (erased-typed-spread (in_place_of n (typed_spread n.value)))
-      ∙ sym (stripped-roll ty (layer.Selection-F.FragmentSpread n))
+      ap (option_map erased) (elaborated-roll ty _) ∙ option_fuse erased _ _ erased_field
+      (λ (f : Field). erased-typed-field _) _
+      ∙ ap (option_map (λ (f : ast_field.Field). ast.roll-Selection
+      (layer.Selection-F.Field (in_place_of m f)))) (n.value.1 ty) ∙ sym (stripped-roll ty _)
+  selection_same (layer.Selection-F.FragmentSpread n) ty = ap (option_map erased) (elaborated-roll ty _)
+      ∙ ap Some (erased-typed-spread _) ∙ sym (stripped-roll ty _)
   selection_same (layer.Selection-F.InlineFragment n) ty =
       let m = in_place_of n n.value.0 in
-      ap (option_map erased) (elaborated-roll ty (layer.Selection-F.InlineFragment m))
-      ∙ option_fuse erased _ (λ (f : ast_inline.InlineFragment). ast.roll-Selection
-      (layer.Selection-F.InlineFragment (in_place_of m f))) erased_inline_fragment
-      (λ (f : InlineFragment). erased-typed-fragment (in_place_of m f))
-      (elaborated_fragment s ty n.value.0)
+      ap (option_map erased) (elaborated-roll ty _) ∙ option_fuse erased _ _ erased_inline_fragment
+      (λ (f : InlineFragment). erased-typed-fragment _) _
       ∙ ap (option_map (λ (f : ast_inline.InlineFragment). ast.roll-Selection
-      (layer.Selection-F.InlineFragment (in_place_of m f)))) (n.value.1 ty)
-      ∙ sym (stripped-roll ty (layer.Selection-F.InlineFragment m))
+      (layer.Selection-F.InlineFragment (in_place_of m f)))) (n.value.1 ty) ∙ sym (stripped-roll ty _)
 
   all_same : (x : ast.Selection) → PS x
   all_same = ast.ind-Selection PS PF PI (λ x y is. subst (λ z. PS (ast.roll-Selection z)) is
@@ -214,9 +199,9 @@ module _ (s : Option Schema) where
 
   list_same : (ty : NameView) (xs : List ast.Selection) → AreSame ty xs
   list_same ty [] = refl
-  list_same ty (x ∷ xs) = map-cons_option erased (elaborated_selection s ty x) _
+  list_same ty (x ∷ xs) = map-cons_option erased _ _
       ∙ (λ i. cons_option (all_same x ty i) (list_same ty xs i))
 
   pub erased_is_stripped : (ty : NameView) (xs : List ast.Selection)
       → erased_set (elaborated s ty xs) ≡ stripped s ty xs
-  erased_is_stripped ty xs = erased-set_of ty (typed_in s xs ty) ∙ list_same ty xs
+  erased_is_stripped ty xs = erased-set_of ty _ ∙ list_same ty xs

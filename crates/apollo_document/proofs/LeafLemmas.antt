@@ -1,6 +1,6 @@
 -- Typed fields of leaf types have no subselections.
-use Rattle.std.proofs.Common.{◌≡◌, ◌∙◌, ◌⊎◌, inl, inr, sym, subst, refl, Bool, true, false, List, ◌∷◌, Option}
-use Rattle.std.proofs.Common.{Some, None, Result, Ok, Err}
+use Rattle.std.proofs.Common.{arith, ◌≡◌, ◌∙◌, ◌⊎◌, inl, inr, sym, subst, Bool, true, false, List, ◌∷◌}
+use Rattle.std.proofs.Common.{Option, Some, None, Result, Ok, Err}
 use Rattle.std.specs.List.{AllByRecursion}
 use Rattle.std.specs.Option.{option_map_or}
 use Rattle.std.proofs.lemmas.Bool.{true≢false}
@@ -10,7 +10,6 @@ use Rattle.graphql_ast.specs.declared.type_system.FieldDefinition.{FieldDefiniti
 use Rattle.apollo_component.proofs.Lists.Each.{each-append}
 use Rattle.apollo_types.specs.TypeKinds.{is_leaf}
 use Rattle.apollo_types.specs.declared.extended_type.ExtendedType.{ExtendedType}
-use Rattle.apollo_types.specs.declared.extended_type.ExtendedType.TheVariants.{Scalar, Enum}
 use Rattle.apollo_schema.specs.Lookups.{refers_to, type_at}
 use Rattle.apollo_schema.specs.declared.schema.Schema.{Schema}
 use Rattle.apollo_executable.specs.Walks.FieldsIn.{fields_in}
@@ -18,18 +17,16 @@ use Rattle.apollo_executable.specs.declared.selection.Selection.{Selection}
 use Rattle.apollo_executable.specs.declared.selection.Selection.TheViews.{roll-out-Field}
 use Rattle.apollo_executable.specs.declared.selection.Selection.TheViews.{roll-out-InlineFragment}
 use Rattle.apollo_executable.specs.declared.selection.Selection.TheViews.{roll-out-SelectionSet}
-use Rattle.apollo_executable.specs.declared.selection.Selection.TheOpen as layer
 use Rattle.apollo_executable.specs.declared.selection.Selection.TheVariants as variant
-use Rattle.apollo_executable.specs.declared.selection.Field.{Field, out-Field}
+use Rattle.apollo_executable.specs.declared.selection.Field.{Field}
 use Rattle.apollo_executable.specs.declared.selection.FragmentSpread.{FragmentSpread}
-use Rattle.apollo_executable.specs.declared.selection.InlineFragment.{InlineFragment, out-InlineFragment}
-use Rattle.apollo_executable.specs.declared.selection.SelectionSet.{SelectionSet, out-SelectionSet}
+use Rattle.apollo_executable.specs.declared.selection.InlineFragment.{InlineFragment}
+use Rattle.apollo_executable.specs.declared.selection.SelectionSet.{SelectionSet}
 use Rattle.apollo_executable.proofs.Selections.Induction.{of_selections}
 use Rattle.apollo_executable.proofs.Walking.ReadingLemmas.{of_fields, none-read, field-read, spread-read}
 use Rattle.apollo_executable.proofs.Walking.ReadingLemmas.{inline-read}
 use Rattle.apollo_document.specs.BareLeaves.{IsBareOnLeaf}
-use Rattle.apollo_document.specs.Typable.{Wrong, child_of, defined_in, is_bare, leaf_at, leaf_fault}
-use Rattle.apollo_document.specs.Typable.{unless_leaf, with_subselections}
+use Rattle.apollo_document.specs.Typable.{Wrong, child_of, leaf_fault, with_subselections}
 use Rattle.apollo_document.specs.TypedSelections.{IsTyped, IsTypedField, IsTypedFragment, IsTypedSet}
 use Rattle.apollo_document.proofs.Equations.{bare-nil}
 use Rattle.apollo_document.proofs.TypingLemmas.{along, selection-roll, field-roll, fragment-roll, set-roll}
@@ -37,25 +34,14 @@ use Rattle.apollo_document.proofs.TypingLemmas.{along, selection-roll, field-rol
 -- nothing is wrong with subselections from a type alone where it is no leaf
 leaf-none : (ty : NameView) (o : Option ExtendedType) → leaf_fault ty o ≡ None
     → option_map_or is_leaf o false ≡ false
-leaf-none ty (Some (Scalar n)) none = cc
-leaf-none ty (Some (Enum n)) none = cc
-leaf-none ty o none = refl
+leaf-none ty o none = grind (arith, none)
 
 module _ (s : Schema) (bare : Bool) (d : NodeView FieldDefinition) where
   abbrev MaySelect : Type 0
   MaySelect = (bare ≡ true) ⊎ (refers_to is_leaf s.types d.value.ty ≡ false)
 
-  allowed : (e : NodeView FieldDefinition) (b : Bool) → bare ≡ b → (leaf : Option Wrong) → leaf_at s e ≡ leaf
-      → unless_leaf b e leaf ≡ Ok d → MaySelect
-  allowed e true is leaf at stands = inl is
-  allowed e false is None at stands =
-      let same : e ≡ d = cc in
-      inr (subst (λ (x : NodeView FieldDefinition). refers_to is_leaf s.types x.value.ty ≡ false) same
-      (leaf-none (child_of e) (type_at s.types (child_of e)) at))
-  allowed e false is (Some wrong) at stands = cc
-
   may-select : (r : Result (NodeView FieldDefinition) Wrong) → with_subselections s bare r ≡ Ok d → MaySelect
-  may-select (Ok e) stands = allowed e bare refl (leaf_at s e) refl stands
+  may-select (Ok e) stands = grind (arith, stands, leaf-none (child_of e) (type_at s.types (child_of e)))
   may-select (Err wrong) stands = cc
 
 module _ (s : Schema) where
@@ -70,16 +56,16 @@ module _ (s : Schema) where
 
   set-typed : (ty : NameView) (set : SelectionSet) → IsTypedSet (Some s) ty set → AreTyped ty set.selections
   set-typed ty set typed =
-      (along (set-roll (Some s) ty (out-SelectionSet set)) (subst (IsTypedSet (Some s) ty)
-      (sym (roll-out-SelectionSet set)) typed)).1
+      (along (set-roll (Some s) ty _) (subst (IsTypedSet (Some s) ty) (sym (roll-out-SelectionSet set))
+      typed)).1
 
   field-typed : (ty : NameView) (f : Field) → IsTypedField (Some s) ty f
       → IsBareOnLeaf s f × IsTypedSet (Some s) (child_of f.definition) f.selection_set
   field-typed ty f typed =
-      let t = along (field-roll (Some s) ty (out-Field f))
+      let t = along (field-roll (Some s) ty _)
       (subst (IsTypedField (Some s) ty) (sym (roll-out-Field f)) typed) in
       let xs = f.selection_set.selections in (
-        λ leaf. bare-nil xs (elim (may-select s (is_bare xs) f.definition (defined_in s ty f.name) t.0) [
+        λ leaf. bare-nil xs (elim (may-select s _ f.definition _ t.0) [
           | inl b ↦ b
           | inr e ↦ absurd (true≢false (sym leaf ∙ e))
         ]),
@@ -89,14 +75,13 @@ module _ (s : Schema) where
   of_field : (n : NodeView Field) (others : List Selection) → AreBare n.value.selection_set.selections
       → AreBare others → AreBare (variant.Field n ∷ others)
   of_field n others below rest ty typed =
-      let t = field-typed ty n.value (along (selection-roll (Some s) ty (layer.Selection-F.Field n))
+      let t = field-typed ty n.value (along (selection-roll (Some s) ty _)
       (subst (IsTyped (Some s) ty) (sym (variant.rolls-Field n)) typed.0)) in
       let set = n.value.selection_set in
       let child = child_of n.value.definition in
       subst All (sym (field-read of_fields true n others)) (
         t.0,
-        each-append (λ n. IsBareOnLeaf s n.value) (fields_in true set.selections) (fields_in true others)
-            (below child (set-typed child set t.1)) (rest ty typed.1),
+        each-append _ _ _ (below child (set-typed child set t.1)) (rest ty typed.1),
       )
 
   of_spread : (n : NodeView FragmentSpread) (others : List Selection) → AreBare others
@@ -107,14 +92,13 @@ module _ (s : Schema) where
       → AreBare n.value.selection_set.selections → AreBare others
       → AreBare (variant.InlineFragment n ∷ others)
   of_inline n others inside rest ty typed =
-      let f = along (selection-roll (Some s) ty (layer.Selection-F.InlineFragment n))
-      (subst (IsTyped (Some s) ty) (sym (variant.rolls-InlineFragment n)) typed.0) in
-      let t = along (fragment-roll (Some s) ty (out-InlineFragment n.value))
-      (subst (IsTypedFragment (Some s) ty) (sym (roll-out-InlineFragment n.value)) f) in
+      let f = along (selection-roll (Some s) ty _) (subst (IsTyped (Some s) ty)
+      (sym (variant.rolls-InlineFragment n)) typed.0) in
+      let t = along (fragment-roll (Some s) ty _) (subst (IsTypedFragment (Some s) ty)
+      (sym (roll-out-InlineFragment n.value)) f) in
       let set = n.value.selection_set in
-      subst All (sym (inline-read of_fields true n others)) (each-append (λ n. IsBareOnLeaf s n.value)
-      (fields_in true set.selections) (fields_in true others) (inside t.0 (set-typed t.0 set t.1.1))
-      (rest ty typed.1))
+      subst All (sym (inline-read of_fields true n others))
+      (each-append _ _ _ (inside t.0 (set-typed t.0 set t.1.1)) (rest ty typed.1))
 
   pub typed_is_bare : (ty : NameView) (set : SelectionSet) → IsTypedSet (Some s) ty set
       → All (fields_in true set.selections)

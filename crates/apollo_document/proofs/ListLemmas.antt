@@ -1,6 +1,6 @@
 -- The first of each name, and what stands after the first, in a list with one more element.
-use Rattle.std.proofs.Common.{◌≡◌, ◌∙◌, ap, sym, refl, Bool, true, false, cond, ◌||◌, List, [], ◌∷◌, ◌++◌}
-use Rattle.std.proofs.Common.{Option, None, Some, option_map, is_some}
+use Rattle.std.proofs.Common.{arith, ◌≡◌, ◌∙◌, ap, sym, refl, Bool, cond, List, [], ◌∷◌, ◌++◌, Option, None}
+use Rattle.std.proofs.Common.{Some, option_map, is_some}
 use Rattle.std.specs.List.{find, list_any}
 use Rattle.std.specs.Map.{lookup_key}
 use Rattle.std.proofs.lemmas.List.{append-nil, map-append}
@@ -18,12 +18,7 @@ use Rattle.apollo_document.specs.Stands.{entries_by, put_unless_taken}
 pub some_key : {K V : Type 0} (test : K → Bool) (es : List (K × V))
     → list_any (λ e. test e.0) es ≡ is_some (lookup_key test es)
 some_key test [] = refl
-some_key test (e ∷ es) = by (test e.0) (some_key test es)
-  where
-    by : (b : Bool) → list_any (λ e. test e.0) es ≡ is_some (lookup_key test es)
-        → (b || list_any (λ e. test e.0) es) ≡ is_some (cond b (Some e.0) (lookup_key test es))
-    by true rest = refl
-    by false rest = rest
+some_key test (e ∷ es) = grind (arith, some_key test es)
 
 any : {V : Type 0} (es : List (NameView × V)) (m : NameView) (v : V)
     → list_any (same_key same_text (m, v)) es
@@ -37,18 +32,13 @@ pub first-put : {V : Type 0} (es : List (NameView × V)) (m : NameView) (v : V) 
     → first_of_each (same_key same_text) (es ++ cond b ((m, v) ∷ []) [])
     ≡ put_unless_taken m (lookup_key (same_text m) (first_of_each (same_key same_text) es))
     (cond b (Some v) None) (first_of_each (same_key same_text) es)
-first-put {V} es m v b = by (lookup_key (same_text m) (first_of_each (same_key same_text) es)) refl b
-  where
-    by : (o : Option NameView) → lookup_key (same_text m) (first_of_each (same_key same_text) es) ≡ o
-        → (b : Bool)
-        → first_of_each (same_key same_text) (es ++ cond b ((m, v) ∷ []) [])
-        ≡ put_unless_taken m o (cond b (Some v) None) (first_of_each (same_key same_text) es)
-    by (Some k) e true = first_of_each-push_old (same_key same_text) entry_laws es (m, v) (any es m v
-        ∙ ap is_some e)
-    by (Some k) e false = ap (first_of_each (same_key same_text)) (append-nil es)
-    by None e true = first_of_each-push_new (same_key same_text) entry_laws es (m, v) (any es m v
-        ∙ ap is_some e)
-    by None e false = ap (first_of_each (same_key same_text)) (append-nil es)
+first-put es m v b = grind (
+  arith,
+  append-nil es,
+  any es m v,
+  first_of_each-push_old (same_key same_text) entry_laws es (m, v),
+  first_of_each-push_new (same_key same_text) entry_laws es (m, v),
+)
 
 -- what the code puts under a name that isn't taken comes last
 pub put-last : {V : Type 0} (m k : NameView) (x : V) (es new : List (NameView × V))
@@ -73,16 +63,5 @@ entries-key f test (e ∷ es) = ap (cond (test e.0) (Some e.0)) (entries-key f t
 
 pub after-push : {A : Type 0} (p : A → Bool) (xs : List A) (x : A)
     → after_first p (xs ++ x ∷ []) ≡ cond (is_some (find p xs)) (after_first p xs ++ x ∷ []) []
-after-push p [] x = by (p x)
-  where
-    by : (b : Bool) → cond b [] (after_first p []) ≡ []
-    by true = refl
-    by false = refl
-after-push {A} p (y ∷ ys) x = by (p y) (after-push p ys x)
-  where
-    by : (b : Bool)
-        → after_first p (ys ++ x ∷ []) ≡ cond (is_some (find p ys)) (after_first p ys ++ x ∷ []) []
-        → cond b (ys ++ x ∷ []) (after_first p (ys ++ x ∷ [])) ≡ cond (is_some (cond b (Some y) (find p ys)))
-        (cond b ys (after_first p ys) ++ x ∷ []) []
-    by true rest = refl
-    by false rest = rest
+after-push p [] x = grind arith
+after-push p (y ∷ ys) x = grind (arith, after-push p ys x)

@@ -1,10 +1,10 @@
 -- Tables that stand for a list stand for it with one more definition.
-use Rattle.std.proofs.Common.{◌≡◌, ◌∙◌, ap, sym, refl, subst, Bool, true, false, cond, List, [], ◌∷◌, ◌++◌}
-use Rattle.std.proofs.Common.{map, filter, Option, None, Some, option_map, is_some, unwrap_or, append_assoc}
+use Rattle.std.proofs.Common.{arith, ◌≡◌, ◌∙◌, ap, sym, refl, subst, Bool, true, false, cond, List, [], ◌∷◌}
+use Rattle.std.proofs.Common.{◌++◌, map, filter, Option, None, Some, option_map, append_assoc}
 use Rattle.std.specs.List.{cons_option}
 use Rattle.std.proofs.lemmas.List.{append-nil, map-append}
 use Rattle.std.proofs.lemmas.List.Elements.{filter-append, filter_map-append}
-use Rattle.graphql_nodes.specs.NameView.{NameView, plain_name}
+use Rattle.graphql_nodes.specs.NameView.{NameView}
 use Rattle.graphql_nodes.specs.NodeView.{NodeView}
 use Rattle.graphql_nodes.specs.SameText.{same_text}
 use Rattle.graphql_nodes.specs.Tables.{lookup_key}
@@ -15,7 +15,6 @@ use Rattle.graphql_ast.specs.declared.operation.FragmentDefinition.{FragmentDefi
 use Rattle.apollo_component.specs.FirstOfEach.{first_of_each, same_key}
 use Rattle.apollo_component.proofs.Lists.EachAfter.{each_after-push}
 use Rattle.apollo_schema.specs.declared.schema.Schema.{Schema}
-use Rattle.apollo_executable.specs.Erasure.{at_place}
 use Rattle.apollo_executable.specs.declared.operation.Operation.{Operation}
 use Rattle.apollo_executable.specs.declared.operation.Fragment.{Fragment}
 use Rattle.apollo_document.specs.Typable.{Fault, is_bare}
@@ -23,17 +22,16 @@ use Rattle.apollo_document.specs.declared.selection_path.ExecutableDefinitionNam
 use Rattle.apollo_document.specs.declared.selection_path.ExecutableDefinitionName.TheVariants.{NamedOperation}
 use Rattle.apollo_document.specs.AddedDefinitions.{DocumentItem, as_operation, as_fragment, operation_in}
 use Rattle.apollo_document.specs.AddedDefinitions.{fragment_in, operations, fragments}
-use Rattle.apollo_document.specs.KeptDefinitions.{root_type_of, is_rooted, kept_anonymous, kept_named}
-use Rattle.apollo_document.specs.KeptDefinitions.{is_on_type, fragment_under_name, kept_fragments}
-use Rattle.apollo_document.specs.KeptDefinitions.{is_repeated}
+use Rattle.apollo_document.specs.KeptDefinitions.{is_rooted, kept_anonymous, kept_named, is_on_type}
+use Rattle.apollo_document.specs.KeptDefinitions.{fragment_under_name, kept_fragments, is_repeated}
 use Rattle.apollo_document.specs.DocumentFaults.{ambiguous, ambiguous_if, faults_of_named}
 use Rattle.apollo_document.specs.DocumentFaults.{faults_in_operation, after_anonymous, unless_named}
 use Rattle.apollo_document.specs.DocumentFaults.{anonymous_faults, anonymous_location, fragment_faults}
 use Rattle.apollo_document.specs.DocumentFaults.{type_system_faults, operation_faults, definition_faults}
 use Rattle.apollo_document.specs.DocumentFaults.{faults_at, document_faults, faults_in_fragment, unless_taken}
 use Rattle.apollo_document.specs.Noted.{tables_noting}
-use Rattle.apollo_document.specs.Stands.{operation_from, rooted_operation, typed_operation, typed_fragment}
-use Rattle.apollo_document.specs.Stands.{fragment_if_typed, entries_by, put_unless_taken, Stands}
+use Rattle.apollo_document.specs.Stands.{rooted_operation, typed_operation, typed_fragment, fragment_if_typed}
+use Rattle.apollo_document.specs.Stands.{entries_by, put_unless_taken, Stands}
 use Rattle.apollo_document.specs.declared.tables.Tables.{Tables}
 use Rattle.apollo_document.specs.declared.build_error.BuildError.TheVariants as e
 use Rattle.apollo_document.proofs.Equations.{bare-nil, is_bare-map}
@@ -55,37 +53,26 @@ fragments-push xs x = filter_map-append fragment_in xs (x ∷ [])
 -- no operation, or no fragment, changes nothing of what is kept of them
 module _ (s : Option Schema) (xs : List DocumentItem) (x : DocumentItem) where
   pub same_operations : operation_in x ≡ None → operations (xs ++ x ∷ []) ≡ operations xs
-  same_operations h = operations-push xs x ∙ ap (λ o. operations xs ++ cons_option o []) h
-      ∙ append-nil (operations xs)
+  same_operations h = rw (h, append-nil) at (operations-push xs x)
 
   pub same_fragments : fragment_in x ≡ None → kept_fragments s (xs ++ x ∷ []) ≡ kept_fragments s xs
   same_fragments h = ap (λ l. first_of_each (same_key same_text)
-      (map fragment_under_name (filter (is_on_type s) l))) (fragments-push xs x
-      ∙ ap (λ o. fragments xs ++ cons_option o []) h ∙ append-nil (fragments xs))
+      (map fragment_under_name (filter (is_on_type s) l))) (rw (h, append-nil) at (fragments-push xs x))
 
 no_entries : {A B : Type 0} (f : A → B) (es : List (NameView × A)) → is_bare (entries_by f es) ≡ true
     → es ≡ []
-no_entries f es h = bare-nil es (sym (is_bare-map (λ e. (e.0, f e.1)) es) ∙ h)
+no_entries f es h = bare-nil es (sym (is_bare-map _ es) ∙ h)
 
 -- an operation that is built is the typed one, where it has a root type
 built_operation : (s : Option Schema) (n : Op)
     → rooted_operation s n ≡ option_map (typed_operation s) (cond (is_rooted s n) (Some n) None)
-built_operation s n = by (root_type_of s n.value.operation_type) refl
-  where
-    by : (o : Option NameView) → root_type_of s n.value.operation_type ≡ o
-        → rooted_operation s n ≡ option_map (typed_operation s) (cond (is_rooted s n) (Some n) None)
-    by (Some r) h = ap (option_map (λ root. at_place (operation_from s root) n)) h
-        ∙ (λ i. Some (at_place (operation_from s (unwrap_or (sym h i) (plain_name []))) n))
-        ∙ (λ i. option_map (typed_operation s) (cond (is_some (sym h i)) (Some n) None))
-    by None h = ap (option_map (λ root. at_place (operation_from s root) n)) h
-        ∙ (λ i. option_map (typed_operation s) (cond (is_some (sym h i)) (Some n) None))
+built_operation s n = grind arith
 
 -- where the anonymous operation stands
 location_of_kept : (s : Option Schema) (o : Option Op)
     → option_map (λ (n : NodeView Operation). n.location) (option_map (typed_operation s) o)
     ≡ option_map (λ n. n.location) o
-location_of_kept s (Some n) = refl
-location_of_kept s None = refl
+location_of_kept s o = grind arith
 
 -- the tables with one more named operation, and with one more fragment
 abbrev pub with_named : Option Schema → Op → NameView → Tables → Tables
@@ -112,17 +99,15 @@ pub kept_fragments-push : (s : Option Schema) (xs : List DocumentItem) (b : Bool
     (kept_fragments s xs)
 kept_fragments-push s xs b n =
     let on = filter (is_on_type s) (fragments xs) in
+    let one : map fragment_under_name (cond (is_on_type s n) (n ∷ []) [])
+    ≡ cond (is_on_type s n) ((n.value.name, n) ∷ []) [] = grind arith in
     ap (first_of_each (same_key same_text)) (
     ap (λ l. map fragment_under_name (filter (is_on_type s) l))
     (fragments-push xs (b, d.FragmentDefinition n))
-    ∙ ap (map fragment_under_name) (filter-append (is_on_type s) (fragments xs) (n ∷ []))
-    ∙ map-append fragment_under_name on (cond (is_on_type s n) (n ∷ []) [])
-    ∙ ap (λ l. map fragment_under_name on ++ l) (by (is_on_type s n)))
-    ∙ first-put (map fragment_under_name on) n.value.name n (is_on_type s n)
-  where
-    by : (c : Bool) → map fragment_under_name (cond c (n ∷ []) []) ≡ cond c ((n.value.name, n) ∷ []) []
-    by true = refl
-    by false = refl
+    ∙ ap (map fragment_under_name) (filter-append _ (fragments xs) (n ∷ []))
+    ∙ map-append fragment_under_name on _
+    ∙ ap (λ l. map fragment_under_name on ++ l) one) ∙ first-put _ _ n
+    _
 
 -- a definition that is no operation, and one that is no fragment
 pub no_operation : (x : Definition) → ((n : Op) → x ≡ d.OperationDefinition n → ⊥) → as_operation x ≡ None
@@ -154,12 +139,11 @@ module _ (s : Option Schema) (xs : List DocumentItem) (b : Bool) where
       → wrong ≡ faults_at s xs (b, x) → Holds os kept (document_faults s xs ++ wrong) t
       → Stands s (xs ++ (b, x) ∷ []) t
   one_more x ops frags wrong h = record {
-    anonymous = h.anonymous ∙ (λ i. option_map (typed_operation s) (anonymous_of p (ops i)));
-    named = h.named ∙ (λ i. entries_by (typed_operation s) (named_of p (ops i)));
-    fragments = h.fragments ∙ ap (entries_by (typed_fragment s)) frags;
-    repeated = h.repeated ∙ (λ i. repeated_of p (ops i));
-    faults = h.faults ∙ ap (λ l. document_faults s xs ++ l) wrong
-        ∙ sym (each_after-push (faults_at s) [] xs (b, x));
+    anonymous = rw (← ops) h.anonymous;
+    named = rw (← ops) h.named;
+    fragments = rw (← frags) h.fragments;
+    repeated = rw (← ops) h.repeated;
+    faults = rw (each_after-push _ [] xs (b, x), ← wrong) h.faults;
   }
 
   module _ (n : Op) (old new : Tables) where
@@ -169,24 +153,21 @@ module _ (s : Option Schema) (xs : List DocumentItem) (b : Bool) where
         now → Stands s (xs ++ (b, d.OperationDefinition n) ∷ []) new
     with_operation name h now made held =
         let x : DocumentItem = (b, d.OperationDefinition n) in
-        subst (Stands s (xs ++ x ∷ [])) (sym made) (one_more (d.OperationDefinition n)
-        (sym (operations-push xs x)) (sym (same_fragments s xs x refl)) (ap (operation_faults s xs n)
-        (sym h)) held)
+        subst (Stands s (xs ++ x ∷ [])) (sym made) (one_more _ (sym (operations-push xs x))
+        (sym (same_fragments s xs x refl)) (ap (operation_faults s xs n) (sym h)) held)
 
     pub stands-named : (m : NameView) → n.value.name ≡ Some m → Stands s xs old → new ≡ with_named s n m old
         → Stands s (xs ++ (b, d.OperationDefinition n) ∷ []) new
     stands-named m h was made =
         let names = kept_named s xs in
         let key : lookup_key (same_text m) old.operations.named ≡ lookup_key (same_text m) names =
-        ap (lookup_key (same_text m)) was.named ∙ entries-key (typed_operation s) (same_text m) names in
+        rw was.named (entries-key _ _ names) in
         let location : option_map (λ o. o.location) old.operations.anonymous ≡ anonymous_location s xs =
-        ap (option_map (λ o. o.location)) was.anonymous ∙ location_of_kept s (kept_anonymous s xs) in
+        rw was.anonymous (location_of_kept s _) in
         with_operation (Some m) h _ made (record {
           anonymous = was.anonymous ∙ ap (option_map (typed_operation s)) (sym (named-anonymous p os n m h));
-          named = (λ i. put_unless_taken m (key i) (built_operation s n i) (was.named i))
-              ∙ entries-put (typed_operation s) m (lookup_key (same_text m) names)
-              (cond (p n) (Some n) None) names
-              ∙ ap (entries_by (typed_operation s)) (sym (named-kept p os n m h));
+          named = (λ i. put_unless_taken m (key i) (built_operation s n i) (was.named i)) ∙ entries-put _ m _
+              _ names ∙ ap (entries_by (typed_operation s)) (sym (named-kept p os n m h));
           fragments = was.fragments;
           repeated = was.repeated ∙ sym (named-repeated p os n m h);
           faults = append_assoc old.faults _ _
@@ -209,8 +190,7 @@ module _ (s : Option Schema) (xs : List DocumentItem) (b : Bool) where
               k in cc
           by (Some k) is =
               let location : Some a.location ≡ anonymous_location s xs =
-              ap (option_map (λ o. o.location)) (sym there ∙ was.anonymous)
-              ∙ location_of_kept s (kept_anonymous s xs) in
+              ap (option_map (λ o. o.location)) (sym there ∙ was.anonymous) ∙ location_of_kept s _ in
               with_operation None h _ made (record {
                 anonymous = was.anonymous
                     ∙ ap (option_map (typed_operation s)) (sym (further-anonymous p os n k is));
@@ -223,11 +203,7 @@ module _ (s : Option Schema) (xs : List DocumentItem) (b : Bool) where
 
       module _ (none : old.operations.anonymous ≡ None) where
         none_kept : kept_anonymous s xs ≡ None
-        none_kept = by (kept_anonymous s xs) (sym was.anonymous ∙ none)
-          where
-            by : (o : Option Op) → option_map (typed_operation s) o ≡ None → o ≡ None
-            by None h = refl
-            by (Some a) h = cc
+        none_kept = grind (arith, was.anonymous, none)
 
         -- what is wrong where no anonymous operation is kept
         alone_faults : (es : List (NameView × Op)) → kept_named s xs ≡ es → (now : Tables)
@@ -252,12 +228,12 @@ module _ (s : Option Schema) (xs : List DocumentItem) (b : Bool) where
                 ∙ others in cc
             by (e ∷ es) k =
                 let same = later-anonymous p os n e es k in
-                with_operation None h (tables_noting (ambiguous n.location ∷ []) old) made (record {
+                with_operation None h _ made (record {
                   anonymous = was.anonymous ∙ ap (option_map (typed_operation s)) (sym same);
                   named = same_named;
                   fragments = was.fragments;
                   repeated = was.repeated ∙ without-repeated p os none_kept
-                      ∙ sym (without-repeated p (os ++ n ∷ []) (same ∙ none_kept));
+                      ∙ sym (without-repeated p _ (same ∙ none_kept));
                   faults = alone_faults (e ∷ es) k (tables_noting (ambiguous n.location ∷ []) old) refl;
                 })
 
@@ -266,8 +242,7 @@ module _ (s : Option Schema) (xs : List DocumentItem) (b : Bool) where
           faults = old.faults ++ faults_in_operation s (AnonymousOperation n.value.operation_type) n;
         } → Stands s (xs ++ (b, d.OperationDefinition n) ∷ []) new
         stands-anonymous alone made =
-            let none_named : kept_named s xs ≡ [] =
-            no_entries (typed_operation s) (kept_named s xs) (ap is_bare (sym was.named) ∙ alone) in
+            let none_named : kept_named s xs ≡ [] = no_entries _ _ (ap is_bare (sym was.named) ∙ alone) in
             with_operation None h _ made (record {
               anonymous = built_operation s n
                   ∙ ap (option_map (typed_operation s)) (sym (only-anonymous p os n none_kept none_named h));
@@ -286,24 +261,19 @@ module _ (s : Option Schema) (xs : List DocumentItem) (b : Bool) where
       let x : DocumentItem = (b, d.FragmentDefinition n) in
       let kept = kept_fragments s xs in
       let key : lookup_key (same_text n.value.name) old.fragments ≡ lookup_key (same_text n.value.name) kept =
-      ap (lookup_key (same_text n.value.name)) was.fragments
-      ∙ entries-key (typed_fragment s) (same_text n.value.name) kept in
-      subst (Stands s (xs ++ x ∷ [])) (sym made)
-      (one_more (d.FragmentDefinition n) (sym (same_operations s xs x refl))
+      rw was.fragments (entries-key _ _ kept) in
+      subst (Stands s (xs ++ x ∷ [])) (sym made) (one_more _ (sym (same_operations s xs x refl))
       (sym (kept_fragments-push s xs b n)) refl (record {
         anonymous = was.anonymous;
         named = was.named;
-        fragments = (λ i. put_unless_taken n.value.name (key i) (built (is_on_type s n) i) (was.fragments i))
-            ∙ entries-put (typed_fragment s) n.value.name (lookup_key (same_text n.value.name) kept)
-            (cond (is_on_type s n) (Some n) None) kept;
+        fragments = (λ i. put_unless_taken n.value.name (key i) (built i) (was.fragments i))
+            ∙ entries-put _ n.value.name _ _ kept;
         repeated = was.repeated;
         faults = λ i. was.faults i ++ fragment_faults s (key i) n;
       }))
     where
-      built : (c : Bool)
-          → cond c (Some (typed_fragment s n)) None ≡ option_map (typed_fragment s) (cond c (Some n) None)
-      built true = refl
-      built false = refl
+      built : fragment_if_typed s n ≡ option_map (typed_fragment s) (cond (is_on_type s n) (Some n) None)
+      built = grind arith
 
   -- a definition that is neither
   pub stands-other : (x : Definition) (old new : Tables) → as_operation x ≡ None → as_fragment x ≡ None
@@ -351,7 +321,7 @@ module _ (s : Option Schema) (n : NodeView OperationDefinition) (m : NameView) (
         → new ≡ tables_noting ((m.location, e.OperationNameCollision kept) ∷ []) noted
         → new ≡ with_named s n m old
     named-taken kept new found made = made ∙ ap (tables_noting ((m.location, e.OperationNameCollision kept)
-        ∷ [])) is ∙ (λ i. with (looked (Some kept) found i) (rooted_operation s n))
+        ∷ [])) is ∙ (λ i. with (looked _ found i) (rooted_operation s n))
 
     pub named-left : (new : Tables) → lookup_key (same_text m) noted.operations.named ≡ None
         → rooted_operation s n ≡ None → new ≡ tables_noting own noted → new ≡ with_named s n m old

@@ -1,6 +1,6 @@
 -- What elaboration gives is typed.
-use Rattle.std.proofs.Common.{◌≡◌, ap, sym, subst, refl, Bool, true, false, List, [], ◌∷◌, map, Option, Some}
-use Rattle.std.proofs.Common.{None, option_map, Result, Ok, Err}
+use Rattle.std.proofs.Common.{arith, ◌≡◌, ap, sym, subst, refl, Bool, true, List, [], ◌∷◌, map, Option, Some}
+use Rattle.std.proofs.Common.{None, option_map, Result, Ok}
 use Rattle.std.specs.List.{AllByRecursion, filter_map, cons_option}
 use Rattle.std.specs.Option.{IfSome}
 use Rattle.graphql_nodes.specs.NameView.{NameView}
@@ -18,10 +18,9 @@ use Rattle.apollo_executable.specs.declared.selection.Selection.TheOpen as typed
 use Rattle.apollo_executable.specs.declared.selection.Field.{Field, roll-Field}
 use Rattle.apollo_executable.specs.declared.selection.InlineFragment.{InlineFragment, roll-InlineFragment}
 use Rattle.apollo_executable.specs.declared.selection.SelectionSet.{SelectionSet, roll-SelectionSet}
-use Rattle.apollo_document.specs.Typable.{Wrong, child_of, is_bare, leaf_at, unless_leaf, with_subselections}
-use Rattle.apollo_document.specs.Typable.{defined_in, typable_field, typable_fragment, if_typable}
+use Rattle.apollo_document.specs.Typable.{child_of, is_bare, typable_field, typable_fragment, if_typable}
 use Rattle.apollo_document.specs.Stripped.{in_place_of}
-use Rattle.apollo_document.specs.Elaborated.{typed_spread, set_of, elaborated_selection, elaborated_field}
+use Rattle.apollo_document.specs.Elaborated.{set_of, elaborated_selection, elaborated_field}
 use Rattle.apollo_document.specs.Elaborated.{elaborated_fragment, elaborated}
 use Rattle.apollo_document.specs.TypedSelections.{In, selection_in, typed_field_in, typed_fragment_in, set_in}
 use Rattle.apollo_document.specs.TypedSelections.{IsTyped, IsTypedField, IsTypedFragment, IsTypedSet}
@@ -80,43 +79,27 @@ module _ (s : Option Schema) where
 
     set-typed : (xs : List Selection) → AllByRecursion (λ (x : Selection). IsTyped s ty x) xs
         → IsTypedSet s ty (set_of ty xs)
-    set-typed xs h = along (sym (set-roll (record { ty = ty; selections = xs }))) (refl, h)
+    set-typed xs h = rw (set-roll _) (refl, h)
 
 -- ---- what holds of what is typable
 
 holds_typable : {A B E : Type 0} (P : B → Type 0) (f : A → B) (r : Result A E)
     → ((a : A) → r ≡ Ok a → P (f a)) → IfSome (if_typable f r) P
-holds_typable P f (Ok a) h = h a refl
-holds_typable P f (Err wrong) h = tt
+holds_typable P f r h = grind (arith, h)
 
 holds_map : {A B : Type 0} (P : A → Type 0) (Q : B → Type 0) (f : A → B) → ((a : A) → P a → Q (f a))
     → (o : Option A) → IfSome o P → IfSome (option_map f o) Q
-holds_map P Q f g None h = tt
-holds_map P Q f g (Some a) h = g a h
+holds_map P Q f g o h = grind (arith, g, h)
 
 all_cons : {A : Type 0} (P : A → Type 0) (o : Option A) (xs : List A) → IfSome o P → AllByRecursion P xs
     → AllByRecursion P (cons_option o xs)
-all_cons P None xs h g = g
-all_cons P (Some a) xs h g = (h, g)
+all_cons P o xs h g = grind (arith, h, g)
 
 -- fewer subselections leave a field typable
 typable-more : (s : Option Schema) (ty name : NameView) (b c : Bool) (d : NodeView FieldDefinition)
     → (b ≡ true → c ≡ true) → typable_field s ty name b ≡ Ok d → typable_field s ty name c ≡ Ok d
 typable-more None ty name b c d h p = p
-typable-more (Some s) ty name b c d h p = defined (defined_in s ty name) p
-  where
-    kept : (b c : Bool) (e : NodeView FieldDefinition) (leaf : Option Wrong) → (b ≡ true → c ≡ true)
-        → unless_leaf b e leaf ≡ Ok d → unless_leaf c e leaf ≡ Ok d
-    kept true true e leaf h p = p
-    kept true false e leaf h p = let q : false ≡ true = h refl in cc
-    kept false true e None h p = p
-    kept false true e (Some wrong) h p = cc
-    kept false false e leaf h p = p
-
-    defined : (r : Result (NodeView FieldDefinition) Wrong) → with_subselections s b r ≡ Ok d
-        → with_subselections s c r ≡ Ok d
-    defined (Ok e) p = kept b c e (leaf_at s e) h p
-    defined (Err wrong) p = cc
+typable-more (Some s) ty name b c d h p = grind (arith, h, p)
 
 bare_kept : {A B : Type 0} (h : A → Option B) (xs : List A) → is_bare xs ≡ true
     → is_bare (filter_map h xs) ≡ true
@@ -142,23 +125,19 @@ module _ (s : Option Schema) where
 
   below_typed : (ys : List WS) (t : NameView) → AreTyped t (map (λ (y : WS). y.0) ys)
   below_typed [] t = tt
-  below_typed (y ∷ ys) t = all_cons (λ x. IsTyped s t x) (elaborated_selection s t y.0) _ (y.1 t)
-      (below_typed ys t)
+  below_typed (y ∷ ys) t = all_cons _ _ _ (y.1 t) (below_typed ys t)
 
   field_holds : (f : ast_field.Field) → ((t : NameView) → AreTyped t f.selection_set) → PF f
   field_holds f h ty = subst (λ o. IfSome o (λ t. IsTypedField s ty t)) (sym (elaborated-field s ty f))
-      (holds_typable (λ t. IsTypedField s ty t) _ (typable_field s ty f.name (is_bare f.selection_set))
-      (λ d e. along (sym (field-roll s ty _)) (
-        typable-more s ty f.name (is_bare f.selection_set) _ d
-            (bare_kept (elaborated_selection s (child_of d)) f.selection_set) e,
-        set-typed s (child_of d) (typed_in s f.selection_set (child_of d)) (h (child_of d)),
+      (holds_typable _ _ _ (λ d e. along (sym (field-roll s ty _)) (
+        typable-more s ty f.name _ _ d (bare_kept _ f.selection_set) e,
+        set-typed s _ _ (h (child_of d)),
       )))
 
   fragment_holds : (f : ast_inline.InlineFragment) → ((t : NameView) → AreTyped t f.selection_set) → PI f
   fragment_holds f h ty = subst (λ o. IfSome o (λ t. IsTypedFragment s ty t))
-      (sym (elaborated-fragment s ty f)) (holds_typable (λ t. IsTypedFragment s ty t) _
-      (typable_fragment s ty f.type_condition) (λ c e. along (sym (fragment-roll s ty _))
-      (c, (e, set-typed s c (typed_in s f.selection_set c) (h c)))))
+      (sym (elaborated-fragment s ty f)) (holds_typable _ _ (typable_fragment s ty f.type_condition)
+      (λ c e. along (sym (fragment-roll s ty _)) (c, (e, set-typed s c _ (h c)))))
 
   selection_holds : (y : layer.Selection-F WS ((f : ast_field.Field) × PF f) ((f : ast_inline.InlineFragment)
       × PI f))
@@ -167,21 +146,14 @@ module _ (s : Option Schema) where
       (λ y. y.0) (λ y. y.0) (λ y. y.0) y))
   selection_holds (layer.Selection-F.Field n) ty =
       let m = in_place_of n n.value.0 in
-      subst (λ o. IfSome o (λ t. IsTyped s ty t)) (sym (elaborated-roll s ty (layer.Selection-F.Field m)))
-      (holds_map (λ t. IsTypedField s ty t) (λ t. IsTyped s ty t) _
-      (λ f h. along (sym (selection-roll s ty (typed_layer.Selection-F.Field (in_place_of m f)))) h)
-      (elaborated_field s ty n.value.0) (n.value.1 ty))
+      subst (λ o. IfSome o (λ t. IsTyped s ty t)) (sym (elaborated-roll s ty _)) (holds_map _ _ _
+      (λ f h. along (sym (selection-roll s ty _)) h) (elaborated_field s ty n.value.0) (n.value.1 ty))
   selection_holds (layer.Selection-F.FragmentSpread n) ty = subst (λ o. IfSome o (λ t. IsTyped s ty t))
-      (sym (elaborated-roll s ty (layer.Selection-F.FragmentSpread n)))
-      (along (sym (selection-roll s ty (typed_layer.Selection-F.FragmentSpread
-      (in_place_of n (typed_spread n.value))))) tt)
+      (sym (elaborated-roll s ty _)) (along (sym (selection-roll s ty _)) tt)
   selection_holds (layer.Selection-F.InlineFragment n) ty =
       let m = in_place_of n n.value.0 in
-      subst (λ o. IfSome o (λ t. IsTyped s ty t))
-      (sym (elaborated-roll s ty (layer.Selection-F.InlineFragment m)))
-      (holds_map (λ t. IsTypedFragment s ty t) (λ t. IsTyped s ty t) _
-      (λ f h. along (sym (selection-roll s ty (typed_layer.Selection-F.InlineFragment (in_place_of m f))))
-      h) (elaborated_fragment s ty n.value.0) (n.value.1 ty))
+      subst (λ o. IfSome o (λ t. IsTyped s ty t)) (sym (elaborated-roll s ty _)) (holds_map _ _ _
+      (λ f h. along (sym (selection-roll s ty _)) h) (elaborated_fragment s ty n.value.0) (n.value.1 ty))
 
   all_typed : (x : ast.Selection) → PS x
   all_typed = ast.ind-Selection PS PF PI (λ x y is. subst (λ z. PS (ast.roll-Selection z)) is
@@ -191,8 +163,7 @@ module _ (s : Option Schema) where
 
   list_typed : (ty : NameView) (xs : List ast.Selection) → AreTyped ty xs
   list_typed ty [] = tt
-  list_typed ty (x ∷ xs) = all_cons (λ t. IsTyped s ty t) (elaborated_selection s ty x) _ (all_typed x ty)
-      (list_typed ty xs)
+  list_typed ty (x ∷ xs) = all_cons _ _ _ (all_typed x ty) (list_typed ty xs)
 
   pub elaborated_is_typed : (ty : NameView) (xs : List ast.Selection) → IsTypedSet s ty (elaborated s ty xs)
-  elaborated_is_typed ty xs = set-typed s ty (typed_in s xs ty) (list_typed ty xs)
+  elaborated_is_typed ty xs = set-typed s ty _ (list_typed ty xs)

@@ -1,8 +1,8 @@
 -- A list that has an anonymous operation first, then named ones, then fragments. Each name is there once, and
 -- each is without a fault of its own. What the list keeps is all of it, and its faults are the ambiguities
 -- alone.
-use Rattle.std.proofs.Common.{◌≡◌, ◌∙◌, ap, sym, refl, Bool, true, false, cond, not, ◌||◌, List, [], ◌∷◌}
-use Rattle.std.proofs.Common.{◌++◌, map, Option, None, Some, option_map, is_some, append_assoc}
+use Rattle.std.proofs.Common.{arith, ◌≡◌, ◌∙◌, ap, refl, Bool, true, false, cond, not, List, [], ◌∷◌, ◌++◌}
+use Rattle.std.proofs.Common.{map, Option, None, Some, option_map, is_some, append_assoc}
 use Rattle.std.specs.Cmp.{IsEquivalence}
 use Rattle.std.specs.List.{AllByRecursion, IsDistinct, flat_map, list_any}
 use Rattle.std.proofs.lemmas.List.{append-nil}
@@ -19,16 +19,13 @@ use Rattle.apollo_component.specs.FirstOfEach.{first_of_each, same_key}
 use Rattle.apollo_component.proofs.Lists.EachAfter.{each_after-append}
 use Rattle.apollo_component.proofs.FirstOfEachLemmas.{entry_laws}
 use Rattle.apollo_schema.specs.declared.schema.Schema.{Schema}
-use Rattle.apollo_document.specs.declared.build_error.BuildError.TheVariants as e
 use Rattle.apollo_document.specs.declared.selection_path.ExecutableDefinitionName.TheVariants.{AnonymousOperation}
 use Rattle.apollo_document.specs.declared.selection_path.ExecutableDefinitionName.TheVariants.{NamedOperation}
 use Rattle.apollo_document.specs.AddedDefinitions.{DocumentItem, operations, fragments}
 use Rattle.apollo_document.specs.KeptDefinitions.{is_rooted, first_if_anonymous, kept_anonymous, kept_named}
 use Rattle.apollo_document.specs.KeptDefinitions.{is_on_type, kept_fragments}
-use Rattle.apollo_document.specs.DocumentFaults.{ambiguous_if, unless_taken, faults_in_operation}
-use Rattle.apollo_document.specs.DocumentFaults.{named_faults, faults_in_fragment, fragment_faults}
+use Rattle.apollo_document.specs.DocumentFaults.{ambiguous_if, faults_in_operation, faults_in_fragment}
 use Rattle.apollo_document.specs.DocumentFaults.{operation_faults, faults_at, document_faults}
-use Rattle.apollo_document.specs.Stands.{put_unless_taken}
 use Rattle.apollo_document.proofs.ListLemmas.{some_key}
 use Rattle.apollo_document.proofs.OperationLemmas.{Op, Frag, anonymous_of, named_of, named-none, named-kept}
 use Rattle.apollo_document.proofs.OperationLemmas.{named-anonymous}
@@ -84,19 +81,12 @@ module _ {V : Type 0} where
       → AllByRecursion (λ x. same_key same_text y x ≡ false) rest → Fresh (done ++ y ∷ []) rest
   still_fresh done y [] f a = tt
   still_fresh done y (x ∷ rest) f a =
-      let laws : IsEquivalence (same_key {V = V} same_text) = entry_laws in (
-        list_any-append (same_key same_text x) done (y ∷ []) ∙ (λ i. f.0 i || (laws.symm x y i || false))
-            ∙ ap (λ b. b || false) a.0,
-        still_fresh done y rest f.1 a.1,
-      )
+      let laws : IsEquivalence (same_key {V = V} same_text) = entry_laws in
+      (rw (list_any-append, f.0, laws.symm x y, a.0) refl, still_fresh done y rest f.1 a.1)
 
   no_key : (x : NameView × V) (done : List (NameView × V)) → is_there x done ≡ false
       → lookup_key (same_text x.0) done ≡ None
-  no_key x done h = by (lookup_key (same_text x.0) done) (sym (some_key (same_text x.0) done) ∙ h)
-    where
-      by : (o : Option NameView) → is_some o ≡ false → o ≡ None
-      by None e = refl
-      by (Some k) e = cc
+  no_key x done h = grind (arith, some_key (same_text x.0) done, h)
 
 module _ (s : Option Schema) (b : Bool) where
   -- ---- named operations
@@ -111,19 +101,13 @@ module _ (s : Option Schema) (b : Bool) where
     keeps-push : Keeps (zs ++ operation_item b x ∷ []) a (done ++ x ∷ [])
     keeps-push =
         let p = is_rooted s in
-        let more = operations-push zs (operation_item b x) in (
-          ap (anonymous_of p) more ∙ named-anonymous p (operations zs) x.1 x.0 sound.0 ∙ k.0,
-          ap (named_of p) more ∙ named-kept p (operations zs) x.1 x.0 sound.0
-              ∙ (λ i. put_unless_taken x.0 (lookup_key (same_text x.0) (k.1 i))
-              (cond (sound.1.0 i) (Some x.1) None) (k.1 i))
-              ∙ ap (λ o. put_unless_taken x.0 o (Some x.1) done) (no_key x done fresh),
+        let more = operations-push zs _ in (
+          ap (anonymous_of p) more ∙ named-anonymous p _ x.1 x.0 sound.0 ∙ k.0,
+          ap (named_of p) more ∙ named-kept p _ x.1 x.0 sound.0 ∙ rw (k.1, sound.1.0, no_key x done fresh),
         )
 
     named_fault : faults_at s zs (operation_item b x) ≡ ambiguous_if (kept_location a)
-    named_fault = ap (operation_faults s zs x.1) sound.0
-        ∙ (λ i. named_faults s (kept_location (k.0 i)) (lookup_key (same_text x.0) (k.1 i)) x.0 x.1)
-        ∙ (λ i. ambiguous_if (kept_location a) ++ unless_taken e.OperationNameCollision x.0
-        (no_key x done fresh i) (sound.1.1 i)) ∙ append-nil (ambiguous_if (kept_location a))
+    named_fault = rw (sound.0, k.0, k.1, no_key x done fresh, sound.1.1, append-nil)
 
   all_named : (zs : List DocumentItem) (a : Option Op) (done rest : List (NameView × Op))
       → AllByRecursion (IsSoundOperation s) rest → IsDistinct (same_key same_text) rest → Fresh done rest
@@ -133,12 +117,9 @@ module _ (s : Option Schema) (b : Bool) where
   unfolding IsDistinct
   all_named zs a done [] sound apart fresh k = (rw (append-nil zs, append-nil done) k, refl)
   all_named zs a done (x ∷ rest) sound apart fresh k =
-      let next = all_named (zs ++ operation_item b x ∷ []) a (done ++ x ∷ []) rest sound.1 apart.1
+      let next = all_named (zs ++ operation_item b x ∷ []) a _ rest sound.1 apart.1
       (still_fresh done x rest fresh.1 apart.0) (keeps-push zs a done x sound.0 fresh.0 k) in (
-        rw (
-          append_assoc zs (operation_item b x ∷ []) (map (operation_item b) rest),
-          append_assoc done (x ∷ []) rest,
-        ) at next.0,
+        rw (append_assoc zs _ _, append_assoc done (x ∷ []) rest) at next.0,
         λ i. named_fault zs a done x sound.0 fresh.0 k i ++ next.1 i,
       )
 
@@ -148,13 +129,10 @@ module _ (s : Option Schema) (b : Bool) where
       (sound : IsSoundFragment s x) (fresh : is_there x done ≡ false) (k : kept_fragments s zs ≡ done) where
     -- one more
     fragments-push : kept_fragments s (zs ++ fragment_item b x ∷ []) ≡ done ++ x ∷ []
-    fragments-push = kept_fragments-push s zs b x.1
-        ∙ (λ i. put_unless_taken (sound.0 i) (lookup_key (same_text (sound.0 i)) (k i)) (cond (sound.1.0 i)
-        (Some x.1) None) (k i)) ∙ ap (λ o. put_unless_taken x.0 o (Some x.1) done) (no_key x done fresh)
+    fragments-push = kept_fragments-push s zs b x.1 ∙ rw (sound.0, k, sound.1.0, no_key x done fresh)
 
     fragment_fault : faults_at s zs (fragment_item b x) ≡ []
-    fragment_fault = (λ i. fragment_faults s (lookup_key (same_text (sound.0 i)) (k i)) x.1)
-        ∙ (λ i. unless_taken e.FragmentNameCollision x.1.value.name (no_key x done fresh i) (sound.1.1 i))
+    fragment_fault = rw (sound.1.1, k, sound.0, no_key x done fresh)
 
   all_fragments : (zs : List DocumentItem) (done rest : List (NameView × Frag))
       → AllByRecursion (IsSoundFragment s) rest → IsDistinct (same_key same_text) rest → Fresh done rest
@@ -162,32 +140,26 @@ module _ (s : Option Schema) (b : Bool) where
       → (kept_fragments s (zs ++ map (fragment_item b) rest) ≡ done ++ rest)
       × (each_after (faults_at s) zs (map (fragment_item b) rest) ≡ [])
   unfolding IsDistinct
-  all_fragments zs done [] sound apart fresh k =
-      (ap (kept_fragments s) (append-nil zs) ∙ k ∙ sym (append-nil done), refl)
+  all_fragments zs done [] sound apart fresh k = (rw (append-nil zs, append-nil done) k, refl)
   all_fragments zs done (x ∷ rest) sound apart fresh k =
-      let next = all_fragments (zs ++ fragment_item b x ∷ []) (done ++ x ∷ []) rest sound.1 apart.1
+      let next = all_fragments (zs ++ fragment_item b x ∷ []) _ rest sound.1 apart.1
       (still_fresh done x rest fresh.1 apart.0) (fragments-push zs done x sound.0 fresh.0 k) in (
-        ap (kept_fragments s) (sym (append_assoc zs (fragment_item b x ∷ []) (map (fragment_item b) rest)))
-            ∙ next.0 ∙ append_assoc done (x ∷ []) rest,
+        rw (append_assoc zs _ _, append_assoc done (x ∷ []) rest) at next.0,
         λ i. fragment_fault zs done x sound.0 fresh.0 k i ++ next.1 i,
       )
 
   -- operations say nothing of fragments, nor fragments of operations
   operations-fragments : (zs : List DocumentItem) (rest : List (NameView × Frag))
       → operations (zs ++ map (fragment_item b) rest) ≡ operations zs
-  operations-fragments zs [] = ap operations (append-nil zs)
-  operations-fragments zs (x ∷ rest) =
-      ap operations (sym (append_assoc zs (fragment_item b x ∷ []) (map (fragment_item b) rest)))
-      ∙ operations-fragments (zs ++ fragment_item b x ∷ []) rest ∙ same_operations s zs (fragment_item b x)
-      refl
+  operations-fragments zs [] = rw append-nil
+  operations-fragments zs (x ∷ rest) = rw (← append_assoc zs (fragment_item b x ∷ []) _)
+      (operations-fragments (zs ++ fragment_item b x ∷ []) rest ∙ same_operations s zs _ refl)
 
   fragments-operations : (zs : List DocumentItem) (rest : List (NameView × Op))
       → kept_fragments s (zs ++ map (operation_item b) rest) ≡ kept_fragments s zs
-  fragments-operations zs [] = ap (kept_fragments s) (append-nil zs)
-  fragments-operations zs (x ∷ rest) =
-      ap (kept_fragments s) (sym (append_assoc zs (operation_item b x ∷ []) (map (operation_item b) rest)))
-      ∙ fragments-operations (zs ++ operation_item b x ∷ []) rest ∙ same_fragments s zs (operation_item b x)
-      refl
+  fragments-operations zs [] = rw append-nil
+  fragments-operations zs (x ∷ rest) = rw (← append_assoc zs (operation_item b x ∷ []) _)
+      (fragments-operations (zs ++ operation_item b x ∷ []) rest ∙ same_fragments s zs _ refl)
 
   -- ---- the whole list
 
@@ -200,7 +172,7 @@ module _ (s : Option Schema) (b : Bool) where
     (
       ap (λ c. first_if_anonymous (cond c (Some n) None)) sound.1.0
           ∙ ap (λ (o : Option NameView). cond (not (is_some o)) (Some n) None) sound.0,
-      ap (first_of_each (same_key same_text)) (named-none (is_rooted s n) n sound.0),
+      ap (first_of_each (same_key same_text)) (named-none _ n sound.0),
     ),
     refl,
     ap (λ l. l ++ []) (ap (operation_faults s [] n) sound.0 ∙ sound.1.1),
@@ -218,14 +190,14 @@ module _ (s : Option Schema) (b : Bool) where
   all_kept a ns fs sound names apart_names fragments apart =
       let first = first_kept a sound in
       let head = anonymous_items b a ++ map (operation_item b) ns in
-      let then_named = all_named (anonymous_items b a) a [] ns names apart_names (none_there ns) first.0 in
+      let then_named = all_named _ a [] ns names apart_names (none_there ns) first.0 in
       let then_fragments = all_fragments head [] fs fragments apart (none_there fs)
       (fragments-operations (anonymous_items b a) ns ∙ first.1) in
       record {
-        anonymous = ap (anonymous_of (is_rooted s)) (operations-fragments head fs) ∙ then_named.0.0;
-        named = ap (named_of (is_rooted s)) (operations-fragments head fs) ∙ then_named.0.1;
+        anonymous = ap (anonymous_of _) (operations-fragments head fs) ∙ then_named.0.0;
+        named = ap (named_of _) (operations-fragments head fs) ∙ then_named.0.1;
         fragments = then_fragments.0;
-        faults = each_after-append (faults_at s) [] head (map (fragment_item b) fs)
+        faults = each_after-append _ [] head _
             ∙ (λ i. each_after-append (faults_at s) [] (anonymous_items b a) (map (operation_item b) ns) i
             ++ then_fragments.1 i) ∙ (λ i. (first.2 i ++ then_named.1 i) ++ [])
             ∙ append-nil (flat_map (λ x. ambiguous_if (kept_location a)) ns);

@@ -29,28 +29,21 @@ pub record ComparedParts : Type 0 where
 
 module _ (parts : ComparedParts) where
   pub operations : Compares operation.ghosts.eq bare_operation
-  operations = made (λ p. record {
-    operation_type = p.0;
-    name = p.1.0;
-    variables = p.1.1.0;
-    directives = p.1.1.1.0;
-    selection_set = p.1.1.1.1;
-  }) (λ o. (o.operation_type, (o.name, (o.variables, (o.directives, o.selection_set))))) (λ _. refl)
-      (and_then (of_part (λ (o : Operation). o.operation_type) (kinds kind.the_type tt))
+  operations = made _ (λ o. (o.operation_type, (o.name, (o.variables, (o.directives, o.selection_set)))))
+      (λ _. refl) (and_then (of_part _ (kinds kind.the_type tt))
       (and_then (of_part (λ (o : Operation). o.name) (options names))
       (and_then (of_part (λ (o : Operation). o.variables) (lists (nodes parts.variable_definitions)))
       (and_then (of_part (λ (o : Operation). o.directives) parts.directive_lists)
       (of_part (λ (o : Operation). o.selection_set) parts.selection_sets)))))
 
   pub fragments : Compares fragment.ghosts.eq bare_fragment
-  fragments = made (λ p. record { name = p.0; directives = p.1.0; selection_set = p.1.1 })
-      (λ f. (f.name, (f.directives, f.selection_set))) (λ _. refl)
+  fragments = made _ (λ f. (f.name, (f.directives, f.selection_set))) (λ _. refl)
       (and_then (of_part (λ (f : Fragment). f.name) names) (and_then (of_part (λ (f : Fragment). f.directives)
       parts.directive_lists) (of_part (λ (f : Fragment). f.selection_set) parts.selection_sets)))
 
   pub operation_maps : Compares operation_map.ghosts.eq bare_operation_map
-  operation_maps = made (λ p. record { anonymous = p.0; named = p.1 }) (λ m. (m.anonymous, m.named))
-      (λ _. refl) (and_then (of_part (λ (m : OperationMap). m.anonymous) (options (nodes operations)))
+  operation_maps = made _ (λ m. (m.anonymous, m.named)) (λ _. refl)
+      (and_then (of_part (λ (m : OperationMap). m.anonymous) (options (nodes operations)))
       (of_part (λ (m : OperationMap). m.named) (tables_of_names (nodes operations))))
 
   pub documents : Compares document.ghosts.eq bare_document

@@ -1,5 +1,5 @@
 -- The operation that a request asks for, written to.
-use Rattle.std.proofs.Common.{◌≡◌, List, [], ◌∷◌, ◌++◌, Option, None, Some, unwrap_or, sym, ap, ◌∙◌}
+use Rattle.std.proofs.Common.{◌≡◌, List, [], ◌∷◌, ◌++◌, Option, None, Some, sym, ap, ◌∙◌}
 use Rattle.std.proofs.lemmas.Map.Steps.{set_value_same}
 use Rattle.graphql_nodes.specs.NameView.{NameView}
 use Rattle.graphql_nodes.specs.NodeView.{NodeView}
@@ -18,13 +18,12 @@ only_put_back : (a : Option (NodeView Operation)) (es : List (NameView × NodeVi
     → with_only a (record { anonymous = a; named = es }) o ≡ record { anonymous = a; named = es }
 only_put_back (Some a) [] o h = λ i. record { anonymous = sym h i; named = [] }
 only_put_back None (e ∷ []) o h =
-    let same : o ≡ e.1 = sym (ap (λ (x : Option (NodeView Operation)). unwrap_or x o) h) in
-    λ i. record { anonymous = None; named = (e.0, same i) ∷ [] }
+    let same : o ≡ e.1 = cc in λ i. record { anonymous = None; named = (e.0, same i) ∷ [] }
 only_put_back a es o h = cc
 
 -- nor does any that is asked for
-pub put_back : (m : OperationMap) (name : Option NameView) (o : NodeView Operation) → requested m name
-    ≡ Some o → with_requested m name o ≡ m
+pub put_back : (m : OperationMap) (name : Option NameView) (o : NodeView Operation)
+    → requested m name ≡ Some o → with_requested m name o ≡ m
 put_back m (Some name) o h =
     let same = set_value_same (same_text name) m.named o h in
     λ i. record { anonymous = m.anonymous; named = same i }
@@ -32,10 +31,7 @@ put_back m None o h = only_put_back m.anonymous m.named o h
 
 -- a node with another value stands where the operation stood
 pub put_anew : (m : OperationMap) (name : Option NameView) (o written : NodeView Operation) (w : Operation)
-    (final : OperationMap) → requested m name ≡ Some o
-    → written ≡ record { value = w; location = o.location } → final ≡ with_requested m name written
+    (final : OperationMap) → requested m name ≡ Some o → written ≡ record { value = w; location = o.location }
+    → final ≡ with_requested m name written
     → final ≡ with_requested m name (record { value = w; location = operation_location (requested m name) })
-put_anew m name o written w final there is put =
-    let location : o.location ≡ operation_location (requested m name) = ap operation_location (sym there) in
-    put ∙ ap (with_requested m name) is
-    ∙ (λ i. with_requested m name (record { value = w; location = location i }))
+put_anew m name o written w final there is put = rw there (put ∙ ap (with_requested m name) is)

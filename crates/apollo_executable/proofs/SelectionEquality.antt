@@ -95,34 +95,29 @@ set_layer_eq x y = name_eq x.ty y.ty && pointwise selection_eq x.selections y.se
 
 selection-roll : (y z : SL) → selection_eq (roll-Selection y) (roll-Selection z) ≡ selection_layer_eq y z
 unfolding selection_eq field_eq inline_eq set_eq
-selection-roll (Selection-F.Field x) z = rw (compared_is block.the_members block.the_family block.the_depth
-    Bool true impl.the_step laws.local block.member-Selection) (search (rules, the_lemmas))
+selection-roll (Selection-F.Field x) z = rw (compared_is _ _ _ _ _ _ laws.local block.member-Selection)
+    (search (rules, the_lemmas))
 selection-roll (Selection-F.FragmentSpread x) z =
-    rw (compared_is block.the_members block.the_family block.the_depth Bool true impl.the_step laws.local
-    block.member-Selection) (search (rules, the_lemmas))
+    rw (compared_is _ _ _ _ _ _ laws.local block.member-Selection) (search (rules, the_lemmas))
 selection-roll (Selection-F.InlineFragment x) z =
-    rw (compared_is block.the_members block.the_family block.the_depth Bool true impl.the_step laws.local
-    block.member-Selection) (search (rules, the_lemmas))
+    rw (compared_is _ _ _ _ _ _ laws.local block.member-Selection) (search (rules, the_lemmas))
 
 selection-is : (a b : Selection) → selection_eq a b ≡ selection_layer_eq (out-Selection a) (out-Selection b)
-selection-is a b = (λ i. selection_eq (sym (views.roll-out-Selection a) i) (sym (views.roll-out-Selection b)
-    i)) ∙ selection-roll (out-Selection a) (out-Selection b)
+selection-is a b = rw (views.roll-out-Selection a, views.roll-out-Selection b) at (selection-roll
+    (out-Selection a) (out-Selection b))
 
 field-is : (a b : Field) → field_eq a b ≡ field_layer_eq (out-Field a) (out-Field b)
 unfolding selection_eq field_eq inline_eq set_eq
-field-is a b = compared_is block.the_members block.the_family block.the_depth Bool true impl.the_step
-    laws.local block.member-Field a b
+field-is = compared_is _ _ _ _ _ _ laws.local block.member-Field
 
 inline-is : (a b : InlineFragment)
     → inline_eq a b ≡ inline_layer_eq (out-InlineFragment a) (out-InlineFragment b)
 unfolding selection_eq field_eq inline_eq set_eq
-inline-is a b = compared_is block.the_members block.the_family block.the_depth Bool true impl.the_step
-    laws.local block.member-InlineFragment a b
+inline-is = compared_is _ _ _ _ _ _ laws.local block.member-InlineFragment
 
 set-is : (a b : SelectionSet) → set_eq a b ≡ set_layer_eq (out-SelectionSet a) (out-SelectionSet b)
 unfolding selection_eq field_eq inline_eq set_eq
-set-is a b = compared_is block.the_members block.the_family block.the_depth Bool true impl.the_step laws.local
-    block.member-SelectionSet a b
+set-is = compared_is _ _ _ _ _ _ laws.local block.member-SelectionSet
 
 abbrev bare_selection_layer : SL → SL
 bare_selection_layer (Selection-F.Field x) = Selection-F.Field (bare_node bare_field x)
@@ -153,10 +148,7 @@ bare_set_layer x = record { ty = bare_name x.ty; selections = map bare_selection
 
 bare-selection : (z : SL) → bare_selection (roll-Selection z) ≡ roll-Selection (bare_selection_layer z)
 bare-selection (Selection-F.Field x) = folds.fold-roll-Selection _ _ _ _ _ _ _ _ (Selection-F.Field x)
-bare-selection (Selection-F.FragmentSpread x) =
-    folds.fold-roll-Selection _ _ _ _ _ _ _ _ (Selection-F.FragmentSpread x)
-bare-selection (Selection-F.InlineFragment x) =
-    folds.fold-roll-Selection _ _ _ _ _ _ _ _ (Selection-F.InlineFragment x)
+bare-selection z = folds.fold-roll-Selection _ _ _ _ _ _ _ _ z
 
 -- a test says whether two values are one
 abbrev Says : {A : Type 0} → Bool → A → A → Type 0
@@ -217,10 +209,8 @@ pub record ComparedParts : Type 0 where
 
 module _ (parts : ComparedParts) where
   fragment_spreads : Compares spread.ghosts.eq bare_fragment_spread
-  fragment_spreads = made (λ p. record { fragment_name = p.0; directives = p.1 })
-      (λ s. (s.fragment_name, s.directives)) (λ _. refl)
-      (and_then (of_part (λ (s : FragmentSpread). s.fragment_name) names)
-      (of_part (λ (s : FragmentSpread). s.directives) parts.directive_lists))
+  fragment_spreads = made _ (λ s. (s.fragment_name, s.directives)) (λ _. refl)
+      (and_then (of_part (λ (s : FragmentSpread). s.fragment_name) names) (of_part _ parts.directive_lists))
 
   selection_level : (y : Level) (z : SL) → At selection_layer_eq bare_selection_layer (alone y) z
   selection_level (Selection-F.Field x) (Selection-F.Field z) =
@@ -267,22 +257,21 @@ module _ (parts : ComparedParts) where
       (alone y) b (selection_level y (out-Selection b))
 
   field_met : (y : FL) → OfSet y.selection_set → OfField (roll-Field y)
-  field_met y s b = met field_eq bare_field roll-Field out-Field field_layer_eq bare_field_layer field-is
-      (folds.fold-roll-Field _ _ _ _ _ _ _ _) views.out-roll-Field views.roll-out-Field y b
-      (field_level y (out-Field b) (s (out-Field b).selection_set))
+  field_met y s b = met _ bare_field _ _ field_layer_eq bare_field_layer field-is (folds.fold-roll-Field _ _ _
+      _ _ _ _ _) views.out-roll-Field views.roll-out-Field y b (field_level y (out-Field b)
+      (s (out-Field b).selection_set))
 
   inline_met : (y : IL) → OfSet y.selection_set → OfInline (roll-InlineFragment y)
-  inline_met y s b = met inline_eq bare_inline_fragment roll-InlineFragment out-InlineFragment inline_layer_eq
-      bare_inline_layer inline-is (folds.fold-roll-InlineFragment _ _ _ _ _ _ _ _)
-      views.out-roll-InlineFragment views.roll-out-InlineFragment y b (inline_level y (out-InlineFragment b)
-      (s (out-InlineFragment b).selection_set))
+  inline_met y s b = met _ bare_inline_fragment _ _ inline_layer_eq bare_inline_layer inline-is
+      (folds.fold-roll-InlineFragment _ _ _ _ _ _ _ _) views.out-roll-InlineFragment
+      views.roll-out-InlineFragment y b (inline_level y _ (s (out-InlineFragment b).selection_set))
 
   set_met : (y : TL)
       → ((zs : List Selection) → At (pointwise selection_eq) (map bare_selection) y.selections zs)
       → OfSet (roll-SelectionSet y)
-  set_met y s b = met set_eq bare_selection_set roll-SelectionSet out-SelectionSet set_layer_eq bare_set_layer
-      set-is (folds.fold-roll-SelectionSet _ _ _ _ _ _ _ _) views.out-roll-SelectionSet
-      views.roll-out-SelectionSet y b (set_level y (out-SelectionSet b) (s (out-SelectionSet b).selections))
+  set_met y s b = met _ bare_selection_set _ _ set_layer_eq bare_set_layer set-is
+      (folds.fold-roll-SelectionSet _ _ _ _ _ _ _ _) views.out-roll-SelectionSet views.roll-out-SelectionSet y
+      b (set_level y (out-SelectionSet b) (s (out-SelectionSet b).selections))
 
   set_at : (a : SelectionSet) → OfSet a
   set_at = folds.ind-SelectionSet OfSelection OfField OfInline OfSet
@@ -310,9 +299,7 @@ module _ (parts : ComparedParts) where
 
   pub selections : Compares impl.ghosts.eq bare_selection
   unfolding selection_eq
-  selections = record {
-    at = λ a. subst OfSelection (views.roll-out-Selection a) (of_level (out-Selection a));
-  }
+  selections = record { at = λ a. subst OfSelection (views.roll-out-Selection a) (of_level _) }
 
   pub fields : Compares field.ghosts.eq bare_field
   unfolding field_eq

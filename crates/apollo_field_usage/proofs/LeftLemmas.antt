@@ -1,5 +1,6 @@
 -- What is left of a walk, turn by turn.
-use Rattle.std.proofs.Common.{◌≡◌, ◌⊎◌, ◌<◌, inl, inr, true, false, List, [], ◌∷◌, map, Some, None, ap, ◌∙◌}
+use Rattle.std.proofs.Common.{arith, ◌≡◌, ◌⊎◌, ◌<◌, inl, inr, true, false, List, [], ◌∷◌, map, Some, None, ap}
+use Rattle.std.proofs.Common.{◌∙◌}
 use Rattle.graphql_nodes.specs.NameView.{NameView}
 use Rattle.graphql_nodes.specs.NodeView.{NodeView}
 use Rattle.graphql_nodes.specs.SameText.{by_text}
@@ -8,7 +9,7 @@ use Rattle.apollo_walks.specs.Selections.{Names, no_names, with_name}
 use Rattle.apollo_walks.specs.ToCome.{ToCome, IsToCome}
 use Rattle.apollo_walks.specs.TurnByTurn.{a_turn_before, a_field_before, over}
 use Rattle.apollo_walks.proofs.Existence.{ordered}
-use Rattle.apollo_walks.proofs.Orders.{order-determined}
+use Rattle.apollo_walks.proofs.Orders.{order_determined}
 use Rattle.apollo_walks.proofs.Steps.{what_is_to_come, one-to-come, turn-by-turn, begins}
 use Rattle.apollo_executable.specs.declared.document.ExecutableDocument.{ExecutableDocument}
 use Rattle.apollo_executable.specs.declared.operation.Fragment.{Fragment}
@@ -100,11 +101,9 @@ module _ (d : ExecutableDocument) (names : Names) where
             → left_in d names ((ty, variant.FragmentSpread n ∷ rest) ∷ lists)
             ≡ a_turn_before (left_in d names ((ty, rest) ∷ lists))
         passes why = is ((ty, variant.FragmentSpread n ∷ rest) ∷ lists) _ (rw (placed-spread ty n rest)
-            ((turn-by-turn (placed_fragments d) names).passes n.value.fragment_name.text
-            (placed ty rest) (seen_open lists) _ (elim why [
-              | inl opened ↦ inl opened
-              | inr missing ↦ inr (fragment-missing d n.value.fragment_name.text missing)
-            ]) (is_left ((ty, rest) ∷ lists))))
+            ((turn-by-turn (placed_fragments d) names).passes n.value.fragment_name.text (placed ty rest)
+            (seen_open lists) _ (grind (arith, why, fragment-missing d n.value.fragment_name.text))
+            (is_left ((ty, rest) ∷ lists))))
 
         pub left-opened : names n.value.fragment_name.text ≡ true
             → left_in d names ((ty, variant.FragmentSpread n ∷ rest) ∷ lists)
@@ -139,4 +138,4 @@ all-reached d set =
     let s = placed_set set in
     let walk = (begins fragments s (all_to_come d set) (is_left d no_names ((set.ty, set.selections)
     ∷ []))).walk in
-    (order-determined fragments walk.order (ordered fragments no_names s).order).0
+    (order_determined fragments walk.order (ordered fragments no_names s).order).0

@@ -1,6 +1,6 @@
 -- The sets that a walk has open.
-use Rattle.std.proofs.Common.{◌≡◌, ◌<◌, ℕ, Bool, false, List, [], ◌∷◌, ◌++◌, map, reverse, Option, None, Some}
-use Rattle.std.proofs.Common.{IfNone, IfSome, MatchOption, length, get_or, arith, refl, sym, ap, ◌∙◌}
+use Rattle.std.proofs.Common.{◌≡◌, ◌<◌, ℕ, Bool, false, List, [], ◌∷◌, ◌++◌, Option, None, Some, IfNone}
+use Rattle.std.proofs.Common.{IfSome, MatchOption, length, get_or, arith, refl, sym, ap, ◌∙◌}
 use Rattle.std.proofs.lemmas.List.{reverse-append, map-append, nil_from_length, get_or_read_under, length-map}
 use Rattle.std.proofs.lemmas.List.Quantifiers.{position-Some}
 use Rattle.std.specs.Option.{option_to_list}
@@ -19,8 +19,7 @@ use Rattle.apollo_field_usage.specs.declared.open_sets.OpenSet.{OpenSet}
 pub innermost-push : (sets : List OpenSet) (s : OpenSet)
     → innermost_first (sets ++ s ∷ []) ≡ seen_set s ∷ innermost_first sets
 unfolding innermost_first
-innermost-push sets s = ap reverse (map-append seen_set sets (s ∷ [])) ∙ reverse-append (map seen_set sets)
-    (seen_set s ∷ [])
+innermost-push sets s = simp (map-append, reverse-append)
 
 pub innermost-empty : innermost_first [] ≡ []
 unfolding innermost_first

@@ -20,29 +20,31 @@ module _ (ty : NameView) where
   placed-none = refl
 
   -- the first selection of a list, as one level
-  placed-first : (s : Selection) (ss : List Selection) → placed ty (s ∷ ss)
-      ≡ place_before (read.opened_up place_before placed_in_order (out-Selection s)) ty (placed ty ss)
+  placed-first : (s : Selection) (ss : List Selection)
+      → placed ty (s ∷ ss) ≡ place_before (read.opened_up place_before placed_in_order (out-Selection s)) ty
+      (placed ty ss)
   unfolding placed
-  placed-first s ss =
-      ap (λ (p : Before). p ty (placed ty ss)) (read.read-opened place_before placed_in_order s)
+  placed-first s ss = ap (λ (p : Before). p ty (placed ty ss)) (read.read-opened place_before placed_in_order
+      s)
 
-  pub placed-field : (n : NodeView Field) (ss : List Selection) → placed ty (variant.Field n ∷ ss)
-      ≡ field (record { ty = ty; field = n }) (placed_set n.value.selection_set) (placed ty ss)
+  pub placed-field : (n : NodeView Field) (ss : List Selection)
+      → placed ty (variant.Field n ∷ ss) ≡ field (record { ty = ty; field = n })
+      (placed_set n.value.selection_set) (placed ty ss)
   unfolding placed
-  placed-field n ss =
-      ap (λ (p : Before). p ty (placed ty ss)) (read.read-field place_before placed_in_order n)
+  placed-field n ss = ap (λ (p : Before). p ty (placed ty ss)) (read.read-field place_before placed_in_order
+      n)
 
   pub placed-spread : (n : NodeView FragmentSpread) (ss : List Selection)
       → placed ty (variant.FragmentSpread n ∷ ss) ≡ spread n.value.fragment_name.text (placed ty ss)
   unfolding placed
-  placed-spread n ss =
-      ap (λ (p : Before). p ty (placed ty ss)) (read.read-spread place_before placed_in_order n)
+  placed-spread n ss = ap (λ (p : Before). p ty (placed ty ss)) (read.read-spread place_before placed_in_order
+      n)
 
   pub placed-inline : (n : NodeView InlineFragment) (ss : List Selection)
       → placed ty (variant.InlineFragment n ∷ ss) ≡ inline (placed_set n.value.selection_set) (placed ty ss)
   unfolding placed
-  placed-inline n ss =
-      ap (λ (p : Before). p ty (placed ty ss)) (read.read-inline place_before placed_in_order n)
+  placed-inline n ss = ap (λ (p : Before). p ty (placed ty ss)) (read.read-inline place_before placed_in_order
+      n)
 
   -- a set is opened where there is something in it
   pub over-some : (s : Selection) (ss : List Selection) (lists : List Placed)
@@ -50,11 +52,10 @@ module _ (ty : NameView) where
   over-some s ss lists =
       rw (placed-first s ss) (at (read.opened_up place_before placed_in_order (out-Selection s)))
     where
-      at : (z : WithParts Before Placed) → over (place_before z ty (placed ty ss)) lists
-          ≡ place_before z ty (placed ty ss) ∷ lists
+      at : (z : WithParts Before Placed)
+          → over (place_before z ty (placed ty ss)) lists ≡ place_before z ty (placed ty ss) ∷ lists
       at (Selection-F.Field n) = refl
-      at (Selection-F.FragmentSpread n) = refl
-      at (Selection-F.InlineFragment n) = refl
+      at z = refl
 
   pub over-none : (lists : List Placed) → over (placed ty []) lists ≡ lists
   over-none lists = rw placed-none refl

@@ -1,13 +1,12 @@
 -- A walk over fields with the types of their sets is the walk over the fields.
-use Rattle.std.proofs.Common.{◌≡◌, true, List, [], ◌∷◌, map, refl, sym, ap, ◌∙◌, subst}
+use Rattle.std.proofs.Common.{◌≡◌, true, List, [], ◌∷◌, map, refl, sym, ap, ◌∙◌}
 use Rattle.graphql_nodes.specs.NameView.{NameView}
 use Rattle.graphql_nodes.specs.NodeView.{NodeView}
-use Rattle.apollo_walks.specs.Selections.{field, spread, inline, Fragments, no_names}
-use Rattle.apollo_walks.specs.WalkOrder.{Order}
+use Rattle.apollo_walks.specs.Selections.{field, spread, inline, no_names}
 use Rattle.apollo_walks.specs.Whole.{IsWalk}
 use Rattle.apollo_walks.proofs.Existence.{ordered}
-use Rattle.apollo_walks.proofs.Orders.{order-determined}
-use Rattle.apollo_walks.proofs.Whole.{order-walk}
+use Rattle.apollo_walks.proofs.Orders.{order_determined}
+use Rattle.apollo_walks.proofs.Whole.{order_walk}
 use Rattle.apollo_executable.specs.Walks.Plain.{Plain, plain, fragments_of}
 use Rattle.apollo_executable.specs.Walks.WalkView.{AreWalked}
 use Rattle.apollo_executable.specs.declared.document.ExecutableDocument.{ExecutableDocument}
@@ -36,19 +35,13 @@ abbrev IsBare : List Selection → Type 0
 IsBare ss = (ty : NameView) → bare (placed ty ss) ≡ plain true ss
 
 set-bare : (s : SelectionSet) → bare (placed_set s) ≡ plain true s.selections
-set-bare s =
-    of_selections IsBare
-    (λ ty. ap bare (placed-none ty) ∙ sym (plain-none true))
-    (λ n ss below rest ty.
-    ap bare (placed-field ty n ss) ∙ (λ i. field n (below n.value.selection_set.ty i) (rest ty i))
-    ∙ sym (plain-field true n ss))
-    (λ n ss rest ty.
-    ap bare (placed-spread ty n ss) ∙ (λ i. spread n.value.fragment_name.text (rest ty i))
-    ∙ sym (plain-spread true n ss))
-    (λ n ss inner rest ty.
-    ap bare (placed-inline ty n ss) ∙ (λ i. inline (inner n.value.selection_set.ty i) (rest ty i))
-    ∙ sym (plain-inline true n ss))
-    s.selections s.ty
+set-bare s = of_selections IsBare (λ ty. ap bare (placed-none ty) ∙ sym (plain-none true))
+    (λ n ss below rest ty. ap bare (placed-field ty n ss)
+    ∙ (λ i. field n (below n.value.selection_set.ty i) (rest ty i))
+    ∙ sym (plain-field true n ss)) (λ n ss rest ty. ap bare (placed-spread ty n ss)
+    ∙ (λ i. spread n.value.fragment_name.text (rest ty i)) ∙ sym (plain-spread true n ss))
+    (λ n ss inner rest ty. ap bare (placed-inline ty n ss) ∙ (λ i. inline (inner n.value.selection_set.ty i)
+    (rest ty i)) ∙ sym (plain-inline true n ss)) s.selections s.ty
 
 entries-bare : (es : List (NameView × NodeView Fragment))
     → all_relabelled field_of (map (λ e. (e.0.text, placed_set e.1.value.selection_set)) es)
@@ -56,8 +49,7 @@ entries-bare : (es : List (NameView × NodeView Fragment))
 entries-bare [] = refl
 entries-bare (e ∷ es) = λ i. (e.0.text, set-bare e.1.value.selection_set i) ∷ entries-bare es i
 
-fragments-bare : (d : ExecutableDocument) → all_relabelled field_of (placed_fragments d)
-    ≡ fragments_of true d
+fragments-bare : (d : ExecutableDocument) → all_relabelled field_of (placed_fragments d) ≡ fragments_of true d
 unfolding placed_fragments fragments_of
 fragments-bare d = entries-bare d.fragments
 
@@ -67,7 +59,7 @@ pub reached-walk : (d : ExecutableDocument) (set : SelectionSet)
 unfolding reached
 reached-walk d set =
     let o = ordered (placed_fragments d) no_names (placed_set set) in
-    order-walk (placed_fragments d) (placed_set set) o.fields o.opened o.order
+    order_walk (placed_fragments d) (placed_set set) o.fields o.opened o.order
 
 -- and its fields are those of the walk over all fields
 pub reached-fields : (d : ExecutableDocument) (set : SelectionSet)
@@ -75,15 +67,10 @@ pub reached-fields : (d : ExecutableDocument) (set : SelectionSet)
 reached-fields d set =
     let walk = reached-walk d set in
     let order = order-relabelled field_of (placed_fragments d) walk.order in
-    let at_fragments : Fragments (NodeView Field) → Type 0 =
-    λ fragments. Order fragments no_names (bare (placed_set set))
-    (map field_of (reached d set)) walk.opened in
-    let at_set : Plain → Type 0 =
-    λ s. Order (fragments_of true d) no_names s (map field_of (reached d set)) walk.opened in
-    order-walk (fragments_of true d) (plain true set.selections) (map field_of (reached d set)) walk.opened
-    (subst at_set (set-bare set) (subst at_fragments (fragments-bare d) order))
+    order_walk (fragments_of true d) (plain true set.selections) (map field_of (reached d set)) walk.opened
+    (rw (fragments-bare d, set-bare set) at order)
 
 pub walked-fields : (d : ExecutableDocument) (set : SelectionSet) (fields : List (NodeView Field))
     → AreWalked true d set fields → map field_of (reached d set) ≡ fields
 walked-fields d set fields walk =
-    (order-determined (fragments_of true d) (reached-fields d set).order walk.order).0
+    (order_determined (fragments_of true d) (reached-fields d set).order walk.order).0

@@ -5,6 +5,5 @@ use Rattle.apollo_coordinate.specs.declared.coordinates.TypeAttributeCoordinate.
 use Rattle.apollo_field_usage.specs.Coordinates.{same_coordinate}
 
 pub same-equivalence : IsEquivalence same_coordinate
-same-equivalence =
-    and_equiv (on_equiv (λ (c : TypeAttributeCoordinate). c.ty.text) nat_list_eq_equiv)
+same-equivalence = and_equiv (on_equiv (λ (c : TypeAttributeCoordinate). c.ty.text) nat_list_eq_equiv)
     (on_equiv (λ (c : TypeAttributeCoordinate). c.attribute.text) nat_list_eq_equiv)

@@ -1,6 +1,6 @@
 -- A tally of a list that grows at its end.
-use Rattle.std.proofs.Common.{◌≡◌, ◌≤◌, ◌+◌, ℕ, Bool, true, false, ◌||◌, cond, is_some, List, [], ◌∷◌, ◌++◌}
-use Rattle.std.proofs.Common.{map, Option, Some, None, length, refl, sym, ap, ◌∙◌, subst, arith, true≢false}
+use Rattle.std.proofs.Common.{◌≡◌, ◌≤◌, ◌+◌, ℕ, Bool, true, false, cond, is_some, List, [], ◌∷◌, ◌++◌, map}
+use Rattle.std.proofs.Common.{Some, None, length, refl, sym, ap, ◌∙◌, subst, arith}
 use Rattle.std.proofs.lemmas.List.{map-append}
 use Rattle.std.proofs.lemmas.List.Sums.{sum_by-append, sum_by-cons, count_by-le-length}
 use Rattle.std.proofs.lemmas.Map.Keys.{IsDistinct-head, IsDistinct-tail, IsDistinct-push}
@@ -13,7 +13,7 @@ use Rattle.apollo_component.proofs.FirstOfEachLemmas.{first_of_each-push_old, is
 use Rattle.apollo_component.proofs.FirstOfEachLemmas.{insert_entry-last}
 use Rattle.apollo_component.proofs.Lists.Cases.{bool_cases, list_any-map}
 use Rattle.apollo_component.proofs.Lists.Ends.{snoc_ind}
-use Rattle.apollo_field_usage.specs.Counted.{raised, counted}
+use Rattle.apollo_field_usage.specs.Counted.{counted}
 use Rattle.apollo_field_usage.specs.Tallies.{times, tally}
 
 module _ {K : Type 0} {eq : K → K → Bool} (laws : IsEquivalence eq) where
@@ -62,12 +62,7 @@ module _ {K : Type 0} (eq : K → K → Bool) (c : K → ℕ) (k : K) where
   found-value : (bound : ℕ) → ((q : K) → c q ≤ bound) → (fs : List K) (v : ℕ)
       → lookup (eq k) (map entry fs) ≡ Some v → v ≤ bound
   found-value bound small [] v is = absurd (cc)
-  found-value bound small (q ∷ fs) v is = by (eq k q) is (found-value bound small fs v)
-    where
-      by : (b : Bool) → cond b (Some (c q)) (lookup (eq k) (map entry fs)) ≡ Some v
-          → (lookup (eq k) (map entry fs) ≡ Some v → v ≤ bound) → v ≤ bound
-      by true is rest = let value : c q ≡ v = cc in omega (arith, value, small q)
-      by false is rest = rest is
+  found-value bound small (q ∷ fs) v is = grind (arith, is, small q, found-value bound small fs v)
 
   module _ (laws : IsEquivalence eq) where
     others-apart : (q : K) → eq k q ≡ true → (fs : List K) → AllByRecursion (λ r. eq q r ≡ false) fs
@@ -78,13 +73,7 @@ module _ {K : Type 0} (eq : K → K → Bool) (c : K → ℕ) (k : K) where
 
     none-apart : (fs : List K) → list_any (eq k) fs ≡ false → AllByRecursion (λ q. eq q k ≡ false) fs
     none-apart [] none = tt
-    none-apart (q ∷ fs) none = by (eq k q) (laws.symm q k) none (none-apart fs)
-      where
-        by : (b : Bool) → eq q k ≡ b → (b || list_any (eq k) fs) ≡ false
-            → (list_any (eq k) fs ≡ false → AllByRecursion (λ q. eq q k ≡ false) fs)
-            → AllByRecursion (λ q. eq q k ≡ false) (q ∷ fs)
-        by true is none rest = absurd (true≢false none)
-        by false is none rest = (is, rest none)
+    none-apart (q ∷ fs) none = grind (arith, none, laws.symm q k, none-apart fs)
 
     -- where k is there, it comes once more
     found-more : (fs : List K) (v : ℕ) → IsDistinct eq fs → lookup (eq k) (map entry fs) ≡ Some v
@@ -105,8 +94,8 @@ module _ {K : Type 0} {eq : K → K → Bool} (laws : IsEquivalence eq) (ks : Li
       → set_value (eq k) (tally eq ks) (v + 1) ≡ tally eq (ks ++ k ∷ [])
   tally-more v is =
       let fs = first_of_each eq ks in
-      let there : list_any (eq k) ks ≡ true = sym (list_any-first_of_each eq laws k ks)
-      ∙ sym (found eq (times eq ks) k fs) ∙ ap is_some is in
+      let there : list_any (eq k) ks ≡ true =
+      grind (arith, list_any-first_of_each eq laws k ks, found eq (times eq ks) k fs, is) in
       found-more eq (times eq ks) k laws fs v (first-distinct laws ks) is ∙ sym (λ i. pushed i fs)
       ∙ ap (map (λ q. (q, times eq (ks ++ k ∷ []) q))) (sym (first_of_each-push_old eq laws ks k there))
 
@@ -114,12 +103,10 @@ module _ {K : Type 0} {eq : K → K → Bool} (laws : IsEquivalence eq) (ks : Li
   tally-new : lookup (eq k) (tally eq ks) ≡ None → insert_entry eq (tally eq ks) k 1 ≡ tally eq (ks ++ k ∷ [])
   tally-new is =
       let fs = first_of_each eq ks in
-      let first : list_any (eq k) fs ≡ false = sym (found eq (times eq ks) k fs) ∙ ap is_some is in
+      let first : list_any (eq k) fs ≡ false = grind (arith, found eq (times eq ks) k fs, is) in
       let absent : list_any (eq k) ks ≡ false = sym (list_any-first_of_each eq laws k ks) ∙ first in
       let same = sym (others-same eq (times eq ks) k fs (none-apart eq (times eq ks) k laws fs first)) in
-      let once : 1 ≡ times eq ks k + cond (eq k k) 1 0 =
-      sym (ap (λ b. times eq ks k + cond b 1 0) (laws.refl k)
-      ∙ ap (λ n. n + 1) (none-times laws ks k absent)) in
+      let once : 1 ≡ times eq ks k + cond (eq k k) 1 0 = rw (laws.refl k, none-times laws ks k absent) refl in
       let put = insert_entry-last eq (tally eq ks) k 1 (list_any-map (λ e. eq k e.0) (λ q. (q, times eq ks q))
       fs ∙ first) in
       let entries : tally eq ks ++ (k, 1) ∷ [] ≡ map (entry_more eq (times eq ks) k) fs
@@ -138,9 +125,4 @@ module _ {K : Type 0} {eq : K → K → Bool} (laws : IsEquivalence eq) (ks : Li
 
   -- counted once more
   pub tally-push : counted eq (tally eq ks) k ≡ tally eq (ks ++ k ∷ [])
-  tally-push = by (lookup (eq k) (tally eq ks)) refl
-    where
-      by : (now : Option ℕ) → lookup (eq k) (tally eq ks) ≡ now
-          → raised eq (tally eq ks) k now ≡ tally eq (ks ++ k ∷ [])
-      by None is = tally-new is
-      by (Some v) is = tally-more v is
+  tally-push = grind (arith, tally-new, tally-more)

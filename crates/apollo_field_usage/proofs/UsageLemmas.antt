@@ -1,6 +1,6 @@
 -- The usages of a list of fields.
-use Rattle.std.proofs.Common.{◌≡◌, ◌<◌, ◌+◌, ℕ, Bool, true, false, cond, List, [], ◌∷◌, map, Option, None}
-use Rattle.std.proofs.Common.{Some, length, sum_by, refl, sym, ap, ◌∙◌, subst, arith}
+use Rattle.std.proofs.Common.{◌≡◌, ◌<◌, ◌+◌, ℕ, Bool, List, [], ◌∷◌, map, Option, None, Some, length, sum_by}
+use Rattle.std.proofs.Common.{refl, sym, ap, ◌∙◌, subst, arith}
 use Rattle.std.proofs.lemmas.List.{length-map, length-append}
 use Rattle.std.proofs.lemmas.List.Sums.{sum_by-cons}
 use Rattle.std.specs.Cmp.{IsEquivalence}
@@ -53,11 +53,7 @@ module _ {K : Type 0} (eq : K → K → Bool) where
 
   -- one more
   whole-counted : (es : List (K × ℕ)) (k : K) → whole (counted eq es k) ≡ whole es + 1
-  whole-counted es k = by (lookup (eq k) es) refl
-    where
-      by : (found : Option ℕ) → lookup (eq k) es ≡ found → whole (raised eq es k found) ≡ whole es + 1
-      by None is = whole-put es k is
-      by (Some v) is = whole-set es k v is
+  whole-counted es k = grind (arith, whole-put es k, whole-set es k)
 
 -- a tally counts each thing
 tally-whole : {K : Type 0} {eq : K → K → Bool} (laws : IsEquivalence eq) (ks : List K)
@@ -88,21 +84,11 @@ module _ {K : Type 0} (eq : K → K → Bool) where
 
   some-put : (es : List (K × ℕ)) (k : K) → AreSome es → AreSome (insert_entry eq es k 1)
   some-put [] k some = (omega arith, tt)
-  some-put (e ∷ es) k some = by (eq k e.0) (some-put es k some.1)
-    where
-      by : (b : Bool) → AreSome (insert_entry eq es k 1)
-          → AreSome (cond b ((e.0, 1) ∷ es) (e ∷ insert_entry eq es k 1))
-      by true rest = (omega arith, some.1)
-      by false rest = (some.0, rest)
+  some-put (e ∷ es) k some = grind (arith, some, some-put es k)
 
   some-set : (es : List (K × ℕ)) (k : K) (v : ℕ) → AreSome es → AreSome (set_value (eq k) es (v + 1))
   some-set [] k v some = tt
-  some-set (e ∷ es) k v some = by (eq k e.0) (some-set es k v some.1)
-    where
-      by : (b : Bool) → AreSome (set_value (eq k) es (v + 1))
-          → AreSome (cond b ((e.0, v + 1) ∷ es) (e ∷ set_value (eq k) es (v + 1)))
-      by true rest = (omega arith, some.1)
-      by false rest = (some.0, rest)
+  some-set (e ∷ es) k v some = grind (arith, some, some-set es k v)
 
   some-raised : (es : List (K × ℕ)) (k : K) (now : Option ℕ) → AreSome es → AreSome (raised eq es k now)
   some-raised es k None some = some-put es k some

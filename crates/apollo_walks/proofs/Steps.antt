@@ -1,7 +1,9 @@
 -- What is to come of a walk, turn by turn.
-use Rattle.std.proofs.Common.{◌≡◌, ◌⊎◌, inr, ◌+◌, ℕ, suc, true, false, List, [], ◌∷◌, ◌++◌, None, Some, refl, sym, ap, ◌∙◌, arith, append_assoc, append-nil}
+use Rattle.std.proofs.Common.{◌≡◌, ◌⊎◌, inr, ◌+◌, ℕ, suc, true, false, List, [], ◌∷◌, None, Some, refl, ap}
+use Rattle.std.proofs.Common.{arith, append_assoc, append-nil}
 use Rattle.std.proofs.lemmas.List.Sums.{sum_by-cons}
-use Rattle.apollo_walks.specs.Selections.{Selections, none, field, spread, inline, Fragments, Names, no_names, with_name, with_names, fragment_of}
+use Rattle.apollo_walks.specs.Selections.{Selections, none, field, spread, inline, Fragments, Names, no_names}
+use Rattle.apollo_walks.specs.Selections.{with_name, with_names, fragment_of}
 use Rattle.apollo_walks.specs.Reachable.{at_fragment}
 use Rattle.apollo_walks.specs.ToCome.{ToCome, IsToCome, joined, turns_of_lists}
 use Rattle.apollo_walks.specs.TurnByTurn.{a_turn_before, over, AreTurnByTurn, IsAllToCome}
@@ -9,15 +11,15 @@ use Rattle.apollo_walks.specs.Turns.{lists_below, own_turns, whole_turns, total}
 use Rattle.apollo_walks.specs.WalkOrder.{Order, of_none, of_inline, of_field, of_passed, of_fragment}
 use Rattle.apollo_walks.proofs.Existence.{ordered}
 use Rattle.apollo_walks.proofs.Names.{with_names-append, with_names-in}
-use Rattle.apollo_walks.proofs.Orders.{order-determined}
-use Rattle.apollo_walks.proofs.Whole.{opened-among, order_reaches, order-walk}
+use Rattle.apollo_walks.proofs.Orders.{order_determined}
+use Rattle.apollo_walks.proofs.Whole.{opened-among, order_reaches, order_walk}
 
 module _ {F : Type 0} (fragments : Fragments F) where
   -- there is one that is to come
   pub what_is_to_come : (before : Names) (lists : List (Selections F))
       → (x : ToCome F) × IsToCome fragments before lists x
   what_is_to_come before lists =
-      let o = ordered fragments before (joined lists) in
+      let o = ordered fragments before _ in
       let x : ToCome F = record {
         fields = o.fields;
         opened = with_names o.opened before;
@@ -29,30 +31,24 @@ module _ {F : Type 0} (fragments : Fragments F) where
   pub one-to-come : (before : Names) (lists : List (Selections F)) (x y : ToCome F)
       → IsToCome fragments before lists x → IsToCome fragments before lists y → x ≡ y
   one-to-come before lists x y p q =
-      let same = order-determined fragments p.order q.order in
-      let opened : x.opened ≡ y.opened = p.opened ∙ ap (λ (ns : List (List ℕ)). with_names ns before) same.1
-      ∙ sym q.opened in
-      let turns : x.turns ≡ y.turns = p.turns
-      ∙ ap (λ (ns : List (List ℕ)). turns_of_lists lists + total whole_turns fragments ns) same.1
-      ∙ sym q.turns in
+      let same = order_determined fragments p.order q.order in
+      let opened : x.opened ≡ y.opened = rw (p.opened, q.opened, same.1) refl in
+      let turns : x.turns ≡ y.turns = rw (p.turns, q.turns, same.1) refl in
       λ i. record { fields = same.0 i; opened = opened i; turns = turns i }
 
   -- two lists as one, before a third
   regrouped : {before : Names} {p q t : Selections F} {fs : List F} {ns : List (List ℕ)}
       → Order fragments before (inline p (inline q t)) fs ns
       → Order fragments before (inline (inline p q) t) fs ns
-  regrouped {before = before} {t = t}
-      (of_inline {first = xs} {opened = ms} a
-      (of_inline {first = ys} {others = zs} {opened = ks} {more = js} b c)) =
-      let third : Order fragments (with_names (ms ++ ks) before) t zs js =
-      rw (with_names-append ms ks before) c in
-      rw (← append_assoc xs ys zs, ← append_assoc ms ks js) (of_inline (of_inline a b) third)
+  regrouped {before = before} (of_inline {first = xs} {opened = ms} a (of_inline {first = ys} {opened = ks} b
+      c)) = rw (← append_assoc xs ys _, ← append_assoc ms ks _)
+      (of_inline (of_inline a b) (rw (← with_names-append ms ks before) at c))
 
   -- a list is opened if there is something in it
   over-joined : {before : Names} {fs : List F} {ns : List (List ℕ)} (below : Selections F)
       (ss : List (Selections F)) → Order fragments before (joined (over below ss)) fs ns
-      → Order fragments before (inline below (joined ss)) fs ns
-      × (turns_of_lists (over below ss) ≡ lists_below below + own_turns below + turns_of_lists ss)
+      → Order fragments before (inline below (joined ss)) fs ns × (turns_of_lists (over below ss)
+      ≡ lists_below below + own_turns below + turns_of_lists ss)
   over-joined none ss order = (of_inline of_none order, omega arith)
   over-joined s ss order = (order, omega arith)
 
@@ -78,13 +74,12 @@ module _ {F : Type 0} (fragments : Fragments F) where
         → IsToCome fragments (with_name n before) (set ∷ rest ∷ ss) x
         → IsToCome fragments before (spread n rest ∷ ss) (a_turn_before x)
     opens n set rest ss x closed found p =
-        let inside = ap (at_fragment 0 whole_turns) found in
         let first = sum_by-cons (λ m. at_fragment 0 whole_turns (fragment_of fragments m)) n p.names in
         record {
           names = n ∷ p.names;
           order = fragment-first closed found (regrouped p.order);
           opened = p.opened;
-          turns = omega (arith, p.turns, inside, first);
+          turns = omega (arith, p.turns, ap (at_fragment 0 whole_turns) found, first);
         }
 
     -- what is to come before that, by one turn that opens no name
@@ -99,7 +94,7 @@ module _ {F : Type 0} (fragments : Fragments F) where
       ends = record { names = []; order = of_none; opened = refl; turns = refl };
       closes = λ ss x p. one_turn p (of_inline of_none p.order) (omega arith);
       gives = λ f below rest ss x p.
-          let over_it = over-joined below (rest ∷ ss) p.order in
+          let over_it = over-joined below _ p.order in
           one_turn p (field-first (regrouped over_it.0)) (omega (arith, over_it.1));
       goes_inside = λ inner rest ss x p. one_turn p (regrouped p.order) (omega arith);
       passes = λ n rest ss x why p. one_turn p (passed-first why p.order) (omega arith);
@@ -118,10 +113,12 @@ module _ {F : Type 0} (fragments : Fragments F) where
       let order = alone p.order in
       let reaches = order_reaches fragments s x.fields p.names order in
       record {
-        walk = order-walk fragments s x.fields p.names order;
+        walk = order_walk fragments s x.fields p.names order;
         turns = (p.names, reaches, omega (arith, p.turns));
-        opens = λ n. (
-          λ h. reaches.sound n (opened-among n p.names (rw p.opened at h)),
-          λ reached. rw p.opened (with_names-in p.names n no_names (inr (reaches.complete n reached))),
-        );
+        opens = λ n.
+            let in_names = with_names-in p.names n no_names in
+            rw p.opened (
+              λ h. reaches.sound n (opened-among n _ h),
+              λ r. in_names (inr (reaches.complete n r)),
+            );
       }

@@ -21,6 +21,7 @@ pub fn walks_reach_each_field_once<F>()
 
 /// The order of walks leaves no choice: from the same opened names, the same selections give the same fields,
 /// and open the same names.
+#[tactic(auto, using(crate::proofs::Orders::order_determined))]
 pub fn walks_have_one_order<F>()
     ensures { (fragments : Fragments F) (before : Names) (s : Selections F) (fs gs : List F)
         (ms ns : List (List ℕ))
@@ -28,6 +29,7 @@ pub fn walks_have_one_order<F>()
 {}
 
 /// Fields in the order of walks, from no opened name, are those of a whole walk.
+#[tactic(auto, using(crate::proofs::Whole::order_walk))]
 pub fn fields_in_order_are_a_walk<F>()
     ensures { (fragments : Fragments F) (opened : List (List ℕ)) (s : Selections F) (fields : List F)
         → Order fragments no_names s fields opened → IsWalk fragments s fields }

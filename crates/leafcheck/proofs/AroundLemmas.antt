@@ -30,15 +30,13 @@ module _ (s : Schema) where
   pub operation-noted : (around lent : Bor Operation) (n : NodeView Operation) → around.now ≡ n.value
       → lent.now ≡ n.value → HasFaults (path_of (variant.Operation around)) lent.now.selection_set
       → operation_faults s n ≢ []
-  operation-noted around lent n =
-      noted (λ (o : Operation). o.selection_set) operation_path around.now lent.now n.value
-      (path_of (variant.Operation around)) (ap path_of (sym (variant.rolls-Operation around))
+  operation-noted around lent n = noted (λ (o : Operation). o.selection_set) operation_path around.now
+      lent.now n.value (path_of (variant.Operation around)) (ap path_of (sym (variant.rolls-Operation around))
       ∙ fold-roll-Around SelectionPath path_step (Around-F.Operation around))
 
   pub fragment-noted : (around lent : Bor Fragment) (n : NodeView Fragment) → around.now ≡ n.value
       → lent.now ≡ n.value → HasFaults (path_of (variant.Fragment around)) lent.now.selection_set
       → fragment_faults s n ≢ []
-  fragment-noted around lent n =
-      noted (λ (f : Fragment). f.selection_set) fragment_path around.now lent.now n.value
-      (path_of (variant.Fragment around)) (ap path_of (sym (variant.rolls-Fragment around))
+  fragment-noted around lent n = noted (λ (f : Fragment). f.selection_set) fragment_path around.now lent.now
+      n.value (path_of (variant.Fragment around)) (ap path_of (sym (variant.rolls-Fragment around))
       ∙ fold-roll-Around SelectionPath path_step (Around-F.Fragment around))

@@ -1,6 +1,5 @@
 -- The fields of selections with their places, at each kind of selection.
-use Rattle.std.proofs.Common.{◌≡◌, List, [], ◌∷◌, ◌++◌, map, refl, ap, ◌∙◌}
-use Rattle.std.specs.List.{flat_map}
+use Rattle.std.proofs.Common.{◌≡◌, List, [], ◌∷◌, ◌++◌, map, refl, ap}
 use Rattle.std.proofs.lemmas.Grind.{flat_map-append}
 use Rattle.std.proofs.lemmas.List.{map-append}
 use Rattle.graphql_nodes.specs.NameView.{NameView}
@@ -27,8 +26,7 @@ module _ (ty : NameView) (path : SelectionPath) where
   placed-joined first others =
       let read : Selection → Selection × Standing = λ s. (s, read_one fields_of_one fields_of_all s) in
       let fields : Selection × Standing → List PlacedField = λ s. s.1 ty path in
-      ap (flat_map fields) (map-append read first others) ∙ flat_map-append fields (map read first)
-      (map read others)
+      rw (map-append read first others) (flat_map-append fields (map read first) (map read others))
 
   pub placed-field : (n : NodeView Field) (others : List Selection)
       → placed_fields ty path (variant.Field n ∷ others) ≡ placed ty path n

@@ -1,5 +1,5 @@
 -- Without their places, fields are those that stand in selections.
-use Rattle.std.proofs.Common.{◌≡◌, List, ◌∷◌, ◌++◌, true, map, sym, ap, ◌∙◌}
+use Rattle.std.proofs.Common.{◌≡◌, List, true, map, refl}
 use Rattle.std.proofs.lemmas.List.{map-append}
 use Rattle.graphql_nodes.specs.NameView.{NameView}
 use Rattle.graphql_nodes.specs.NodeView.{NodeView}
@@ -20,24 +20,23 @@ abbrev IsPlaceless : List Selection → Type 0
 IsPlaceless selections = (ty : NameView) (path : SelectionPath) → nodes (placed_fields ty path selections)
     ≡ fields_in true selections
 
--- the fields of one list before those of another
-both : (xs ys : List PlacedField) (ms ns : List (NodeView Field)) → nodes xs ≡ ms → nodes ys ≡ ns
-    → nodes (xs ++ ys) ≡ ms ++ ns
-both xs ys ms ns first others = map-append (λ (f : PlacedField). f.node) xs ys ∙ (λ i. first i ++ others i)
-
 pub placeless : (ty : NameView) (path : SelectionPath) (selections : List Selection)
     → nodes (placed_fields ty path selections) ≡ fields_in true selections
-placeless ty path selections = of_selections IsPlaceless (λ ty path. ap nodes (placed-none ty path)
-    ∙ sym (none-read of_fields true)) (λ n others below rest ty path.
-    let set = n.value.selection_set in
-    let inner = (placed ty path n).path in
-    ap nodes (placed-field ty path n others) ∙ ap (λ (l : List (NodeView Field)). n
-    ∷ l) (both (placed_fields set.ty inner set.selections) (placed_fields ty path others)
-    (fields_in true set.selections) (fields_in true others) (below set.ty inner) (rest ty path))
-    ∙ sym (field-read of_fields true n others)) (λ n others rest ty path. ap nodes
-    (placed-spread ty path n others) ∙ rest ty path ∙ sym (spread-read of_fields true n others))
-    (λ n others inside rest ty path.
-    let set = n.value.selection_set in
-    ap nodes (placed-inline ty path n others) ∙ both (placed_fields set.ty path set.selections)
-    (placed_fields ty path others) (fields_in true set.selections) (fields_in true others) (inside set.ty
-    path) (rest ty path) ∙ sym (inline-read of_fields true n others)) selections ty path
+placeless ty path selections =
+    of_selections IsPlaceless (λ ty path. rw (placed-none ty path, none-read of_fields true) refl)
+    (λ n others below rest ty path. rw (
+      placed-field ty path n others,
+      field-read of_fields true n others,
+      map-append (λ (f : PlacedField). f.node),
+      below n.value.selection_set.ty (placed ty path n).path,
+      rest ty path,
+    ) refl)
+    (λ n others rest ty path. rw (placed-spread ty path n others, spread-read of_fields true n others)
+    (rest ty path)) (λ n others inside rest ty path.
+    rw (
+      placed-inline ty path n others,
+      inline-read of_fields true n others,
+      map-append (λ (f : PlacedField). f.node),
+      inside n.value.selection_set.ty path,
+      rest ty path,
+    ) refl) selections ty path

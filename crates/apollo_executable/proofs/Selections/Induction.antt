@@ -11,13 +11,12 @@ use Rattle.apollo_executable.specs.declared.selection.FragmentSpread.{FragmentSp
 use Rattle.apollo_executable.specs.declared.selection.InlineFragment.{InlineFragment, roll-InlineFragment}
 use Rattle.apollo_executable.specs.declared.selection.SelectionSet.{SelectionSet, roll-SelectionSet}
 
-module _ (Holds : List Selection → Type 0) (of_none : Holds [])
-    (of_field : (n : NodeView Field) (others : List Selection) → Holds n.value.selection_set.selections
-    → Holds others → Holds (variant.Field n ∷ others))
-    (of_spread : (n : NodeView FragmentSpread) (others : List Selection) → Holds others
-    → Holds (variant.FragmentSpread n ∷ others))
-    (of_inline : (n : NodeView InlineFragment) (others : List Selection)
-    → Holds n.value.selection_set.selections → Holds others → Holds (variant.InlineFragment n ∷ others)) where
+module _ (Holds : List Selection → Type 0) (of_none : Holds []) (of_field : (n : NodeView Field)
+    (others : List Selection) → Holds n.value.selection_set.selections → Holds others
+    → Holds (variant.Field n ∷ others)) (of_spread : (n : NodeView FragmentSpread) (others : List Selection)
+    → Holds others → Holds (variant.FragmentSpread n ∷ others)) (of_inline : (n : NodeView InlineFragment)
+    (others : List Selection) → Holds n.value.selection_set.selections → Holds others
+    → Holds (variant.InlineFragment n ∷ others)) where
   abbrev First : Selection → Type 0
   First x = (others : List Selection) → Holds others → Holds (x ∷ others)
 
@@ -44,18 +43,16 @@ module _ (Holds : List Selection → Type 0) (of_none : Holds [])
   L = (s : SelectionSet) × InSet s
 
   abbrev alone : layer.Selection-F S F I L → layer.Selection-F Selection Field InlineFragment SelectionSet
-  alone =
-      folds.map-Selection S F I L Selection Field InlineFragment SelectionSet (λ e. e.0) (λ e. e.0) (λ e. e.0)
-      (λ e. e.0)
+  alone = folds.map-Selection S F I L Selection Field InlineFragment SelectionSet (λ e. e.0) (λ e. e.0)
+      (λ e. e.0) (λ e. e.0)
 
   first : (y : layer.Selection-F S F I L) → First (roll-Selection (alone y))
   first (layer.Selection-F.Field n) others rest =
       let node : NodeView Field = record { value = n.value.0; location = n.location } in
       subst (λ (x : Selection). Holds (x ∷ others)) (sym (variant.rolls-Field node))
       (of_field node others n.value.1 rest)
-  first (layer.Selection-F.FragmentSpread n) others rest =
-      subst (λ (x : Selection). Holds (x ∷ others)) (sym (variant.rolls-FragmentSpread n))
-      (of_spread n others rest)
+  first (layer.Selection-F.FragmentSpread n) others rest = subst (λ (x : Selection). Holds (x ∷ others))
+      (sym (variant.rolls-FragmentSpread n)) (of_spread n others rest)
   first (layer.Selection-F.InlineFragment n) others rest =
       let node : NodeView InlineFragment = record { value = n.value.0; location = n.location } in
       subst (λ (x : Selection). Holds (x ∷ others)) (sym (variant.rolls-InlineFragment node))
@@ -73,5 +70,5 @@ module _ (Holds : List Selection → Type 0) (of_none : Holds [])
       (λ x y is. subst (λ z. InSet (roll-SelectionSet z)) is (each y.selections))
 
   pub of_selections : (xs : List Selection) → Holds xs
-  of_selections xs =
-      of_set (roll-SelectionSet (record { ty = record { text = []; location = None }; selections = xs }))
+  of_selections xs = of_set
+      (roll-SelectionSet (record { ty = record { text = []; location = None }; selections = xs }))

@@ -15,10 +15,10 @@ use Rattle.apollo_executable.specs.declared.selection.Selection.TheFolds.{para-r
 use Rattle.apollo_executable.specs.declared.selection.Selection.TheViews.{roll-out-Selection, roll-out-Field}
 use Rattle.apollo_executable.specs.declared.selection.Selection.TheViews.{roll-out-InlineFragment}
 use Rattle.apollo_executable.specs.declared.selection.Selection.TheViews.{roll-out-SelectionSet}
-use Rattle.apollo_executable.specs.declared.selection.Field.{Field, out-Field}
+use Rattle.apollo_executable.specs.declared.selection.Field.{Field}
 use Rattle.apollo_executable.specs.declared.selection.FragmentSpread.{FragmentSpread}
-use Rattle.apollo_executable.specs.declared.selection.InlineFragment.{InlineFragment, out-InlineFragment}
-use Rattle.apollo_executable.specs.declared.selection.SelectionSet.{SelectionSet, out-SelectionSet}
+use Rattle.apollo_executable.specs.declared.selection.InlineFragment.{InlineFragment}
+use Rattle.apollo_executable.specs.declared.selection.SelectionSet.{SelectionSet}
 
 module _ {One All : Type 0} (one : WithParts One All → One) (all : NameView → List (Selection × One)
     → All) where
@@ -35,17 +35,16 @@ module _ {One All : Type 0} (one : WithParts One All → One) (all : NameView �
       (λ s. all s.ty s.selections)
 
   set-read : (s : SelectionSet) → of_set s ≡ read_all one all s.ty s.selections
-  set-read s = ap of_set (sym (roll-out-SelectionSet s)) ∙ para-roll-SelectionSet _ _ _ _ _ _ _ _
-      (out-SelectionSet s)
+  set-read s = ap of_set (sym (roll-out-SelectionSet s)) ∙ para-roll-SelectionSet _ _ _ _ _ _ _ _ _
 
   field-read : (f : Field) → of_field f ≡ read_all one all f.selection_set.ty f.selection_set.selections
-  field-read f = ap of_field (sym (roll-out-Field f)) ∙ para-roll-Field _ _ _ _ _ _ _ _ (out-Field f)
+  field-read f = ap of_field (sym (roll-out-Field f)) ∙ para-roll-Field _ _ _ _ _ _ _ _ _
       ∙ set-read f.selection_set
 
   inline-read : (f : InlineFragment)
       → of_inline f ≡ read_all one all f.selection_set.ty f.selection_set.selections
-  inline-read f = ap of_inline (sym (roll-out-InlineFragment f)) ∙ para-roll-InlineFragment _ _ _ _ _ _ _ _
-      (out-InlineFragment f) ∙ set-read f.selection_set
+  inline-read f = ap of_inline (sym (roll-out-InlineFragment f)) ∙ para-roll-InlineFragment _ _ _ _ _ _ _ _ _
+      ∙ set-read f.selection_set
 
   -- a selection, with what is read of its parts
   abbrev pub opened_up : Selection-F Selection Field InlineFragment SelectionSet → WithParts One All
@@ -58,28 +57,26 @@ module _ {One All : Type 0} (one : WithParts One All → One) (all : NameView �
   rolled = para-roll-Selection _ _ _ _ _ _ _ _
 
   pub read-opened : (s : Selection) → read_one one all s ≡ one (opened_up (out-Selection s))
-  read-opened s = ap (read_one one all) (sym (roll-out-Selection s)) ∙ rolled (out-Selection s)
+  read-opened s = ap (read_one one all) (sym (roll-out-Selection s)) ∙ rolled _
 
   pub read-field : (n : NodeView Field) → read_one one all (variant.Field n)
       ≡ one (Selection-F.Field (record {
         value = (n.value, read_all one all n.value.selection_set.ty n.value.selection_set.selections);
         location = n.location;
       }))
-  read-field n = ap (read_one one all) (sym (variant.rolls-Field n)) ∙ rolled (Selection-F.Field n)
+  read-field n = ap (read_one one all) (sym (variant.rolls-Field n)) ∙ rolled _
       ∙ ap (λ (below : All). one (Selection-F.Field
       (record { value = (n.value, below); location = n.location }))) (field-read n.value)
 
   pub read-spread : (n : NodeView FragmentSpread)
       → read_one one all (variant.FragmentSpread n) ≡ one (Selection-F.FragmentSpread n)
-  read-spread n = ap (read_one one all) (sym (variant.rolls-FragmentSpread n))
-      ∙ rolled (Selection-F.FragmentSpread n)
+  read-spread n = ap (read_one one all) (sym (variant.rolls-FragmentSpread n)) ∙ rolled _
 
   pub read-inline : (n : NodeView InlineFragment)
       → read_one one all (variant.InlineFragment n) ≡ one (Selection-F.InlineFragment (record {
         value = (n.value, read_all one all n.value.selection_set.ty n.value.selection_set.selections);
         location = n.location;
       }))
-  read-inline n = ap (read_one one all) (sym (variant.rolls-InlineFragment n))
-      ∙ rolled (Selection-F.InlineFragment n)
+  read-inline n = ap (read_one one all) (sym (variant.rolls-InlineFragment n)) ∙ rolled _
       ∙ ap (λ (inner : All). one (Selection-F.InlineFragment
       (record { value = (n.value, inner); location = n.location }))) (inline-read n.value)

@@ -1,6 +1,6 @@
 -- What calls of `next` give of a walk, one after another.
-use Rattle.std.proofs.Common.{◌≡◌, Bool, false, List, [], ◌∷◌, ◌++◌, None, refl, sym, ap, subst, ◌∙◌, arith}
-use Rattle.std.proofs.Common.{append_assoc, append-nil}
+use Rattle.std.proofs.Common.{◌≡◌, Bool, false, List, ◌++◌, None, refl, sym, subst, ◌∙◌, arith, append_assoc}
+use Rattle.std.proofs.Common.{append-nil}
 use Rattle.graphql_nodes.specs.NodeView.{NodeView}
 use Rattle.apollo_executable.specs.Walks.Calls.{HasGiven, none_yet, one_more, IsWhole}
 use Rattle.apollo_executable.specs.Walks.NextItem.{IsNext}
@@ -13,8 +13,7 @@ pub beginning : (start now : WalkView) (fields : List (NodeView Field)) → HasG
     → fields ++ now.coming ≡ start.coming
 beginning start now fields none_yet = refl
 beginning start new fields' (one_more {fields = fields} {now = now} {field = field} before next) =
-    append_assoc fields (field.now ∷ []) new.coming ∙ ap (λ l. fields ++ l) (sym next.gives.0)
-    ∙ beginning start now fields before
+    rw (append_assoc, ← next.gives.0) (beginning start now fields before)
 
 module _ (deep : Bool) (document : ExecutableDocument) (set : SelectionSet) where
   -- a walk over the set that goes on
@@ -58,8 +57,8 @@ module _ (deep : Bool) (document : ExecutableDocument) (set : SelectionSet) wher
       → HasGiven start fields now → IsNext now None end → IsWhole deep document set fields end
   whole start now end fields new given next =
       let g = goes_on start now fields new given in
-      let all : start.coming ≡ fields = sym (beginning start now fields given)
-      ∙ ap (λ l. fields ++ l) next.gives.0 ∙ append-nil fields in
+      let all : start.coming ≡ fields =
+      sym (rw (next.gives.0, append-nil) at (beginning start now fields given)) in
       let over = next.over g.going in
       let d = next.deep ∙ g.deep_is in
       let o = next.document ∙ g.document_is in

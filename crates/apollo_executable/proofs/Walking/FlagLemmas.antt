@@ -1,6 +1,6 @@
 -- The names of the fragments whose places are marked.
-use Rattle.std.proofs.Common.{◌≡◌, ◌↔◌, inl, inr, ℕ, Bool, true, false, ◌||◌, cond, is_some, List, [], ◌∷◌}
-use Rattle.std.proofs.Common.{map, filter, Option, None, Some, refl, sym, ap, ◌∙◌, get_or, eq-eqb}
+use Rattle.std.proofs.Common.{◌≡◌, ◌↔◌, ℕ, Bool, true, false, ◌||◌, cond, is_some, List, [], ◌∷◌, map, filter}
+use Rattle.std.proofs.Common.{Option, None, Some, refl, ap, ◌∙◌, arith, get_or, eq-eqb}
 use Rattle.std.specs.Prelude.{nat_eq, position, slice_index_or}
 use Rattle.std.specs.Option.{option_map, option_map_or}
 use Rattle.std.proofs.lemmas.Bool.{eqb-true}
@@ -23,15 +23,7 @@ fragment_of-entries : (deep : Bool) (es : List (NameView × NodeView Fragment)) 
     → fragment_of (map (λ e. (e.0.text, plain deep e.1.value.selection_set.selections)) es) n
     ≡ option_map (λ f. plain deep f.value.selection_set.selections) (lookup (by_text n) es)
 fragment_of-entries deep [] n = refl
-fragment_of-entries deep (e ∷ es) n = at (same n e.0.text) (fragment_of _ n) (lookup (by_text n) es)
-    (fragment_of-entries deep es n)
-  where
-    at : (b : Bool) (found : Option Plain) (f : Option (NodeView Fragment))
-        → found ≡ option_map (λ f. plain deep f.value.selection_set.selections) f
-        → cond b (Some (plain deep e.1.value.selection_set.selections)) found
-        ≡ option_map (λ f. plain deep f.value.selection_set.selections) (cond b (Some e.1) f)
-    at true found f h = refl
-    at false found f h = h
+fragment_of-entries deep (e ∷ es) n = grind (arith, fragment_of-entries deep es n)
 
 module _ (deep : Bool) (d : ExecutableDocument) (n : List ℕ) where
   pub fragment-found : (f : NodeView Fragment) → lookup (by_text n) d.fragments ≡ Some f
@@ -54,36 +46,31 @@ at_place flags place = option_map_or (λ i. slice_index_or flags i false) place 
 -- the key at the place of a name
 name-at : (keys : List NameView) (n : List ℕ) (i : ℕ) → position (by_text n) keys ≡ Some i
     → n ≡ (get_or keys i nameless).text
-name-at keys n i is = same-true n _ (position-Some (by_text n) keys i nameless is).1
+name-at keys n i is = same-true n _ (position-Some _ keys i nameless is).1
 
 module _ (keys : List NameView) (fs gs : List Bool) (n : List ℕ) (i : ℕ) where
   is_named : position (by_text n) keys ≡ Some i
       → ((k : ℕ) → slice_index_or gs k false ≡ cond (nat_eq i k) true (slice_index_or fs k false))
       → (m : List ℕ) (place : Option ℕ) → position (by_text m) keys ≡ place → (b : Bool) → same n m ≡ b
       → at_place gs place ≡ (b || at_place fs place)
-  is_named there at m None is true alike =
-      let f = sym there ∙ ap (λ k. position (by_text k) keys) (same-true n m alike) ∙ is in absurd (cc)
-  is_named there at m None is false other = refl
-  is_named there at m (Some j) is true alike =
-      let e = sym there ∙ ap (λ k. position (by_text k) keys) (same-true n m alike) ∙ is in
-      let f : i ≡ j = cc in
-      at j ∙ ap (λ b. cond b true (slice_index_or fs j false)) (eq-eqb i j f)
-  is_named there at m (Some j) is false other = at j ∙ go (nat_eq i j) refl
-    where
-      go : (b : Bool) → nat_eq i j ≡ b → cond b true (slice_index_or fs j false) ≡ slice_index_or fs j false
-      go false h = refl
-      go true h =
-          let f = same-is n m (name-at keys n i there ∙ ap (λ k. (get_or keys k nameless).text)
-          (eqb-true i j h) ∙ sym (name-at keys m j is)) in
-          absurd (cc)
+  is_named there at m None is b alike = grind (arith, same-true n m)
+  is_named there at m (Some j) is b alike = grind (
+    arith,
+    at j,
+    same-true n m,
+    eqb-true i j,
+    eq-eqb i j,
+    name-at keys n i there,
+    name-at keys m j is,
+    same-is n m,
+  )
 
 pub marked_names-mark : (d : ExecutableDocument) (fs gs : List Bool) (n : List ℕ) (i : ℕ)
     → position (by_text n) (keys_of d.fragments) ≡ Some i
     → ((k : ℕ) → slice_index_or gs k false ≡ cond (nat_eq i k) true (slice_index_or fs k false))
     → marked_names d gs ≡ with_name n (marked_names d fs)
 unfolding marked_names with_name
-marked_names-mark d fs gs n i place at = λ j m. is_named (keys_of d.fragments) fs gs n i place at m
-    (position (by_text m) (keys_of d.fragments)) refl (same n m) refl j
+marked_names-mark d fs gs n i place at = λ j m. is_named _ fs gs n i place at m _ refl _ refl j
 
 -- the same places are marked
 pub marked_names-same : (d : ExecutableDocument) (fs gs : List Bool)
@@ -99,14 +86,13 @@ pub marked_names-at : (d : ExecutableDocument) (fs : List Bool) (n : List ℕ) (
 unfolding marked_names
 marked_names-at d fs n i b place is = ap (at_place fs) place ∙ is
 
-no_flag : (place : Option ℕ) → at_place [] place ≡ false
-no_flag None = refl
-no_flag (Some i) = refl
-
 pub marked_names-empty : (d : ExecutableDocument) (fs : List Bool) → fs ≡ [] → marked_names d fs ≡ no_names
 unfolding marked_names
 marked_names-empty d fs is = ap (marked_names d) is
     ∙ (λ j n. no_flag (position (by_text n) (keys_of d.fragments)) j)
+  where
+    no_flag : (place : Option ℕ) → at_place [] place ≡ false
+    no_flag place = grind arith
 
 -- ---- the names as a list
 
@@ -120,29 +106,14 @@ opened_names-empty d names is = ap (opened_names d) is ∙ filter-none (map (λ 
 
 Among-filter : {A : Type 0} (p : A → Bool) (a : A) (xs : List A) → Among a (filter p xs) → p a ≡ true
 Among-filter p a [] h = absurd h
-Among-filter p a (x ∷ xs) h = by (p x) refl (Among-filter p a xs) h
-  where
-    by : (b : Bool) → p x ≡ b → (Among a (filter p xs) → p a ≡ true)
-        → Among a (cond b (x ∷ filter p xs) (filter p xs)) → p a ≡ true
-    by true e rest (inl i) = ap p i ∙ e
-    by true e rest (inr later) = rest later
-    by false e rest later = rest later
+Among-filter p a (x ∷ xs) h = grind (arith, h, Among-filter p a xs)
 
 -- a name that is opened and has a fragment is one of the keys
 key-opened : (es : List (NameView × NodeView Fragment)) (names : Names) (n : List ℕ) → names n ≡ true
     → is_some (lookup (by_text n) es) ≡ true → Among n (filter names (map (λ k. k.text) (keys_of es)))
 key-opened [] names n held found = absurd (cc)
-key-opened (e ∷ es) names n held found = by (same n e.0.text) refl (names e.0.text) refl _
-    (lookup (by_text n) es) (key-opened es names n held) found
-  where
-    by : (b : Bool) → same n e.0.text ≡ b → (c : Bool) → names e.0.text ≡ c
-        → (rest : List (List ℕ)) (later : Option (NodeView Fragment)) → (is_some later ≡ true → Among n rest)
-        → is_some (cond b (Some e.1) later) ≡ true → Among n (cond c (e.0.text ∷ rest) rest)
-    by true alike true is rest later among _ = inl (same-true n e.0.text alike)
-    by true alike false is rest later among _ =
-        let f = sym held ∙ ap names (same-true n e.0.text alike) ∙ is in absurd (cc)
-    by false other true is rest later among found = inr (among found)
-    by false other false is rest later among found = among found
+key-opened (e ∷ es) names n held found =
+    grind (arith, held, found, same-true n e.0.text, key-opened es names n held)
 
 -- the names that are opened at the end of a whole walk are those that it leads to
 pub opened_names-reached : (deep : Bool) (d : ExecutableDocument) (s : Plain) (names : Names)
@@ -153,12 +124,7 @@ pub opened_names-reached : (deep : Bool) (d : ExecutableDocument) (s : Plain) (n
 unfolding fragments_of
 opened_names-reached deep d s names opens defined n = (
   λ h. (opens n).0 (Among-filter names n (map (λ k. k.text) (keys_of d.fragments)) h),
-  λ r. key-opened d.fragments names n ((opens n).1 r) (there (lookup (by_text n) d.fragments)
-      (sym (fragment_of-entries deep d.fragments n) ∙ (defined n r).1)),
+  λ r. let there : is_some (lookup (by_text n) d.fragments) ≡ true =
+      grind (arith, fragment_of-entries deep d.fragments n, (defined n r).1) in
+      key-opened d.fragments names n ((opens n).1 r) there,
 )
-  where
-    there : (found : Option (NodeView Fragment)) {set : Plain}
-        → option_map (λ f. plain deep f.value.selection_set.selections) found ≡ Some set
-        → is_some found ≡ true
-    there None is = absurd (cc)
-    there (Some f) is = refl

@@ -1,5 +1,5 @@
 -- Fields all of whose names stand at the root of queries of each schema.
-use Rattle.std.proofs.Common.{◌≡◌, ◌↔◌, inl, inr, refl, false, List, ◌∷◌, Some, Ok, sym, subst}
+use Rattle.std.proofs.Common.{arith, ◌≡◌, ◌↔◌, inl, inr, refl, false, List, ◌∷◌, Some, Ok, subst}
 use Rattle.std.specs.Borrow.{Bor}
 use Rattle.graphql_nodes.specs.NodeView.{NodeView}
 use Rattle.graphql_nodes.specs.declared.operation_type.OperationType.TheVariants.{Query}
@@ -16,8 +16,8 @@ abbrev pub AreMeta : List (NodeView Field) → Type 0
 AreMeta fields = (n : NodeView Field) → Among n fields → IsMetaName n.value.name.text
 
 module _ (document : ExecutableDocument) (operation : Operation) (fields : List (NodeView Field))
-    (given : (n : NodeView Field) → Among n fields
-    ↔ IsReached (fragments_of false document) (plain false operation.selection_set.selections) n) where
+    (given : (n : NodeView Field) → Among n fields ↔ IsReached (fragments_of false document)
+    (plain false operation.selection_set.selections) n) where
   pub meta-introspection : operation.operation_type ≡ Query → AreMeta fields
       → IsIntrospection document operation
   meta-introspection query all = (query, λ n reached. all n ((given n).1 reached))
@@ -41,9 +41,6 @@ module _ (field : Bor (NodeView Field)) {initial now new : WalkView} {item : Ite
 
   pub given-one_more : IsMetaName field.now.value.name.text → HasGivenMeta initial new
   given-one_more named = record {
-    all = λ all. before.all (rw first (λ n h. elim h [
-      | inl e ↦ subst (λ (k : NodeView Field). IsMetaName k.value.name.text) (sym e) named
-      | inr later ↦ all n later
-    ]));
+    all = λ all. before.all (rw first (λ n h. grind (arith, h, named, all n)));
     others = λ all n later. before.others all n (rw first (inr later));
   }

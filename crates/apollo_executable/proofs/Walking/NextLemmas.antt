@@ -1,5 +1,5 @@
 -- What a call of `next` gives, by the last turn that it takes.
-use Rattle.std.proofs.Common.{◌≡◌, ◌≤◌, true, false, [], None, Ok, refl, sym, ◌∙◌, arith, true≢false}
+use Rattle.std.proofs.Common.{◌≡◌, ◌≤◌, true, false, [], None, Ok, sym, rules, ◌∙◌, arith, true≢false}
 use Rattle.apollo_executable.specs.Walks.WalkView.{WalkView, IsWithinTurns}
 use Rattle.apollo_executable.specs.Walks.NextItem.{IsNext, IsOver}
 use Rattle.apollo_executable.specs.Walks.Step.{IsStep}
@@ -15,16 +15,7 @@ pub record IsLater (old now : WalkView) : Type 0 where
   pub less : old.taken ≤ now.taken
 
 pub later-itself : (walk : WalkView) → IsLater walk walk
-later-itself walk =
-    record {
-      deep = refl;
-      document = refl;
-      start = refl;
-      coming = refl;
-      goes_on = λ going. going;
-      stands = λ _. refl;
-      less = omega arith;
-    }
+later-itself walk = search (rules, arith)
 
 module _ {old now : WalkView} (later : IsLater old now) where
   -- nothing was to come any more

@@ -1,5 +1,5 @@
 -- Selections as a walk sees them, at each kind of selection.
-use Rattle.std.proofs.Common.{◌≡◌, Bool, true, false, List, [], ◌∷◌, map, refl, sym, ap, ◌∙◌}
+use Rattle.std.proofs.Common.{◌≡◌, Bool, List, [], ◌∷◌, map, refl, ap, ◌∙◌, arith}
 use Rattle.graphql_nodes.specs.NodeView.{NodeView}
 use Rattle.apollo_walks.specs.Selections.{none, field, spread, inline}
 use Rattle.apollo_walks.specs.TurnByTurn.{over}
@@ -25,8 +25,8 @@ module _ (deep : Bool) where
   pub plain-first : (s : Selection) (ss : List Selection)
       → plain deep (s ∷ ss) ≡ put_before deep (opened_up (out-Selection s)) (plain deep ss)
   unfolding plain
-  plain-first s ss =
-      ap (λ (p : Plain → Plain). p (plain deep ss)) (read.read-opened (put_before deep) (λ _. in_order) s)
+  plain-first s ss = ap (λ (p : Plain → Plain). p (plain deep ss)) (read.read-opened (put_before deep)
+      (λ _. in_order) s)
 
   pub plain-none : plain deep [] ≡ none
   unfolding plain
@@ -36,35 +36,30 @@ module _ (deep : Bool) where
       → plain deep (variant.Field n ∷ ss) ≡ field n (plain deep (below_of deep n.value)) (plain deep ss)
   unfolding plain
   plain-field n ss =
+      let below : when_deep deep (plain deep n.value.selection_set.selections)
+      ≡ plain deep (below_of deep n.value) = grind (arith, plain-none) in
       ap (λ (p : Plain → Plain). p (plain deep ss)) (read.read-field (put_before deep) (λ _. in_order) n)
-      ∙ ap (λ (p : Plain). field n p (plain deep ss)) (below deep)
-    where
-      below : (b : Bool) → when_deep b (plain deep n.value.selection_set.selections)
-          ≡ plain deep (below_of b n.value)
-      below true = refl
-      below false = sym plain-none
+      ∙ ap (λ (p : Plain). field n p (plain deep ss)) below
 
   pub plain-spread : (n : NodeView FragmentSpread) (ss : List Selection)
       → plain deep (variant.FragmentSpread n ∷ ss) ≡ spread n.value.fragment_name.text (plain deep ss)
   unfolding plain
-  plain-spread n ss =
-      ap (λ (p : Plain → Plain). p (plain deep ss)) (read.read-spread (put_before deep) (λ _. in_order) n)
+  plain-spread n ss = ap (λ (p : Plain → Plain). p (plain deep ss)) (read.read-spread (put_before deep)
+      (λ _. in_order) n)
 
   pub plain-inline : (n : NodeView InlineFragment) (ss : List Selection)
       → plain deep (variant.InlineFragment n ∷ ss) ≡ inline (plain deep n.value.selection_set.selections)
       (plain deep ss)
   unfolding plain
-  plain-inline n ss =
-      ap (λ (p : Plain → Plain). p (plain deep ss)) (read.read-inline (put_before deep) (λ _. in_order) n)
+  plain-inline n ss = ap (λ (p : Plain → Plain). p (plain deep ss)) (read.read-inline (put_before deep)
+      (λ _. in_order) n)
 
   -- a list is opened if there is something in it
   pub over-list : (below : List Selection) (lists : List (List Selection))
       → over (plain deep below) (map (plain deep) lists) ≡ map (plain deep) (with_list below lists)
   over-list [] lists = rw plain-none
-  over-list (s ∷ ss) lists = rw (plain-first s ss) (at (opened_up (out-Selection s)))
-    where
-      at : (z : WithParts (Plain → Plain) Plain)
-          → over (put_before deep z (plain deep ss)) (map (plain deep) lists)
-          ≡ put_before deep z (plain deep ss) ∷ map (plain deep) lists
-      at (Selection-F.Field n) = refl
-      at z = refl
+  over-list (s ∷ ss) lists =
+      rw (plain-first s ss)
+      (elim (opened_up (out-Selection s)) as (λ z. over (put_before deep z (plain deep ss))
+      (map (plain deep) lists) ≡ put_before deep z (plain deep ss) ∷ map (plain deep) lists)
+      [ Selection-F.Field n ↦ refl | z ↦ refl ])

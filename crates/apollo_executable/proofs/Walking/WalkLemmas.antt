@@ -1,7 +1,7 @@
 -- What the parts of a walk say of its open lists.
-use Rattle.std.proofs.Common.{◌≡◌, ◌≤◌, ◌<◌, ◌+◌, ℕ, Bool, cond, true, false, List, [], ◌∷◌, ◌++◌, map}
-use Rattle.std.proofs.Common.{reverse, Option, None, Some, Result, Ok, Err, OnOk, OnErr, is_err, length}
-use Rattle.std.proofs.Common.{arith, refl, sym, ap, ◌∙◌}
+use Rattle.std.proofs.Common.{◌≡◌, ◌≤◌, ◌<◌, ◌+◌, ℕ, Bool, cond, true, false, List, [], ◌∷◌, ◌++◌, Option}
+use Rattle.std.proofs.Common.{None, Some, Result, Ok, Err, OnOk, OnErr, is_err, length, arith, refl, sym, ap}
+use Rattle.std.proofs.Common.{◌∙◌}
 use Rattle.std.proofs.lemmas.List.{reverse-append, map-append}
 use Rattle.std.specs.Prelude.{nat_eq}
 use Rattle.std.specs.Borrow.{Bor}
@@ -36,16 +36,14 @@ turns x = x.turns
 pub waiting-push : (lists : List (Bor (List Selection))) (l : Bor (List Selection))
     → waiting_lists (lists ++ l ∷ []) ≡ l.now ∷ waiting_lists lists
 unfolding waiting_lists
-waiting-push lists l = ap reverse (map-append (λ (x : Bor (List Selection)). x.now) lists (l ∷ []))
-    ∙ reverse-append (map (λ (x : Bor (List Selection)). x.now) lists) (l.now ∷ [])
+waiting-push lists l = simp (map-append, reverse-append)
 
 pub waiting-empty : waiting_lists [] ≡ []
 unfolding waiting_lists
 waiting-empty = refl
 
 pub OnErr-always : {T E : Type 0} (A : Type 0) (r : Result T E) → A → OnErr r A
-OnErr-always A (Ok x) a = tt
-OnErr-always A (Err e) a = a
+OnErr-always A r a = grind (arith, a)
 
 pub cons-by-length : {A : Type 0} (xs : List A) → (nat_eq (length xs) 0) ≡ false
     → (x : A) × (ys : List A) × (xs ≡ x ∷ ys)

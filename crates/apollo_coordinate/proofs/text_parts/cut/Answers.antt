@@ -19,5 +19,5 @@ parts mark t (Some x) some =
     (first_cut mark t some.2))
 
 pub returns : goal.returns
-returns c =
-    parts c.args.mark c.args.text.now c.split_once.result (c.split_once.ensures.byte c.requires (λ w o f. f))
+returns c = parts c.args.mark c.args.text.now c.split_once.result (c.split_once.ensures.byte c.requires
+    (λ w o f. f))

@@ -1,8 +1,7 @@
 use Rattle.std.proofs.Common.{◌≡◌, ◌⊎◌, inl, inr, List, Option, refl}
 use Rattle.apollo_schema.specs.declared.schema.Schema.{Schema}
 use Rattle.apollo_document.specs.AddedDefinitions.{DocumentItem}
-use Rattle.apollo_document.specs.BuilderStands.{IsFailed, IsOpenWith}
-use Rattle.apollo_document.specs.BuilderStands.{Standing, Open, Failed}
+use Rattle.apollo_document.specs.BuilderStands.{IsFailed, IsOpenWith, Standing, Open, Failed}
 use Rattle.apollo_document.proofs.laws.every_builder_stands_for_a_list_or_has_failed.Goals as goal
 
 either : (schema : Option Schema) (standing : Standing)

@@ -6,8 +6,7 @@ use Rattle.apollo_field_usage.proofs.LeftLemmas.{left-ends, all-reached}
 use Rattle.apollo_field_usage.proofs.reached.reached_fields.Goals as goal
 
 pub loop-innermost-init : goal.loop-innermost-init
-loop-innermost-init c =
-    (λ i. map seen (c.new-fields.ensures.items i) ++ (c.in_ok-sets.ensures i).fields)
+loop-innermost-init c = (λ i. map seen (c.new-fields.ensures.items i) ++ (c.in_ok-sets.ensures i).fields)
     ∙ all-reached c.args.document.now c.args.set.now
 
 pub returns : goal.returns

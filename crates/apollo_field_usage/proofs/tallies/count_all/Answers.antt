@@ -1,5 +1,5 @@
-use Rattle.std.proofs.Common.{◌≡◌, ◌<◌, ◌≤◌, ◌+◌, ◌^◌, ℕ, Option, None, Some, IfSome, List, [], ◌∷◌, ◌++◌}
-use Rattle.std.proofs.Common.{map, take, length, sym, ap, ◌∙◌, arith}
+use Rattle.std.proofs.Common.{◌≡◌, ◌<◌, ◌≤◌, ◌+◌, ◌^◌, ℕ, IfSome, List, [], ◌∷◌, ◌++◌, map, take, length, sym}
+use Rattle.std.proofs.Common.{ap, ◌∙◌, arith}
 use Rattle.std.proofs.lemmas.List.{take_more, map-append, length-map, length-take-le}
 use Rattle.graphql_nodes.specs.Tables.{lookup}
 use Rattle.apollo_coordinate.specs.declared.coordinates.TypeAttributeCoordinate.{TypeAttributeCoordinate}
@@ -16,18 +16,12 @@ abbrev keys : List FieldOccurrence → List TypeAttributeCoordinate
 keys fields = map coordinate (map seen fields)
 
 taken : (fields : List FieldOccurrence) (i : ℕ) → i ≤ length fields → length (keys (take i fields)) ≡ i
-taken fields i below = length-map (map seen (take i fields)) coordinate ∙ length-map (take i fields) seen
-    ∙ length-take-le i fields below
+taken fields i below = rw (length-map, length-map) (length-take-le i fields below)
 
 small : (table : List (TypeAttributeCoordinate × ℕ)) (ks : List TypeAttributeCoordinate)
     (k : TypeAttributeCoordinate) → table ≡ tally same_coordinate ks → length ks + 1 < 2 ^ 64
     → IfSome (lookup (same_coordinate k) table) (λ times. times + 1 < 2 ^ 64)
-small table ks k is few = by (lookup (same_coordinate k) table) (ap (lookup (same_coordinate k)) (sym is))
-  where
-    by : (found : Option ℕ) → lookup (same_coordinate k) (tally same_coordinate ks) ≡ found
-        → IfSome found (λ times. times + 1 < 2 ^ 64)
-    by None found = tt
-    by (Some times) found = omega (arith, few, tally-small same-equivalence ks k times found)
+small table ks k is few = rw is (grind (arith, few, tally-small same-equivalence ks k))
 
 pub count-requires : goal.count-requires
 count-requires c =

@@ -6,8 +6,7 @@ use Rattle.apollo_walks.proofs.Whole.{order_reaches}
 use Rattle.apollo_walks.proofs.laws.walks_take_few_turns.Goals as goal
 
 pub returns-clause-all : goal.returns-clause-all
-returns-clause-all g c =
-    λ fragments s. let o = ordered fragments no_names s in
+returns-clause-all g c = λ fragments s. let o = ordered fragments no_names s in
     (_, (o.opened, order_reaches fragments s o.fields o.opened o.order, refl))
 
 pub returns-clause-few : goal.returns-clause-few

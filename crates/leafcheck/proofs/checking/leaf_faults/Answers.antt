@@ -35,6 +35,7 @@ returns-in_err-note_set-2-clause-memory c =
     l.yielded_by fragment c.in-Some-fragment.is c.next-in-loop-fragment.ensures.steps in
     let some = fragment-at s document (length l.yielded) fragment.now turn.1
     (fragment-noted s c.deref-in-loop-fragment.result c.deref-in-loop-fragment-2.result fragment.now
-    c.deref-in-loop-fragment.ensures c.deref-in-loop-fragment-2.ensures c.in_err-note_set-2.ensures.memory) in
+    c.deref-in-loop-fragment.ensures c.deref-in-loop-fragment-2.ensures
+    c.in_err-note_set-2.ensures.memory) in
     MatchResult-from_err c.from_residual-in_err-note_set-2.result _ _
     c.from_residual-in_err-note_set-2.ensures.0 (λ _. some)

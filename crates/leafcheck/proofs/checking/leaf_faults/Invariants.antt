@@ -8,6 +8,5 @@ abbrev pub invariant-loop-operation : goal.invariant-loop-operation
 invariant-loop-operation l = l.faults ≡ flat_map (operation_faults l.schema) (map (λ n. n.now) l.yielded)
 
 abbrev pub invariant-loop-fragment : goal.invariant-loop-fragment
-invariant-loop-fragment l =
-    l.faults ≡ flat_map (operation_faults l.schema) (all_operations l.document.operations)
-    ++ flat_map (fragment_faults l.schema) (map (λ n. n.now) l.yielded)
+invariant-loop-fragment l = l.faults ≡ flat_map (operation_faults l.schema) (all_operations
+    l.document.operations) ++ flat_map (fragment_faults l.schema) (map (λ n. n.now) l.yielded)

@@ -4,11 +4,4 @@ use Rattle.leafcheck.proofs.PlacelessLemmas.{placeless}
 use Rattle.leafcheck.proofs.laws.fields_with_places.Goals as goal
 
 pub returns : goal.returns
-returns c = record {
-  none = placed-none;
-  field = placed-field;
-  fragment_spread = placed-spread;
-  inline_fragment = placed-inline;
-  joined = placed-joined;
-  fields = placeless;
-}
+returns c = search (placed-none, placed-field, placed-spread, placed-inline, placed-joined, placeless)

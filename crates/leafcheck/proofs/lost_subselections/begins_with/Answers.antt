@@ -16,6 +16,5 @@ returns-then-eq c =
     ≡ pointwise (λ (a b : NameView). pointwise nat_eq a.text b.text) outer.nested_fields
     (take n path.nested_fields) = search rules in (
       (λ h. (root.0 (sym c.eq.ensures ∙ c.if-eq.true), sym (keys.0 (sym value ∙ h)))),
-      (λ begins. value
-          ∙ keys.1 (sym begins.1)),
+      (λ begins. value ∙ keys.1 (sym begins.1)),
     )

@@ -12,8 +12,8 @@ returns-in_err-new-in-Some-Some-clause-complete c text =
     let none = c.in_err-new-in-Some-Some.ensures.refused in
     let form = only_directive_argument _ (marks.field-0-0.now, marks.ensures)
     (cut_lacks 40 _ _ _ marks.ensures') text in
-    absurd (no_directive_argument _ _
-    (inr (marks.directive.now, marks.argument.now, marks.ensures', none)) form)
+    absurd (no_directive_argument _ _ (inr (marks.directive.now, marks.argument.now, marks.ensures', none))
+    form)
 
 pub returns-in_err-name_part-in-Some-None-clause-complete :
     goal.returns-in_err-name_part-in-Some-None-clause-complete
@@ -27,8 +27,8 @@ pub returns-in_err-new-in-None-Some-clause-complete : goal.returns-in_err-new-in
 returns-in_err-new-in-None-Some-clause-complete c text =
     let marks = c.in-None-Some in
     let none = c.in_err-new-in-None-Some.ensures.refused in
-    let form = only_field_argument _ (λ at. marks.ensures at.0 at.1)
-    (cut_lacks 40 _ _ _ marks.ensures') text in
+    let form = only_field_argument _ (λ at. marks.ensures at.0 at.1) (cut_lacks 40 _ _ _ marks.ensures')
+    text in
     absurd (no_field_argument _ _ (inr (marks.field.now, marks.argument.now, marks.ensures', none)) form)
 
 pub returns-in_err-new-in-Some-clause-complete : goal.returns-in_err-new-in-Some-clause-complete

@@ -33,7 +33,8 @@ elaborate_field-returns-clause-faults t c =
     ∙ (λ i. noting (faults_within s ty location (record { root = e.path.root; nested_fields = pushed i })
     f) e) ∙ ap (λ (l : List Fault). noting l e) (sym (faults-field s ty location e.path f))
 
-pub elaborate_fragment-returns-in_default-clause-faults : goal.elaborate_fragment-returns-in_default-clause-faults
+pub elaborate_fragment-returns-in_default-clause-faults :
+    goal.elaborate_fragment-returns-in_default-clause-faults
 elaborate_fragment-returns-in_default-clause-faults t c =
     let s = option_copied c.args.parent.now.schema in
     let ty = c.args.parent.now.ty.now in

@@ -15,7 +15,6 @@ returns-clause-faults c =
     let found = all_noted (λ p. faults_of_selections s root p below) _ c.of-elaboration.result
     c.elaborate_set.new.self c.of-elaboration.ensures.path c.of-elaboration.ensures.faults
     c.in_ok-set.ensures.faults in
-    let all = c.in_ok-append.ensures.ok
-    ∙ ap (λ (l : List Fault). t.faults ++ l)
-    (found ∙ operation_faults_made s n c.args.name root below (search rules) (search rules)) in
+    let all = c.in_ok-append.ensures.ok ∙ ap (λ (l : List Fault). t.faults ++ l) (found
+    ∙ operation_faults_made s n c.args.name root below (search rules) (search rules)) in
     λ i. record t { faults = all i }

@@ -1,5 +1,5 @@
-use Rattle.std.proofs.Common.{rules, ◌≡◌, ℕ, ◌+◌, ◌<◌, Bool, get_or, take, List, [], ◌∷◌, ◌++◌, length, sym}
-use Rattle.std.proofs.Common.{ap, subst, ◌∙◌, append_assoc, arith}
+use Rattle.std.proofs.Common.{rules, ◌≡◌, ℕ, ◌+◌, ◌<◌, Bool, get_or, take, List, [], ◌∷◌, ◌++◌, length, refl}
+use Rattle.std.proofs.Common.{subst, ◌∙◌, append_assoc, arith}
 use Rattle.std.proofs.lemmas.List.{map-append, take_more}
 use Rattle.std.specs.Option.{option_copied}
 use Rattle.graphql_ast.specs.declared.definition.Definition.{Definition}
@@ -17,9 +17,7 @@ use Rattle.apollo_document.proofs.tables.Tables.take.Goals.{in_default+in_ok-not
 one-more : (b : Bool) (xs : List DocumentItem) (ds : List Definition) (i : ℕ) (d : Definition) → i < length ds
     → d ≡ get_or ds i d
     → (xs ++ document_list b (take i ds)) ++ (b, d) ∷ [] ≡ xs ++ document_list b (take (i + 1) ds)
-one-more b xs ds i d lt is = append_assoc xs (document_list b (take i ds)) ((b, d) ∷ [])
-    ∙ ap (λ l. xs ++ l) (sym (map-append (λ d. (b, d)) (take i ds) (d ∷ [])) ∙ ap (λ (e : Definition).
-    document_list b (take i ds ++ e ∷ [])) is ∙ ap (document_list b) (sym (take_more ds i d lt)))
+one-more b xs ds i d lt is = rw (take_more ds i d lt, map-append, ← is, append_assoc) refl
 
 pub loop-definition-preserved : goal.loop-definition-preserved
 loop-definition-preserved c = λ xs was.

@@ -3,10 +3,5 @@ use Rattle.apollo_executable.proofs.Walking.ReadingLemmas.{inline-read, joined-r
 use Rattle.apollo_executable.proofs.laws.fields_in.fields_by_kind_of_selection.Goals as goal
 
 pub returns : goal.returns
-returns c = record {
-  none = none-read of_fields;
-  field = field-read of_fields;
-  fragment_spread = spread-read of_fields;
-  inline_fragment = inline-read of_fields;
-  joined = joined-read of_fields;
-}
+returns c =
+    let r = of_fields in search (none-read r, field-read r, spread-read r, inline-read r, joined-read r)

@@ -3,10 +3,5 @@ use Rattle.apollo_executable.proofs.Walking.ReadingLemmas.{inline-read, joined-r
 use Rattle.apollo_executable.proofs.laws.spreads_in.spreads_by_kind_of_selection.Goals as goal
 
 pub returns : goal.returns
-returns c = record {
-  none = none-read of_spreads;
-  field = field-read of_spreads;
-  fragment_spread = spread-read of_spreads;
-  inline_fragment = inline-read of_spreads;
-  joined = joined-read of_spreads;
-}
+returns c =
+    let r = of_spreads in search (none-read r, field-read r, spread-read r, inline-read r, joined-read r)

@@ -7,5 +7,5 @@ returns-clause-none c =
     popped-none c.pop.result open_sets.items open_sets.len open_sets.ok.0 _ _ c.pop.ensures.cases
 
 pub returns-clause-some : goal.returns-clause-some
-returns-clause-some c =
-    popped-some c.pop.result c.args.self.now.open.items c.pop.new.self.items c.pop.ensures.items
+returns-clause-some c = popped-some c.pop.result c.args.self.now.open.items c.pop.new.self.items
+    c.pop.ensures.items

@@ -12,9 +12,9 @@ returns c =
     let new = c.open.new.self in
     let document : new.document.now ≡ d = λ i. (c.open.ensures.document i).now in
     let marks = none-marked d c.in_ok-no_marks.field-0.items c.in_ok-no_marks.ensures.none in
-    let names : names_opened new ≡ no_names =
-    (λ i. marked_names (document i) (c.open.ensures.opened i).items) ∙ marks in
-    let lists : lists_of new ≡ (set.ty, set.selections) ∷ [] =
-    c.in_ok-open.ensures.lists ∙ ap (λ l. (set.ty, set.selections) ∷ innermost_first l) c.new.ensures.items
+    let names : names_opened new ≡ no_names = (λ i. marked_names (document i) (c.open.ensures.opened i).items)
+    ∙ marks in
+    let lists : lists_of new ≡ (set.ty, set.selections) ∷ [] = c.in_ok-open.ensures.lists
+    ∙ ap (λ l. (set.ty, set.selections) ∷ innermost_first l) c.new.ensures.items
     ∙ ap (λ l. (set.ty, set.selections) ∷ l) innermost-empty in
     λ i. left_in (document i) (names i) (lists i)

@@ -42,20 +42,17 @@ returns-clause-turn c = λ ty rest lists first.
     let found = rw c.deref.ensures at (sym c.in-Some.ensures.value) in
     let there : c.in-Some.place < length w.opened.items =
     omega (arith, w.marks, key-there d.fragments text c.in-Some.place place) in
-    let mark =
-    mark-at w.opened.items c.in-Some.place c.index.result.now c.index.ensures there false c.if-index.false in
-    let closed : names_opened w text ≡ false =
-    marked_names-at d w.opened.items text c.in-Some.place false place mark in
-    let marked =
-    marked_names-mark d w.opened.items marks text c.in-Some.place place
+    let mark = mark-at w.opened.items c.in-Some.place c.index.result.now c.index.ensures there false
+    c.if-index.false in
+    let closed : names_opened w text ≡ false = marked_names-at d w.opened.items text c.in-Some.place false
+    place mark in
+    let marked = marked_names-mark d w.opened.items marks text c.in-Some.place place
     (rw c.open.ensures.opened at c.mark.ensures.marked) in
     let document : new.document.now ≡ d = λ i. (c.open.ensures.document i).now in
     let names : marked_names new.document.now marks ≡ with_name text (names_opened w) =
     (λ i. marked_names (document i) marks) ∙ marked in
-    let set : lists_of new
-    ≡ (f.value.selection_set.ty, f.value.selection_set.selections) ∷ (ty, rest) ∷ lists =
-    c.in_ok-open.ensures.lists
-    ∙ (λ i. let g = c.deref-2.ensures i in
+    let set : lists_of new ≡ (f.value.selection_set.ty, f.value.selection_set.selections) ∷ (ty, rest)
+    ∷ lists = c.in_ok-open.ensures.lists ∙ (λ i. let g = c.deref-2.ensures i in
     (g.selection_set.ty, g.selection_set.selections) ∷ first i) in
     left-opens d (names_opened w) ty lists rest n f closed found
     ∙ (λ i. a_turn_before (left_in (sym document i) (sym names i) (sym set i)))

@@ -81,7 +81,8 @@ returns-in_ok-open-in-InlineFragment-clause-turn c =
     (λ i. left_in d (names_opened v) ((ty, all i) ∷ lists_of v)) ∙ left-inline d (names_opened v) ty (lists_of
     v) rest n ∙ (λ i. a_turn_before (left_in ((sym e.document i).now) (sym names i) (sym lists i)))
 
-pub returns-in_ok-open_fragment-in-FragmentSpread-clause-turn : goal.returns-in_ok-open_fragment-in-FragmentSpread-clause-turn
+pub returns-in_ok-open_fragment-in-FragmentSpread-clause-turn :
+    goal.returns-in_ok-open_fragment-in-FragmentSpread-clause-turn
 returns-in_ok-open_fragment-in-FragmentSpread-clause-turn c =
     let v = c.args.self.now in
     let ty = c.args.set.ty.now in

@@ -37,8 +37,8 @@ pub returns-in_err-open-clause-refused : goal.returns-in_err-open-clause-refused
 returns-in_err-open-clause-refused c =
     let w = c.args.self.now in
     let opened = c.in_err-open.ensures.refused in
-    let names = opened.names
-    ∙ marked_names-same w.document.now w.opened.items c.make_room.new.flags.items c.make_room.ensures.marks in
+    let names = opened.names ∙ marked_names-same w.document.now w.opened.items c.make_room.new.flags.items
+    c.make_room.ensures.marks in
     OnErr-always (AreSameLists w c.open.new.self) _
     (record { current = opened.current; waiting = opened.waiting; names = names })
 
@@ -60,8 +60,8 @@ returns-clause-turn c =
     let marked = marked_names-mark w.document.now room marks text c.in-Some.place place
     (rw e.opened at c.mark.ensures) in
     let names : marked_names v.document.now marks ≡ with_name text (names_opened w) =
-    ap (λ (d : ExecutableDocument). marked_names d marks) document ∙ marked
-    ∙ ap (with_name text) (marked_names-same w.document.now w.opened.items room c.make_room.ensures.marks) in
+    ap (λ (d : ExecutableDocument). marked_names d marks) document ∙ marked ∙ ap (with_name text)
+    (marked_names-same w.document.now w.opened.items room c.make_room.ensures.marks) in
     let lists = ap waiting_lists c.in_ok-open.ensures.waiting ∙ waiting-push w.waiting.items c.args.rest in
     let current : v.current.now ≡ set = c.in_ok-open.ensures.current ∙ c.as_slice-2.ensures
     ∙ ap (λ (f : Fragment). f.selection_set.selections) c.deref-2.ensures in

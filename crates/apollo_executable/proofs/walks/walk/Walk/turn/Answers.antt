@@ -22,9 +22,8 @@ pub returns-clause-step : goal.returns-clause-step
 returns-clause-step c =
     let law = c.walks_are_left_by_turn.ensures in
     let e = c.turn-turn.ensures in
-    rw (c.requires.fine, c.is_err-self.ensures.value)
-    (turned law.turns law.whole c.args.self.now c.turn-turn.new.self c.turn-turn.result c.requires.going
-    e.deep e.document e.turn).step
+    rw (c.requires.fine, c.is_err-self.ensures.value) (turned law.turns law.whole c.args.self.now
+    c.turn-turn.new.self c.turn-turn.result c.requires.going e.deep e.document e.turn).step
 
 pub returns-clause-less : goal.returns-clause-less
 returns-clause-less c =
