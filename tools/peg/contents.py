@@ -101,11 +101,9 @@ LAWS = [
     Page(
         "well_formed",
         "What could have come of a text",
-        "apollo_canonical_text::well_formed apollo_canonical_documents::well_formed",
+        "apollo_canonical::well_formed apollo_canonical::well_formed_documents",
     ),
-    Page(
-        "canonical_text", "From text to text", "apollo_canonical_text::laws apollo_canonical_documents::laws"
-    ),
+    Page("canonical_text", "From text to text", "apollo_canonical::laws"),
     Page("coordinate", "Schema coordinates", "apollo_coordinate::laws"),
     Page("walks", "Walks over selections", "apollo_walks::laws"),
     Page("executable", "Typed documents", "apollo_executable::laws"),

@@ -64,20 +64,18 @@ pub use apollo_schema_laws::write_out::canonical;
 
 // Well-formed goes through the schema: where each definition of a list could have come of a text, so could
 // each of its write-out.
-pub use apollo_canonical_text::well_formed as well_formed;
+pub use apollo_canonical::well_formed;
 
 // So could what a typed document is written out as, where no selections were left without one.
-pub use apollo_canonical_documents::well_formed as well_formed_documents;
+pub use apollo_canonical::well_formed_documents;
 
 // From text to text: the text of a schema that texts make is read again, and builds an equal schema with the
 // same text.
-pub use apollo_canonical_text::laws::canonical_text;
+pub use apollo_canonical::laws::canonical_text;
 
 // So is the text of a typed document that texts make, where no selections were left without one. Over the
 // same schema it builds an equal document with the same text. Equal definitions mean equal documents.
-pub use apollo_canonical_documents::laws::{
-    canonical_document_text, equal_definitions_mean_equal_documents,
-};
+pub use apollo_canonical::laws::{canonical_document_text, equal_definitions_mean_equal_documents};
 
 // Builders of equal lists build equal schemas, those of rearranged lists also the same faults, and documents
 // one by one what one document would.

@@ -1,0 +1,3 @@
+mod Prelude
+mod Schemas
+mod Documents

@@ -1,0 +1,21 @@
+-- Texts of schemas, and their write-outs, read and built again.
+pub mod Carried
+pub mod Plain
+pub mod PlainTypes
+pub mod PlainParts
+pub mod PlainSchema
+pub mod PlainFaults
+pub mod PlainWriteOut
+pub mod Alike
+pub mod Unmarked
+pub mod Read
+pub mod ReadAgain
+pub mod FromTexts
+pub mod WellFormedLists
+pub mod Whole
+pub mod Items
+pub mod Components
+pub mod Written
+pub mod WholeList
+pub mod WriteOut
+pub mod BuiltIn

@@ -1,3 +1,0 @@
-pub mod FromTexts
-pub mod TextLaws
-pub mod WellFormedLists
