@@ -1,6 +1,6 @@
 -- Why there is no answer to words and an input, and how a run ends with an answer and without one.
 use Rattle.std.proofs.Common.{◌≡◌, ◌⊎◌, ℕ, Bool, true, false, List, Option, Result, Ok, Err, OnOk, IfOk, inl}
-use Rattle.std.proofs.Common.{inr, refl, sym, ap, subst, ◌∙◌}
+use Rattle.std.proofs.Common.{inr, refl, sym, ap, ◌∙◌}
 use Rattle.std.proofs.KnownBytes.{Appends-trans}
 use Rattle.std.specs.Io.KnownBytes.{Appends}
 use Rattle.gqltool_run.specs.declared.failure.Failure.{Failure}
@@ -51,22 +51,7 @@ cause_over task held may_fail text failures.NoDivision is cause = (text, (is, ca
 cause_over task held may_fail text failures.Memory is cause = tt
 cause_over task held may_fail text failures.ExtensionIds is cause = (text, (is, cause))
 
--- without an answer a run ends as its cause says
-pub without_answer : (words : List (List ℕ)) (held : List ℕ → Type 0) (may_fail : Type 0)
-    (old new : Option (List ℕ)) (failure : Failure) → IsCauseTo words held may_fail failure
-    → MayEnd words held may_fail old new (status_of failure)
-without_answer words held may_fail old new failures.Usage cause = (failures.Usage, (refl, cause))
-without_answer words held may_fail old new (failures.NoCoordinate error) cause =
-    (failures.NoCoordinate error, (refl, cause))
-without_answer words held may_fail old new failures.CannotRead cause = (failures.CannotRead, (refl, cause))
-without_answer words held may_fail old new (failures.RefusedLine line) cause =
-    (failures.RefusedLine line, (refl, cause))
-without_answer words held may_fail old new failures.NoDivision cause = (failures.NoDivision, (refl, cause))
-without_answer words held may_fail old new failures.Memory cause = (failures.Memory, (refl, cause))
-without_answer words held may_fail old new failures.ExtensionIds cause =
-    (failures.ExtensionIds, (refl, cause))
-
--- there are two such ends, and at neither the output is written
+-- a run without an answer ends in one of two ways, and at neither the output is written
 pub two_ends : (failure : Failure) → (status_of failure ≡ s.Refused) ⊎ (status_of failure ≡ s.Exhausted)
 two_ends failures.Usage = inl refl
 two_ends (failures.NoCoordinate error) = inl refl
@@ -76,14 +61,17 @@ two_ends failures.NoDivision = inl refl
 two_ends failures.Memory = inr refl
 two_ends failures.ExtensionIds = inr refl
 
+-- without an answer a run ends as its cause says
+pub without_answer : (words : List (List ℕ)) (held : List ℕ → Type 0) (may_fail : Type 0)
+    (old new : Option (List ℕ)) (failure : Failure) → IsCauseTo words held may_fail failure
+    → MayEnd words held may_fail old new (status_of failure)
+without_answer words held may_fail old new failure cause = elim (two_ends failure) [
+  | inl e ↦ rw e (failure, (e, cause))
+  | inr e ↦ rw e (failure, (e, cause))
+]
+
 pub nothing_written : (failure : Failure) → Writes (status_of failure) → ⊥
-nothing_written failures.Usage writes = writes
-nothing_written (failures.NoCoordinate error) writes = writes
-nothing_written failures.CannotRead writes = writes
-nothing_written (failures.RefusedLine line) writes = writes
-nothing_written failures.NoDivision writes = writes
-nothing_written failures.Memory writes = writes
-nothing_written failures.ExtensionIds writes = writes
+nothing_written failure writes = elim (two_ends failure) [ inl e ↦ rw e at writes | inr e ↦ rw e at writes ]
 
 -- where a beginning of a text went out, the end of what is left of it is that of the whole text
 pub sent_out : (text left : List ℕ) (old middle new : Option (List ℕ)) (has_faults any : Bool)
@@ -91,11 +79,11 @@ pub sent_out : (text left : List ℕ) (old middle new : Option (List ℕ)) (has_
     → IsWritten left has_faults middle new status → IsSentOut text any old new status
 sent_out text left old middle new has_faults any s.Done goes same written = (
   sym same ∙ written.0,
-  subst (Appends old new) (sym goes.1.1) (Appends-trans old middle new goes.0 left goes.1.0 written.1),
+  rw goes.1.1 (Appends-trans old middle new goes.0 left goes.1.0 written.1),
 )
 sent_out text left old middle new has_faults any s.Faults goes same written = (
   sym same ∙ written.0,
-  subst (Appends old new) (sym goes.1.1) (Appends-trans old middle new goes.0 left goes.1.0 written.1),
+  rw goes.1.1 (Appends-trans old middle new goes.0 left goes.1.0 written.1),
 )
 sent_out text left old middle new has_faults any s.Refused goes same written = absurd written
 sent_out text left old middle new has_faults any s.Exhausted goes same written = absurd written
@@ -106,29 +94,16 @@ sent_out text left old middle new has_faults any s.NotWritten goes same written 
 pub beginning_appended : (words : List (List ℕ)) (held : List ℕ → Type 0) (old new : Option (List ℕ))
     (text : List ℕ) (has_faults : Bool) → HoldsSome held (λ input. IsAnswerTo words input text has_faults)
     → IsBegun text old new → HoldsSome held (AppendBeginning words old new)
-beginning_appended words held old new text has_faults means begun = (
-  means.0,
-  (
-    means.1.0,
-    (
-      begun.1.0,
-      (
-        (
-          begun.0,
-          (has_faults, subst (λ (t : List ℕ). IsAnswerTo words means.0 t has_faults) begun.1.1.1 means.1.1),
-        ),
-        begun.1.1.0,
-      ),
-    ),
-  ),
-)
+beginning_appended words held old new text has_faults means begun =
+    let is = rw begun.1.1.1 at means.1.1 in
+    (means.0, (means.1.0, (begun.1.0, ((begun.0, (has_faults, is)), begun.1.1.0))))
 
 answer_appended : (words : List (List ℕ)) (held : List ℕ → Type 0) (old new : Option (List ℕ)) (text : List ℕ)
     (has_faults any : Bool) → has_faults ≡ any
     → HoldsSome held (λ input. IsAnswerTo words input text has_faults) → Appends old new text
     → HoldsSome held (AppendAnswer words any old new)
 answer_appended words held old new text has_faults any same means wrote =
-    (means.0, (means.1.0, (text, (subst (IsAnswerTo words means.0 text) same means.1.1, wrote))))
+    (means.0, (means.1.0, (text, (rw same at means.1.1, wrote))))
 
 -- with an answer it ends as writing that went
 pub with_answer : (words : List (List ℕ)) (held : List ℕ → Type 0) (may_fail : Type 0)

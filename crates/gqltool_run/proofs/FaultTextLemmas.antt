@@ -31,8 +31,7 @@ module _ {E : Type 0} where
       let more : take (i + 1) fs ≡ take i fs ++ f ∷ [] = take_more fs i f lt
       ∙ ap (λ g. take i fs ++ g ∷ []) (sym is) in
       subst (λ l. AreFaultLines l (lines ++ fault_line f.0 said)) (sym more) (AreFaultLines-append (take i fs)
-      (f ∷ []) lines (fault_line f.0 said) are
-      (said, ([], (sym (append-nil (fault_line f.0 said)), refl))))
+      (f ∷ []) lines (fault_line f.0 said) are (said, ([], (sym (append-nil _), refl))))
 
   -- any faults have some
   pub fault_lines : (fs : List (Option SourceSpan × E)) → (lines : List ℕ) × AreFaultLines fs lines
@@ -44,7 +43,7 @@ module _ {E : Type 0} where
   pub AreFaultLines-whole : (fs : List (Option SourceSpan × E)) (i : ℕ) (lines : List ℕ)
       → AreFaultLines (take i fs) lines → (more : List ℕ) × AreFaultLines fs (lines ++ more)
   AreFaultLines-whole fs i lines are =
-      let rest = fault_lines (drop i fs) in (
+      let rest = fault_lines _ in (
         rest.0,
         subst (λ l. AreFaultLines l (lines ++ rest.0)) (take-append-drop i fs)
             (AreFaultLines-append (take i fs) (drop i fs) lines rest.0 are rest.1),

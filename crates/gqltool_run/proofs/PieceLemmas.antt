@@ -13,7 +13,7 @@ module _ {P Q R : List ℕ → Type 0} (join : (x y : List ℕ) → P x → Q y 
     (
       join first.0 y first.1.0 then,
       subst (λ t. GoesOut t old new (left ++ y)) (append_assoc held first.0 y)
-          (goes-with (held ++ first.0) old new left y first.1.1),
+          (goes-with _ old new left y first.1.1),
     ),
   )
 
@@ -23,10 +23,7 @@ module _ {P Q R : List ℕ → Type 0} (join : (x y : List ℕ) → P x → Q y 
   said-both old middle new held left last first then =
       let before = said-before old middle held left then.0 first then.1.0 in (
         before.0,
-        (
-          before.1.0,
-          goes-further (held ++ before.0) old middle new (left ++ then.0) last before.1.1 then.1.1,
-        ),
+        (before.1.0, goes-further _ old middle new _ last before.1.1 then.1.1),
       )
 
   -- the one is cut short, or the other
@@ -49,8 +46,7 @@ said-more {P = P} {Q = Q} old middle new held left text last line was join adds 
       before.0,
       (
         before.1.0,
-        goes-further (held ++ before.0) old middle new (left ++ line) last before.1.1
-            (subst (λ t. GoesOut t middle new last) adds goes),
+        goes-further _ old middle new _ last before.1.1 (subst (λ t. GoesOut t middle new last) adds goes),
       ),
     )
 
@@ -66,7 +62,7 @@ said-cut old new held left was whole =
         (
           more.1,
           subst (λ t. GoesOut t old new (left ++ more.0)) (append_assoc held was.0 more.0)
-              (goes-with (held ++ was.0) old new left more.0 was.1.1),
+              (goes-with _ old new left more.0 was.1.1),
         ),
       ),
     )

@@ -1,5 +1,5 @@
 -- What is ready to be said, and the answer that `walk` makes of it.
-use Rattle.std.proofs.Common.{◌≡◌, ℕ, Bool, false, List, All, string_bytes, subst}
+use Rattle.std.proofs.Common.{◌≡◌, ℕ, Bool, false, List, All, subst}
 use Rattle.program_io.specs.Files.{HoldsSome}
 use Rattle.apollo_compiler.specs.declared.compiled.Compiled.{Compiled}
 use Rattle.bench_notation.specs.Line.{IsLine, lines_of}
@@ -11,8 +11,9 @@ use Rattle.gqltool_run.specs.Commands.{IsAnswerTo, IsPrintTo}
 use Rattle.gqltool_run.specs.DocumentBuilding.{IsCompiledDivided}
 use Rattle.gqltool_run.specs.Prepared.{AreLinesOf, IsReadyOf, IsReadyTo, has_fault}
 use Rattle.gqltool_run.specs.Tasks.{AreWalkWords, Ask}
-use Rattle.gqltool_run.proofs.AnswerLemmas.{faultless_print, faultless_walks}
-use Rattle.gqltool_run.proofs.BuiltLemmas.{built-document}
+use Rattle.gqltool_run.proofs.AnswerLemmas.{faultless-first, faultless_print}
+use Rattle.gqltool_run.specs.WalkCommand.{AreWalksText}
+use Rattle.gqltool_run.proofs.BuiltLemmas.{document-answer}
 
 -- what is ready for lines that were read is ready for the input
 pub ready_to : (words : List (List ℕ)) (held : List ℕ → Type 0) (task : Task) (text : List ℕ)
@@ -20,7 +21,7 @@ pub ready_to : (words : List (List ℕ)) (held : List ℕ → Type 0) (task : Ta
     → IsReadyTo words held ready
 ready_to words held task text (prepared.Answer answer) asked is lines given = (
   (text, (is, (lines, (task, (asked, given))))),
-  λ none. (task, (asked, faultless_print task text (string_bytes answer.text) answer.has_faults given none)),
+  λ none. (task, (asked, faultless_print task text _ answer.has_faults given none)),
 )
 ready_to words held task text (prepared.Walks compiled) asked is lines given =
     (subst (Ask words) given.0 asked, (text, (is, (lines, given.1))))
@@ -31,42 +32,15 @@ pub walks_answer : (words : List (List ℕ)) (held : List ℕ → Type 0) (compi
     → HoldsSome held (λ input. All IsLine (lines_of input) × IsCompiledDivided input compiled)
     → AreLinesOf compiled text → has_faults ≡ has_fault compiled
     → HoldsSome held (λ input. IsAnswerTo words input text has_faults)
-walks_answer words held compiled text has_faults asked is lines any = (
-  is.0,
-  (
-    is.1.0,
-    (
-      is.1.1.0,
-      (
-        tasks.Walk,
-        (
-          asked,
-          record {
-            schema = compiled.schema;
-            document = compiled.document;
-            schema_faults = compiled.schema_faults.items;
-            faults = compiled.document_faults.items;
-            means = built-document is.0 compiled is.1.1.1;
-            says = lines;
-            any = any;
-          },
-        ),
-      ),
-    ),
-  ),
-)
+walks_answer words held compiled text has_faults asked is lines any =
+    let answer = document-answer {Says = λ _ document. AreWalksText document} {others = λ _ _. 0} is.0
+    compiled is.1.1.1 text has_faults lines any in
+    (is.0, (is.1.0, (is.1.1.0, (tasks.Walk, (asked, answer)))))
 
 -- and where nothing is at fault, it is the walks over a document
 pub walks_print : (words : List (List ℕ)) (compiled : Compiled) (text : List ℕ) → AreWalkWords words
     → AreLinesOf compiled text → has_fault compiled ≡ false → IsPrintTo words text
-walks_print words compiled text asked lines none = (
-  tasks.Walk,
-  (
-    asked,
-    (
-      compiled.document,
-      faultless_walks compiled.document compiled.schema_faults.items
-          compiled.document_faults.items text lines none,
-    ),
-  ),
-)
+walks_print words compiled text asked lines none =
+    let says = faultless-first {Says = AreWalksText compiled.document} compiled.schema_faults.items
+    compiled.document_faults.items text lines none in
+    (tasks.Walk, (asked, (compiled.document, says)))

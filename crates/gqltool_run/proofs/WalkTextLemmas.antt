@@ -1,6 +1,6 @@
 -- The texts of walks, as they are said line by line and go out in pieces.
-use Rattle.std.proofs.Common.{◌≡◌, ◌-◌, ◌^◌, ℕ, Bool, List, [], ◌∷◌, ◌++◌, Option, min, refl, sym, ap, subst}
-use Rattle.std.proofs.Common.{◌∙◌, append_assoc}
+use Rattle.std.proofs.Common.{◌≡◌, ◌-◌, ◌^◌, ℕ, Bool, List, [], ◌∷◌, ◌++◌, Option, min, refl, sym, subst, ◌∙◌}
+use Rattle.std.proofs.Common.{append_assoc}
 use Rattle.std.proofs.lemmas.List.{append-nil}
 use Rattle.std.specs.List.{flat_map}
 use Rattle.graphql_nodes.specs.NodeView.{NodeView}
@@ -19,11 +19,9 @@ pub lines-turn : {A : Type 0} (line : A → List ℕ) (whole text after : List �
     → GoesOut whole begin middle (text ++ flat_map line coming) → coming ≡ x ∷ rest
     → GoesOut (text ++ line x) middle new after → GoesOut whole begin new (after ++ flat_map line rest)
 lines-turn line whole text after begin middle new x coming rest was first more =
-    let left : text ++ flat_map line coming ≡ (text ++ line x) ++ flat_map line rest =
-    ap (λ l. text ++ flat_map line l) first ∙ sym (append_assoc text (line x) (flat_map line rest)) in
-    goes-further whole begin middle new ((text ++ line x) ++ flat_map line rest) (after ++ flat_map line rest)
-    (subst (GoesOut whole begin middle) left was) (goes-with (text ++ line x) middle new after
-    (flat_map line rest) more)
+    goes-further whole begin middle new _ (after ++ flat_map line rest)
+    (rw (first, sym (append_assoc text (line x) (flat_map line rest))) at was)
+    (goes-with (text ++ line x) middle new after (flat_map line rest) more)
 
 -- what is left of a line, where it is cut short
 pub lines-cut : {A : Type 0} (line : A → List ℕ) (whole text : List ℕ) (begin middle new : Option (List ℕ))
@@ -51,17 +49,14 @@ module _ (deep : Bool) (word turns_word : List ℕ) (document : ExecutableDocume
     fields_text ++ turns_text,
     (
       record { fields = all; walked = walked; turns = turns; takes = takes; says = refl },
-      subst (λ t. GoesOut t begin new left) (append_assoc held fields_text turns_text) goes,
+      rw (append_assoc held fields_text turns_text) at goes,
     ),
   )
 
   -- the fields are cut short
   pub walk-cut : (new : Option (List ℕ)) → IsBegun (held ++ fields_text) begin new
       → IsCutShort (IsWalkText deep word turns_word document set) begin new held
-  walk-cut new cut = (
-    cut.0 ++ turns_text,
-    walk-said new (cut.0 ++ turns_text) (goes-with (held ++ fields_text) begin new cut.0 turns_text cut.1),
-  )
+  walk-cut new cut = (cut.0 ++ turns_text, walk-said new _ (goes-with _ begin new cut.0 turns_text cut.1))
 
   -- the turns are said behind the last field
   pub walk-end : (middle new : Option (List ℕ)) (text left : List ℕ) (coming : List (NodeView Field))
@@ -69,11 +64,9 @@ module _ (deep : Bool) (word turns_word : List ℕ) (document : ExecutableDocume
       → GoesOut (text ++ turns_text) middle new left
       → IsSaid (IsWalkText deep word turns_word document set) begin new held left
   walk-end middle new text left coming was none more =
-      let all_said : text ++ flat_map (field_line word) coming ≡ text =
-      ap (λ l. text ++ flat_map (field_line word) l) none ∙ append-nil text in
-      let before = subst (GoesOut (held ++ fields_text) begin middle) all_said was in
-      walk-said new left (goes-further ((held ++ fields_text) ++ turns_text) begin middle new (text
-      ++ turns_text) left (goes-with (held ++ fields_text) begin middle text turns_text before) more)
+      let before = rw (none, append-nil) at was in
+      walk-said new left (goes-further _ begin middle new _ left (goes-with _ begin middle text turns_text
+      before) more)
 
   pub walk-end-cut : (middle new : Option (List ℕ)) (text : List ℕ) (coming : List (NodeView Field))
       → GoesOut (held ++ fields_text) begin middle (text ++ flat_map (field_line word) coming) → coming ≡ []
@@ -90,8 +83,7 @@ LacksSets document all left begin new held text = (rest : List ℕ) → AreSetsT
 
 pub sets-begin : (document : ExecutableDocument) (all left : List (List ℕ × SelectionSet)) (begin : Option
     (List ℕ)) (held : List ℕ) → left ≡ all → LacksSets document all left begin begin held held
-sets-begin document all left begin held is =
-    λ rest are. (rest, (subst (λ l. AreSetsText document l rest) is are, goes-nowhere begin (held ++ rest)))
+sets-begin document all left begin held is = λ rest are. (rest, (rw is at are, goes-nowhere begin _))
 
 -- one set is said below its line
 pub sets-turn : (document : ExecutableDocument) (all left : List (List ℕ × SelectionSet)) (set : List ℕ
@@ -101,25 +93,19 @@ pub sets-turn : (document : ExecutableDocument) (all left : List (List ℕ × Se
     → LacksSets document all more begin new held after
 sets-turn document all left set more begin middle new held text after lacks first says = λ rest are.
     let said = says.0 in
-    let whole = lacks (set.0 ++ (said ++ rest)) (subst (λ l. AreSetsText document l (set.0 ++ (said ++ rest)))
-    (sym first) (said, (says.1.0, (rest, (are, refl))))) in
+    let whole = lacks (set.0 ++ (said ++ rest)) (rw first (said, (says.1.0, (rest, (are, refl))))) in
     let left_is : text ++ (set.0 ++ (said ++ rest)) ≡ ((text ++ set.0) ++ said) ++ rest =
-    sym (append_assoc text set.0 (said ++ rest)) ∙ sym (append_assoc (text ++ set.0) said rest) in
+    sym (append_assoc text set.0 _) ∙ sym (append_assoc _ said rest) in
     let before = subst (GoesOut (held ++ whole.0) begin middle) left_is whole.1.1 in (
       whole.0,
-      (
-        whole.1.0,
-        goes-further (held ++ whole.0) begin middle new (((text ++ set.0) ++ said) ++ rest) (after
-            ++ rest) before (goes-with ((text ++ set.0) ++ said) middle new after rest says.1.1),
-      ),
+      (whole.1.0, goes-further _ begin middle new _ _ before (goes-with _ middle new after rest says.1.1)),
     )
 
 pub sets-end : (document : ExecutableDocument) (all left : List (List ℕ × SelectionSet)) (begin new : Option
     (List ℕ)) (held text : List ℕ) → LacksSets document all left begin new held text → left ≡ []
     → IsSaid (AreSetsText document all) begin new held text
 sets-end document all left begin new held text lacks none =
-    subst (IsSaid (AreSetsText document all) begin new held) (append-nil text)
-    (lacks [] (subst (λ l. AreSetsText document l []) (sym none) refl))
+    subst (IsSaid (AreSetsText document all) begin new held) (append-nil text) (lacks [] (rw none refl))
 
 -- where each set has a text, so have some sets
 pub sets-text : (document : ExecutableDocument)

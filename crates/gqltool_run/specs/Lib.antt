@@ -2,6 +2,7 @@ pub mod Building
 pub mod Commands
 pub mod CoordCommand
 pub mod DocCommand
+pub mod DocumentAnswers
 pub mod DocumentBuilding
 pub mod FaultLines
 pub mod LeafCommand

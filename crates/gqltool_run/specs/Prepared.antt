@@ -8,14 +8,15 @@ use Rattle.gqltool_run.specs.declared.prepared.Prepared.TheVariants as prepared
 use Rattle.gqltool_run.specs.declared.task.Task.{Task}
 use Rattle.gqltool_run.specs.declared.task.Task.TheVariants as tasks
 use Rattle.gqltool_run.specs.Commands.{IsAnswerOf, IsAnswerTo, IsPrintTo}
+use Rattle.gqltool_run.specs.DocumentAnswers.{WithFaultLines, any_fault}
 use Rattle.gqltool_run.specs.DocumentBuilding.{IsCompiledDivided}
 use Rattle.gqltool_run.specs.Tasks.{AreWalkWords}
-use Rattle.gqltool_run.specs.WalkCommand.{AreLines, any_fault}
+use Rattle.gqltool_run.specs.WalkCommand.{AreWalksText}
 
 -- the text is what `walk` says of this, with faults or without
 abbrev pub AreLinesOf : Compiled → List ℕ → Type 0
-AreLinesOf compiled text =
-    AreLines compiled.document compiled.schema_faults.items compiled.document_faults.items text
+AreLinesOf compiled = WithFaultLines (AreWalksText compiled.document) compiled.schema_faults.items
+    compiled.document_faults.items
 
 -- whether the schema or the document has a fault
 abbrev pub has_fault : Compiled → Bool

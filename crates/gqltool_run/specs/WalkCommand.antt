@@ -14,12 +14,8 @@ use Rattle.apollo_executable.specs.declared.operation.Operation.{Operation}
 use Rattle.apollo_executable.specs.declared.operation.Fragment.{Fragment}
 use Rattle.apollo_executable.specs.declared.selection.Field.{Field}
 use Rattle.apollo_executable.specs.declared.selection.SelectionSet.{SelectionSet}
-use Rattle.apollo_meaning.specs.Faults.Collisions.{Fault}
-use Rattle.apollo_schema.specs.declared.schema.Schema.{Schema}
-use Rattle.apollo_document.specs.Typable.{Fault as DocumentFault}
 use Rattle.bench_notation.specs.HeaderWords.{name_word}
-use Rattle.gqltool_run.specs.DocumentBuilding.{IsBuiltDocument}
-use Rattle.gqltool_run.specs.FaultLines.{AreFaultLines}
+use Rattle.gqltool_run.specs.DocumentAnswers.{IsDocumentAnswer}
 
 -- the line of an operation
 abbrev pub operation_line : Operation → List ℕ
@@ -83,31 +79,7 @@ AreWalksText document text =
     × (AreSetsText document (map fragment_with_line document.fragments) fragments
     × (text ≡ operations ++ fragments))))
 
--- the text is that of the walks over a document, and then of the faults of its schema and its own
-pub record AreLines (document : ExecutableDocument) (schema_faults : List Fault) (faults : List DocumentFault)
-    (text : List ℕ) : Type 0 where
-  -- the text of the walks
-  pub walks : List ℕ
-  pub walk : AreWalksText document walks
-  -- the lines of the schema's faults
-  pub schema_lines : List ℕ
-  pub schema_tells : AreFaultLines schema_faults schema_lines
-  -- the lines of the document's faults
-  pub lines : List ℕ
-  pub tells : AreFaultLines faults lines
-  pub prints : text ≡ walks ++ (schema_lines ++ lines)
-
--- whether there is a fault
-abbrev pub any_fault : List Fault → List DocumentFault → Bool
-any_fault schema_faults faults = not ((length schema_faults == 0) && (length faults == 0))
-
 -- the text is that of the walks over the typed document that the input means, and then of its schema's faults
 -- and its own
-pub record IsWalkAnswer (input text : List ℕ) (has_faults : Bool) : Type 0 where
-  pub schema : Schema
-  pub document : ExecutableDocument
-  pub schema_faults : List Fault
-  pub faults : List DocumentFault
-  pub means : IsBuiltDocument input schema document schema_faults faults
-  pub says : AreLines document schema_faults faults text
-  pub any : has_faults ≡ any_fault schema_faults faults
+abbrev pub IsWalkAnswer : List ℕ → List ℕ → Bool → Type 0
+IsWalkAnswer = IsDocumentAnswer (λ _ document. AreWalksText document) (λ _ _. 0)

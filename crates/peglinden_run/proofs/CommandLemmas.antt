@@ -1,5 +1,5 @@
 -- The schema that files mean.
-use Rattle.std.proofs.Common.{◌≡◌, ℕ, List, ap, subst, ◌∙◌}
+use Rattle.std.proofs.Common.{◌≡◌, ℕ, List}
 use Rattle.graphql_ast.specs.declared.document.Document.{Document}
 use Rattle.apollo_schema.specs.declared.schema.Schema.{Schema}
 use Rattle.apollo_schema.specs.MeantSchema.{MeansSchema}
@@ -21,9 +21,7 @@ pub schema-of : (held : List ℕ → List ℕ → Type 0) (options given : Compi
 schema-of held options given paths documents handed schema faults same these read means sources are = record {
   documents = documents;
   read = read;
-  means = subst (λ (o : CompileOptions). MeansSchema 0 o.adopt_orphan_extensions (schema_list o documents)
-      schema) same (subst (λ (ds : List Document). MeansSchema 0 given.adopt_orphan_extensions
-      (schema_list given ds) schema) these means);
-  sources = sources ∙ ap all_sources these;
-  are = are ∙ (λ i. faults_of (same i).adopt_orphan_extensions (schema_list (same i) (these i)));
+  means = rw (same, these) at means;
+  sources = rw these at sources;
+  are = rw (same, these) at are;
 }

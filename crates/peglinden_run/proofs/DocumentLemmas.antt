@@ -1,7 +1,7 @@
 -- Documents of files, one file after another.
 use Rattle.std.proofs.Common.{◌≡◌, ◌≢◌, ◌⊎◌, ℕ, ◌+◌, suc, List, [], ◌∷◌, ◌++◌, Option, Some, Result, Ok, Err}
-use Rattle.std.proofs.Common.{IfOk, MatchResult, ◌<◌, cond, count_by, is_some, get_or, take, length}
-use Rattle.std.proofs.Common.{length-take-le, le_of_lt, inl, inr, refl, sym, ap, subst, ◌∙◌, add-zero, arith}
+use Rattle.std.proofs.Common.{IfOk, MatchResult, ◌<◌, count_by, is_some, get_or, take, length, length-take-le}
+use Rattle.std.proofs.Common.{le_of_lt, inl, inr, refl, sym, ap, ◌∙◌, add-zero, arith}
 use Rattle.std.specs.Borrow.{Bor}
 use Rattle.std.specs.List.{flat_map}
 use Rattle.std.proofs.lemmas.Grind.{flat_map-append}
@@ -13,7 +13,7 @@ use Rattle.graphql_ast.specs.declared.definition.Definition.{Definition}
 use Rattle.graphql_ast.specs.declared.document.Document.{Document}
 use Rattle.graphql_grammar.specs.WordsOfText.{words_of}
 use Rattle.graphql_productions.specs.Documents.{document, spells_document}
-use Rattle.graphql_text.specs.Parses.{IsRefused, RefusedAt}
+use Rattle.graphql_text.specs.Parses.{IsRefused}
 use Rattle.graphql_text.specs.declared.parse_error.ParseError.{ParseError}
 use Rattle.graphql_text.specs.declared.parse_error.ParseErrorKind.TheVariants as kinds
 use Rattle.graphql_text.specs.declared.parsing.ParseOptions.{ParseOptions}
@@ -21,9 +21,9 @@ use Rattle.apollo_reporting.specs.TextErrors.{parse_error_about}
 use Rattle.program_io.specs.Files.{CannotBeRead, IsFileCause}
 use Rattle.program_io.specs.declared.file_error.FileError.{FileError}
 use Rattle.program_io.specs.declared.file_error.FileError.TheVariants as errors
-use Rattle.peglinden_run.specs.Documents.{AreDocumentsAt, IsDocumentAt, IsDocumentOf, IsNoDocument, most_open}
-use Rattle.peglinden_run.specs.Documents.{most_tokens, texts_of}
-use Rattle.peglinden_run.specs.RefusedFiles.{AreReported, IsErrorOf, IsRefusedFile, IsRefusedText, IsReported}
+use Rattle.peglinden_run.specs.Documents.{AreDocumentsAt, IsDocumentAt, IsDocumentOf, most_open, most_tokens}
+use Rattle.peglinden_run.specs.Documents.{texts_of}
+use Rattle.peglinden_run.specs.RefusedFiles.{AreReported, IsRefusedFile, IsRefusedText, IsReported}
 use Rattle.peglinden_run.specs.RefusedFiles.{if_reported}
 use Rattle.peglinden_run.specs.Reports.{IsReport}
 
@@ -32,7 +32,7 @@ pub documents-length : (held : List ℕ → List ℕ → Type 0) (number : ℕ) 
     (documents : List Document) → AreDocumentsAt held number paths documents → length documents ≡ length paths
 documents-length held number [] documents are = ap length are
 documents-length held number (path ∷ paths) documents are = ap length are.1.1.0
-    ∙ ap suc (documents-length held (suc number) paths are.1.0 are.1.1.1.1)
+    ∙ ap suc (documents-length held _ paths are.1.0 are.1.1.1.1)
 
 -- the options that reading a document has unless others are given
 abbrev pub usual : ParseOptions
@@ -49,54 +49,14 @@ pub document-of : (number : FileId) (path text : List ℕ) (options : ParseOptio
     → spells_document number options.max_depth document.definitions (words_of options.max_tokens source.text)
     → IsDocumentOf number.0 path text document
 document-of number path text options source document is most sources spelled =
-    let usually : spells_document number most_open document.definitions (words_of most_tokens source.text) =
-    subst (λ (o : ParseOptions). spells_document number o.max_depth document.definitions
-    (words_of o.max_tokens source.text)) most spelled in
-    record {
-      sources = sources ∙ ap (λ (s : SourceFile). (number, s) ∷ []) is;
-      spelled = subst (λ (s : SourceFile). spells_document number most_open document.definitions
-          (words_of most_tokens s.text)) is usually;
-    }
-
--- a text whose definitions would be answered has none where the answer is another error
-no-document-of : (number : FileId) (text : List ℕ) (path : List ℕ) (options : ParseOptions)
-    (source : SourceFile) (error : ParseError) → source ≡ record { path = path; text = text }
-    → options ≡ usual
-    → ((definitions : List Definition) → spells_document number options.max_depth definitions
-    (words_of options.max_tokens source.text) → error.kind ≡ kinds.Memory) → error.kind ≢ kinds.Memory
-    → IsNoDocument number.0 text
-no-document-of number text path options source error is most only other = λ definitions spelled.
-    let of_source : spells_document number most_open definitions (words_of most_tokens source.text) =
-    subst (λ (s : SourceFile). spells_document number most_open definitions (words_of most_tokens s.text))
-    (sym is) spelled in
-    let given : spells_document number options.max_depth definitions (words_of options.max_tokens
-    source.text) = subst (λ (o : ParseOptions). spells_document number o.max_depth definitions
-    (words_of o.max_tokens source.text)) (sym most) of_source in
-    other (only definitions given)
+    record { sources = rw is at sources; spelled = rw (most, is) at spelled }
 
 the_last : {A B C : Type 0} → A ⊎ (B ⊎ C) → ¬ A → ¬ B → C
 the_last (inl a) no_a no_b = absurd (no_a a)
 the_last (inr (inl b)) no_a no_b = absurd (no_b b)
 the_last (inr (inr c)) no_a no_b = c
 
--- the place where a text is refused, in a file that has a number
-error-of : (number : FileId) (text : List ℕ) (path : List ℕ) (options : ParseOptions) (source : SourceFile)
-    (error : ParseError) → source ≡ record { path = path; text = text } → options ≡ usual → number.0 ≢ 0
-    → error.kind ≢ kinds.Memory
-    → IsRefused (document number options.max_depth) (spells_document number options.max_depth)
-    (document number (suc options.max_depth)).spells number (length source.text) (words_of options.max_tokens
-    source.text) error → IsErrorOf number.0 text error
-error-of number text path options source error is most some other refused =
-    let there = the_last refused other (λ (none : (number.0 ≡ 0) × (error.kind ≡ kinds.BuiltInFile)). some
-    none.0) in
-    let usually = subst (λ (o : ParseOptions). RefusedAt (document number o.max_depth)
-    (spells_document number o.max_depth) (document number (suc o.max_depth)).spells number
-    (length source.text) (words_of o.max_tokens source.text) error) most there in
-    subst (λ (s : SourceFile). RefusedAt (document number most_open) (spells_document number most_open)
-    (document number (suc most_open)).spells number (length s.text) (words_of most_tokens s.text) error)
-    is usually
-
--- the report of why a text is refused
+-- the report of why a text is refused, which has no document, and where it is, in a file that has a number
 pub refused-text : (number : FileId) (path text : List ℕ) (options : ParseOptions) (source : SourceFile)
     (error : ParseError) (report : List ℕ) → source ≡ record { path = path; text = text } → options ≡ usual
     → number.0 ≢ 0
@@ -107,17 +67,12 @@ pub refused-text : (number : FileId) (path text : List ℕ) (options : ParseOpti
     source.text) error → error.kind ≢ kinds.Memory
     → IsReport ((number, source) ∷ []) (Some error.location) (parse_error_about error) report
     → IsRefusedText number.0 path text report
-refused-text number path text options source error report is most some only refused other reports = (
-  no-document-of number text path options source error is most only other,
-  (
-    error,
-    (
-      error-of number text path options source error is most some other refused,
-      subst (λ (s : SourceFile). IsReport ((number, s) ∷ []) (Some error.location) (parse_error_about error)
-          report) is reports,
-    ),
-  ),
-)
+refused-text number path text options source error report is most some only refused other reports =
+    let there = the_last refused other (λ (none : (number.0 ≡ 0) × (error.kind ≡ kinds.BuiltInFile)). some
+    none.0) in (
+      λ definitions spelled. other ((rw (most, is) at only) definitions spelled),
+      (error, (rw (most, is) at there, rw is at reports)),
+    )
 
 -- what is read of a text that a file may hold
 pub read-text : {B E : Type 0} (bytes_of : B → List ℕ) (held : List ℕ → List ℕ → Type 0) (may_fail : List ℕ
@@ -145,19 +100,12 @@ pub documents-more : (held : List ℕ → List ℕ → Type 0) (number : ℕ) (p
     (documents : List Document) (path : List ℕ) (document : Document)
     → AreDocumentsAt held number paths documents → IsDocumentAt held (number + length paths) path document
     → AreDocumentsAt held number (paths ++ path ∷ []) (documents ++ document ∷ [])
-documents-more held number [] documents path document are is = (
-  document,
-  (
-    [],
-    (
-      ap (λ l. l ++ document ∷ []) are,
-      (subst (λ n. IsDocumentAt held n path document) (add-zero number) is, refl),
-    ),
-  ),
-)
+documents-more held number [] documents path document are is =
+    let one = rw (add-zero number) at is in
+    (document, ([], (ap (λ l. l ++ document ∷ []) are, (one, refl))))
 documents-more held number (first ∷ paths) documents path document are is =
-    let rest = documents-more held (suc number) paths are.1.0 path document are.1.1.1.1
-    (subst (λ n. IsDocumentAt held n path document) (next number (length paths)) is) in
+    let rest = documents-more held _ paths are.1.0 path document are.1.1.1.1
+    (rw (next number (length paths)) at is) in
     (are.0, (are.1.0 ++ document ∷ [], (ap (λ l. l ++ document ∷ []) are.1.1.0, (are.1.1.1.0, rest))))
 
 -- and what is reported of it
@@ -166,26 +114,18 @@ pub reported-more : (held : List ℕ → List ℕ → Type 0) (may_fail : List �
     → AreReported held may_fail number paths reports
     → IsReported held may_fail (number + length paths) path report
     → AreReported held may_fail number (paths ++ path ∷ []) (reports ++ report ∷ [])
-reported-more held may_fail number [] reports path report are is = (
-  report,
-  (
-    [],
-    (
-      ap (λ l. l ++ report ∷ []) are,
-      (subst (λ n. IsReported held may_fail n path report) (add-zero number) is, refl),
-    ),
-  ),
-)
+reported-more held may_fail number [] reports path report are is =
+    let one = rw (add-zero number) at is in
+    (report, ([], (ap (λ l. l ++ report ∷ []) are, (one, refl))))
 reported-more held may_fail number (first ∷ paths) reports path report are is =
-    let rest = reported-more held may_fail (suc number) paths are.1.0 path report are.1.1.1.1
-    (subst (λ n. IsReported held may_fail n path report) (next number (length paths)) is) in
+    let rest = reported-more held may_fail _ paths are.1.0 path report are.1.1.1.1
+    (rw (next number (length paths)) at is) in
     (are.0, (are.1.0 ++ report ∷ [], (ap (λ l. l ++ report ∷ []) are.1.1.0, (are.1.1.1.0, rest))))
 
 -- one path more
 texts-more : (paths : List (Bor (List ℕ))) (i : ℕ) (d : Bor (List ℕ)) → i < length paths
     → texts_of (take (i + 1) paths) ≡ texts_of (take i paths) ++ (get_or paths i d).now ∷ []
-texts-more paths i d below = ap texts_of (take_more paths i d below)
-    ∙ map-append (λ (path : Bor (List ℕ)). path.now) (take i paths) (get_or paths i d ∷ [])
+texts-more paths i d below = ap texts_of (take_more paths i d below) ∙ map-append _ _ _
 
 numbered : (paths : List (Bor (List ℕ))) (i : ℕ) → i < length paths
     → i + 1 ≡ 1 + length (texts_of (take i paths))
@@ -198,17 +138,16 @@ numbered paths i below = omega (
 -- how many are reported
 counted-more : (reports : List (Option (List ℕ))) (report : Option (List ℕ))
     → count_by is_some (reports ++ report ∷ []) ≡ count_by is_some reports + count_by is_some (report ∷ [])
-counted-more reports report = sum_by-append (λ (r : Option (List ℕ)). cond (is_some r) 1 0) reports (report
-    ∷ [])
+counted-more reports report = sum_by-append _ reports _
 
 -- what is a fact of each value is one of the value that it is, and so of each error
 pub matched-ok : {A B : Type 0} (r : Result A B) (x : A) (P : A → Type 0) (Q : B → Type 0) → r ≡ Ok x
     → MatchResult r P Q → P x
-matched-ok r x P Q is fact = subst (λ (o : Result _ _). MatchResult o P Q) is fact
+matched-ok r x P Q is fact = rw is at fact
 
 pub matched-err : {A B : Type 0} (r : Result A B) (y : B) (P : A → Type 0) (Q : B → Type 0) → r ≡ Err y
     → MatchResult r P Q → Q y
-matched-err r y P Q is fact = subst (λ (o : Result _ _). MatchResult o P Q) is fact
+matched-err r y P Q is fact = rw is at fact
 
 -- what is reported of so many of the files: this text, of so many that are refused
 pub record Reported (held : List ℕ → List ℕ → Type 0) (may_fail : List ℕ
@@ -229,10 +168,8 @@ module _ (held : List ℕ → List ℕ → Type 0) (may_fail : List ℕ → Type
       → AreDocumentsAt held 1 (texts_of (take i paths)) documents
       → AreDocumentsAt held 1 (texts_of (take (i + 1) paths)) (documents ++ document ∷ [])
   next-document documents document is are =
-      let placed = subst (λ n. IsDocumentAt held n (get_or paths i d).now document) (numbered paths i below)
-      (is some_number) in
-      subst (λ texts. AreDocumentsAt held 1 texts (documents ++ document ∷ []))
-      (sym (texts-more paths i d below)) (documents-more held 1 (texts_of (take i paths)) documents
+      let placed = rw (numbered paths i below) at (is some_number) in
+      rw (texts-more paths i d below) (documents-more held 1 (texts_of (take i paths)) documents
       (get_or paths i d).now document are placed)
 
   -- what is reported of the next file
@@ -241,16 +178,13 @@ module _ (held : List ℕ → List ℕ → Type 0) (may_fail : List ℕ → Type
       → Reported held may_fail paths i text count → after ≡ text ++ if_reported report
       → more ≡ count + count_by is_some (report ∷ []) → Reported held may_fail paths (i + 1) after more
   next-reported report text after count more is was adds counts =
-      let placed = subst (λ n. IsReported held may_fail n (get_or paths i d).now report)
-      (numbered paths i below) (is some_number) in
+      let placed = rw (numbered paths i below) at (is some_number) in
       record {
         reports = was.reports ++ report ∷ [];
-        are = subst (λ texts. AreReported held may_fail 1 texts (was.reports ++ report ∷ []))
-            (sym (texts-more paths i d below)) (reported-more held may_fail 1 (texts_of (take i paths))
+        are = rw (texts-more paths i d below) (reported-more held may_fail 1 (texts_of (take i paths))
             was.reports (get_or paths i d).now report was.are placed);
         says = adds ∙ ap (λ l. l ++ if_reported report) was.says ∙ ap (λ l. flat_map if_reported was.reports
-            ++ l) (sym (append-nil (if_reported report)))
-            ∙ sym (flat_map-append if_reported was.reports (report ∷ []));
+            ++ l) (sym (append-nil _)) ∙ sym (flat_map-append if_reported was.reports _);
         counts = counts ∙ ap (λ n. n + count_by is_some (report ∷ [])) was.counts
             ∙ sym (counted-more was.reports report);
       }

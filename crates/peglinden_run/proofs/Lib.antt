@@ -1,6 +1,6 @@
 pub mod CommandLemmas
 pub mod DocumentLemmas
-pub mod NoFaults
+pub mod SaidOfAll
 pub mod ReportLemmas
 pub mod RunLemmas
 pub mod TypedLemmas

@@ -28,7 +28,7 @@ said_then None P Q more is = (is.0, more is.0 is.1)
 -- behind a text a line end, in two steps
 behind : (old text middle new : List ℕ) → middle ≡ old ++ text → new ≡ middle ++ codes "\n"
     → new ≡ old ++ (text ++ codes "\n")
-behind old text middle new one two = two ∙ ap (λ l. l ++ codes "\n") one ∙ append_assoc old text (codes "\n")
+behind old text middle new one two = two ∙ ap (λ l. l ++ codes "\n") one ∙ append_assoc old text _
 
 -- a report that is added with a line end
 pub report_added : (sentence : Option (List ℕ)) (files : Files) (location : Option SourceSpan)
@@ -36,7 +36,7 @@ pub report_added : (sentence : Option (List ℕ)) (files : Files) (location : Op
     → OfSaid sentence (λ s. report ≡ report_text files location about (visible s)) → middle ≡ old ++ report
     → new ≡ middle ++ codes "\n" → Adds (IsReport files location about) old new
 report_added sentence files location about report old middle new is one two =
-    let says = some_said sentence (λ s. report ≡ report_text files location about (visible s)) is in
+    let says = some_said sentence _ is in
     (report ++ codes "\n", (behind old report middle new one two, (says.0, ap (λ l. l ++ codes "\n") says.1)))
 
 -- and a line of JSON
@@ -46,28 +46,18 @@ pub json_added : (sentence : Option (List ℕ)) (of_details : Option (List Detai
     ≡ compact_text (fault_data files location about s details))) → middle ≡ old ++ json
     → new ≡ middle ++ codes "\n" → Adds (IsJsonLine files location about of_details) old new
 json_added sentence of_details files location about json old middle new is one two =
-    let says = some_said sentence (λ s. OfSaid of_details (λ details. json
-    ≡ compact_text (fault_data files location about s details))) is in
-    let line = said_then of_details (λ details. json
-    ≡ compact_text (fault_data files location about says.0 details)) (λ details. json ++ codes "\n"
-    ≡ compact_text (fault_data files location about says.0 details)
-    ++ codes "\n") (λ details same. ap (λ l. l ++ codes "\n") same) says.1 in
+    let says = some_said sentence _ is in
+    let line = said_then of_details _ _ (λ details same. ap (λ l. l ++ codes "\n") same) says.1 in
     (json ++ codes "\n", (behind old json middle new one two, (says.0, line)))
 
 says-more : {A : Type 0} (Says : A → List ℕ → Type 0) (xs : List A) (x : A) (text said : List ℕ)
     → SaysEach Says xs text → Says x said → SaysEach Says (xs ++ x ∷ []) (text ++ said)
 says-more Says [] x text said are is =
     (said, ([], (ap (λ l. l ++ said) are ∙ sym (append-nil said), (is, refl))))
-says-more Says (first ∷ xs) x text said are is = (
-  are.0,
-  (
-    are.1.0 ++ said,
-    (
-      ap (λ l. l ++ said) are.1.1.0 ∙ append_assoc are.0 are.1.0 said,
-      (are.1.1.1.0, says-more Says xs x are.1.0 said are.1.1.1.1 is),
-    ),
-  ),
-)
+says-more Says (first ∷ xs) x text said are is =
+    let rest = says-more Says xs x are.1.0 said are.1.1.1.1 is in
+    let all = ap (λ l. l ++ said) are.1.1.0 ∙ append_assoc are.0 are.1.0 said in
+    (are.0, (are.1.0 ++ said, (all, (are.1.1.1.0, rest))))
 
 -- behind the texts of some things that of the next one is added
 pub says-next : {A : Type 0} (Says : A → List ℕ → Type 0) (xs : List A) (i : ℕ) (x : A)
@@ -78,8 +68,8 @@ says-next Says xs i x before held after below is was now = (
   was.0 ++ now.0,
   (
     now.1.0 ∙ ap (λ l. l ++ now.0) was.1.0 ∙ append_assoc before was.0 now.0,
-    subst (λ ys. SaysEach Says ys (was.0 ++ now.0)) (sym (take_more xs i x below)) (says-more Says (take i xs)
-        (get_or xs i x) was.0 now.0 was.1.1 (subst (λ y. Says y now.0) is now.1.1)),
+    rw (take_more xs i x below) (says-more Says _ _ was.0 now.0 was.1.1 (subst (λ y. Says y now.0) is
+        now.1.1)),
   ),
 )
 
@@ -94,10 +84,3 @@ pub three-added : (a b c none one two three : List ℕ) → none ≡ [] → one 
     → three ≡ two ++ c → three ≡ a ++ (b ++ c)
 three-added a b c none one two three is_none is_one is_two is_three = is_three
     ∙ ap (λ l. l ++ c) (is_two ∙ ap (λ l. l ++ b) (is_one ∙ ap (λ l. l ++ a) is_none)) ∙ append_assoc a b c
-
--- and four
-pub four-added : (a b c d none one two three four : List ℕ) → none ≡ [] → one ≡ none ++ a → two ≡ one ++ b
-    → three ≡ two ++ c → four ≡ three ++ d → four ≡ a ++ (b ++ (c ++ d))
-four-added a b c d none one two three four is_none is_one is_two is_three is_four =
-    is_four ∙ ap (λ l. l ++ d) (three-added a b c none one two three is_none is_one is_two is_three)
-    ∙ append_assoc a (b ++ c) d ∙ ap (λ l. a ++ l) (append_assoc b c d)

@@ -1,6 +1,6 @@
 -- How a run ends with an answer and without one, and over standard input.
 use Rattle.std.proofs.Common.{◌≡◌, ℕ, true, List, Option, None, Result, Ok, Err, IfOk, IfErr, MatchResult}
-use Rattle.std.proofs.Common.{inl, inr, refl, subst}
+use Rattle.std.proofs.Common.{inl, inr, refl}
 use Rattle.clap.specs.Walk.{Text}
 use Rattle.program_io.specs.Files.{IsReadCause, IsRefusal, may_fail_with_input, with_input}
 use Rattle.program_io.specs.Writing.{IsBegun}
@@ -75,8 +75,7 @@ is_not_done failures.ExtensionIds done = cc
 -- reading bytes doesn't refuse them as no text
 pub no_text_refusal : {B : Type 0} (input_may_fail : Type 0) (input : Result B FileError)
     → IfErr input (IsReadCause input_may_fail) → ◌≡◌ {A = Result B FileError} input (Err errors.NotText) → ⊥
-no_text_refusal input_may_fail input causes is =
-    subst (λ (r : Result _ FileError). IfErr r (IsReadCause input_may_fail)) is causes
+no_text_refusal input_may_fail input causes is = rw is at causes
 
 -- where words call for help, a run ends as writing a text went
 pub help_written : (words : List Text) (old new : Option (List ℕ)) (text : List ℕ) (status : Status)

@@ -1,6 +1,5 @@
 -- Documents of files, typed over the schema of files.
-use Rattle.std.proofs.Common.{◌≡◌, ℕ, ◌≤◌, true, List, ◌++◌, Some, length, length-append, ap, subst, ◌∙◌}
-use Rattle.std.proofs.Common.{arith}
+use Rattle.std.proofs.Common.{◌≡◌, ℕ, ◌≤◌, true, List, ◌++◌, Some, length, length-append, ap, ◌∙◌, arith}
 use Rattle.std.proofs.lemmas.List.{length-map, map-append}
 use Rattle.std.specs.Borrow.{Bor}
 use Rattle.graphql_nodes.specs.Sources.{merged}
@@ -20,14 +19,13 @@ use Rattle.peglinden_run.proofs.DocumentLemmas.{documents-length}
 
 -- there are as many texts as words
 pub texts-length : (words : List (Bor (List ℕ))) → length (texts_of words) ≡ length words
-texts-length words = length-map words (λ (word : Bor (List ℕ)). word.now)
+texts-length words = length-map words _
 
 -- what was read of both lists of files
 pub both-read : (held : List ℕ → List ℕ → Type 0) (first second whole : List (Bor (List ℕ)))
     (documents : List Document) → whole ≡ first ++ second → AreDocumentsAt held 1 (texts_of whole) documents
     → AreBothAt held (texts_of first) (texts_of second) documents
-both-read held first second whole documents is are = subst (λ (ps : List (List ℕ)). AreDocumentsAt held 1 ps
-    documents) (ap texts_of is ∙ map-append (λ (word : Bor (List ℕ)). word.now) first second) are
+both-read held first second whole documents is are = rw (ap texts_of is ∙ map-append _ first second) at are
 
 -- the files of the schema are among them
 pub first-fits : (held : List ℕ → List ℕ → Type 0) (first second : List (Bor (List ℕ)))
@@ -57,15 +55,10 @@ typed-of held schema_paths document_paths documents first second given schema ty
       schema = schema;
       documents = documents;
       read = read;
-      means = subst (λ (o : CompileOptions). MeansSchema 0 o.adopt_orphan_extensions
-          (schema_list o (schema_part schema_paths documents)) schema) same
-          (subst (λ (ds : List Document). MeansSchema 0 given.adopt_orphan_extensions (schema_list given ds)
-          schema) front means);
-      is = subst (λ (ds : List Document). IsDocumentOf (Some schema) (executable_list true ds) typed.document)
-          back is;
-      schema_are = schema_are
-          ∙ (λ i. faults_of (same i).adopt_orphan_extensions (schema_list (same i) (front i)));
-      are = are ∙ (λ i. document_faults (Some schema) (executable_list true (back i)));
+      means = rw (same, front) at means;
+      is = rw back at is;
+      schema_are = rw (same, front) at schema_are;
+      are = rw back at are;
       leaves_are = leaves_are;
-      sources = sources ∙ (λ i. merged (all_sources (front i)) (all_sources (back i)));
+      sources = rw (front, back) at sources;
     }

@@ -69,31 +69,31 @@ abbrev pub IsLeafLine : Files → LeafFault → List ℕ → Type 0
 IsLeafLine sources fault text =
     IsJsonLine sources fault.location (leaf_fault_about fault) (Some (leaf_fault_details fault)) text
 
--- the reports of all that is at fault, in order, and how much that is
-pub record AreReports (found : Found) (text : List ℕ) : Type 0 where
-  -- the reports of the schema's faults
+-- the text is one after the other, in order, of the faults of the schema, of the document and of leaves. Each
+-- is what is said of its fault
+pub record SaysAll (of_fault : Fault → List ℕ → Type 0) (of_document_fault : DocumentFault → List ℕ → Type 0)
+    (of_leaf : LeafFault → List ℕ → Type 0) (found : Found) (text : List ℕ) : Type 0 where
+  -- what is said of the schema's faults
   pub of_schema : List ℕ
-  pub schema : SaysEach (IsSchemaReport found.sources) found.schema of_schema
-  -- the reports of the document's faults
+  pub schema : SaysEach of_fault found.schema of_schema
+  -- what is said of the document's faults
   pub of_document : List ℕ
-  pub document : SaysEach (IsDocumentReport found.sources) found.document of_document
-  -- the reports of the leaf faults
+  pub document : SaysEach of_document_fault found.document of_document
+  -- what is said of the leaf faults
   pub of_leaves : List ℕ
-  pub leaves : SaysEach (IsLeafReport found.sources) found.leaves of_leaves
-  pub are : text ≡ of_schema ++ (of_document ++ (of_leaves ++ count_line (fault_count found)))
+  pub leaves : SaysEach of_leaf found.leaves of_leaves
+  pub are : text ≡ of_schema ++ (of_document ++ of_leaves)
+
+-- the reports of all that is at fault, in order, and how much that is
+abbrev pub AreReports : Found → List ℕ → Type 0
+AreReports found text = (reports : List ℕ)
+    × (SaysAll (IsSchemaReport found.sources) (IsDocumentReport found.sources)
+    (IsLeafReport found.sources) found reports × (text ≡ reports ++ count_line (fault_count found)))
 
 -- a line of JSON for each thing that is at fault, in order
-pub record AreJsonLines (found : Found) (text : List ℕ) : Type 0 where
-  -- the lines of the schema's faults
-  pub of_schema : List ℕ
-  pub schema : SaysEach (IsSchemaLine found.sources) found.schema of_schema
-  -- the lines of the document's faults
-  pub of_document : List ℕ
-  pub document : SaysEach (IsDocumentLine found.sources) found.document of_document
-  -- the lines of the leaf faults
-  pub of_leaves : List ℕ
-  pub leaves : SaysEach (IsLeafLine found.sources) found.leaves of_leaves
-  pub are : text ≡ of_schema ++ (of_document ++ of_leaves)
+abbrev pub AreJsonLines : Found → List ℕ → Type 0
+AreJsonLines found =
+    SaysAll (IsSchemaLine found.sources) (IsDocumentLine found.sources) (IsLeafLine found.sources) found
 
 -- what is written: the output of a command, and on standard error the reports; or with the flag the lines of
 -- JSON alone

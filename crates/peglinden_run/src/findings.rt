@@ -58,7 +58,7 @@ impl Findings {
 
     /// The reports of all faults, and how many there are; nothing where there is none. The error is out of
     /// memory.
-    #[tactic(auto, using(crate::proofs::NoFaults::nothing_reported))]
+    #[tactic(auto, using(crate::proofs::SaidOfAll::nothing_reported))]
     fn reports(&self, alloc: Global) -> Result<String, AllocError>
         ensures { IfOk result (λ reports. AreReports (found_in self.now) (string_bytes reports)) }
     {
@@ -88,7 +88,7 @@ impl Findings {
     }
 
     /// The JSON of all faults, one a line. The error is out of memory.
-    #[tactic(auto, using(crate::proofs::NoFaults::nothing_written))]
+    #[tactic(auto, using(crate::proofs::SaidOfAll::nothing_written))]
     fn json_lines(&self, alloc: Global) -> Result<String, AllocError>
         ensures { IfOk result (λ lines. AreJsonLines (found_in self.now) (string_bytes lines)) }
     {

@@ -1,4 +1,4 @@
-use Rattle.std.proofs.Common.{All, inl, inr, string_bytes, sym, subst}
+use Rattle.std.proofs.Common.{All, inl, inr, sym, subst}
 use Rattle.std.proofs.lemmas.Result.{IfErr-weaker, IfOk-weaker, err_from_is_err_and}
 use Rattle.bench_notation.specs.Line.{IsLine, lines_of, texts_of}
 use Rattle.gqltool_run.specs.Commands.{IsCauseOf}
@@ -20,14 +20,9 @@ returns-in_err-input-clause-causes g c =
     c.from_residual-in_err-input.ensures.1 in
     let task = c.in_ok-task.task in
     let held = g.R.Input.holds c.args.reader.now in
-    rw (exit.1, exit.2) (inr (
-      task,
-      (
-        c.in_ok-task.ensures.asked,
-        input_cause task held (g.R.Input.may_fail c.args.reader.now)
-            c.in_err-input.field-0.0 c.in_err-input.ensures.causes,
-      ),
-    ))
+    let cause = input_cause task held (g.R.Input.may_fail c.args.reader.now) c.in_err-input.field-0.0
+    c.in_err-input.ensures.causes in
+    rw (exit.1, exit.2) (inr (task, (c.in_ok-task.ensures.asked, cause)))
 
 pub returns-clause-ready : goal.returns-clause-ready
 returns-clause-ready g c =
@@ -39,8 +34,7 @@ returns-clause-ready g c =
     let lines = All IsLine (lines_of text) in
     IfOk-weaker c.prepare_task.result (λ ready. lines × IsReadyOf task text ready) (IsReadyTo words held)
     (λ ready given. ready_to words held task text ready c.in_ok-task.ensures.asked is given.0 given.1)
-    (both_ok lines (IsReadyOf task text) c.prepare_task.result c.prepare_task.ensures.read
-    c.prepare_task.ensures.ready)
+    (both_ok lines _ c.prepare_task.result c.prepare_task.ensures.read c.prepare_task.ensures.ready)
 
 pub returns-clause-causes : goal.returns-clause-causes
 returns-clause-causes g c =
@@ -57,9 +51,9 @@ returns-clause-causes g c =
 
 -- where something is asked, no text is refused
 pub returns-in_err-input-clause-no_coordinate : goal.returns-in_err-input-clause-no_coordinate
-returns-in_err-input-clause-no_coordinate g c = λ refused. absurd (asked_apart c.coordinates.ensures.said
-    (texts_of c.args.words.now) c.in_ok-task.task c.in_ok-task.ensures.asked refused)
+returns-in_err-input-clause-no_coordinate g c = λ refused. absurd (asked_apart c.coordinates.ensures.said _
+    c.in_ok-task.task c.in_ok-task.ensures.asked refused)
 
 pub returns-clause-no_coordinate : goal.returns-clause-no_coordinate
-returns-clause-no_coordinate g c = λ refused. absurd (asked_apart c.coordinates.ensures.said
-    (texts_of c.args.words.now) c.in_ok-task.task c.in_ok-task.ensures.asked refused)
+returns-clause-no_coordinate g c = λ refused. absurd (asked_apart c.coordinates.ensures.said _
+    c.in_ok-task.task c.in_ok-task.ensures.asked refused)

@@ -1,8 +1,4 @@
-use Rattle.std.proofs.Common.{List, subst}
 use Rattle.std.proofs.lemmas.Result.{err_from_is_err_and}
-use Rattle.graphql_ast.specs.declared.document.Document.{Document}
-use Rattle.apollo_meaning.specs.Order.SpentIds.{SpendsIds}
-use Rattle.apollo_compiler.specs.Lists.{schema_list}
 use Rattle.gqltool_run.proofs.CauseLemmas.{compiling-cause}
 use Rattle.gqltool_run.proofs.building.build_input.Goals as goal
 
@@ -14,5 +10,4 @@ returns-in_err-built-clause-causes c =
     let said = c.in_ok-documents.ensures in
     rw (exit.1, exit.2) (compiling-cause options c.args.input.now c.in_ok-documents.documents.items
     c.in_err-built.field-0.0 said.said
-    (λ spent. subst (λ (ds : List Document). SpendsIds 0 options.adopt_orphan_extensions
-    (schema_list options ds)) c.as_slice.ensures.value (c.in_err-built.ensures.spent cc)))
+    (λ spent. rw c.as_slice.ensures.value at (c.in_err-built.ensures.spent cc)))

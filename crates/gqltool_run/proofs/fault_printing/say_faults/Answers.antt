@@ -19,9 +19,9 @@ loop-fault-preserved g c =
 pub returns-in_err-push_fault-clause-begun : goal.returns-in_err-push_fault-clause-begun
 returns-in_err-push_fault-clause-begun g c =
     let exit = err_from_is_err_and c.from_residual.result c.from_residual.ensures.1 in
-    rw (exit.1) (said-cut (g.O.Outlet.sent c.args.outlet.now) (g.O.Outlet.sent c.loop-fault.outlet)
-    (string_bytes c.args.text.now) (string_bytes c.loop-fault.text) c.loop-fault.invariant
-    (λ lines are. AreFaultLines-whole c.args.faults.now c.loop-fault.fault-index lines are))
+    rw (exit.1) (said-cut _ (g.O.Outlet.sent c.loop-fault.outlet) _ (string_bytes c.loop-fault.text)
+    c.loop-fault.invariant (λ lines are. AreFaultLines-whole c.args.faults.now c.loop-fault.fault-index
+    lines are))
 
 pub returns-in_err-let_out-clause-begun : goal.returns-in_err-let_out-clause-begun
 returns-in_err-let_out-clause-begun g c =
@@ -30,10 +30,8 @@ returns-in_err-let_out-clause-begun g c =
     let f = c.fault-item.result in
     let said = c.in_ok-push_fault.ensures.0 in
     let cut = c.in_err-let_out.ensures.begun in
-    rw (exit.1) (said-cut (g.O.Outlet.sent c.args.outlet.now) (g.O.Outlet.sent c.let_out.new.self)
-    (string_bytes c.args.text.now) cut.0 (said-more (g.O.Outlet.sent c.args.outlet.now)
-    (g.O.Outlet.sent c.loop-fault.outlet) (g.O.Outlet.sent c.let_out.new.self)
-    (string_bytes c.args.text.now) (string_bytes c.loop-fault.text) (string_bytes c.push_fault.new.text)
-    cut.0 (fault_line f.0 said) c.loop-fault.invariant (λ lines are. AreFaultLines-turn c.args.faults.now
-    c.loop-fault.fault-index f lines said (omega arith) c.fault-item.is are) c.in_ok-push_fault.ensures.1
-    cut.1) (λ lines are. AreFaultLines-whole c.args.faults.now (c.loop-fault.fault-index + 1) lines are))
+    rw (exit.1) (said-cut _ _ _ cut.0 (said-more _ (g.O.Outlet.sent c.loop-fault.outlet) _ _
+    (string_bytes c.loop-fault.text) _ cut.0 _ c.loop-fault.invariant (λ lines are. AreFaultLines-turn
+    c.args.faults.now c.loop-fault.fault-index f lines said (omega arith) c.fault-item.is are)
+    c.in_ok-push_fault.ensures.1 cut.1) (λ lines are. AreFaultLines-whole c.args.faults.now
+    (c.loop-fault.fault-index + 1) lines are))

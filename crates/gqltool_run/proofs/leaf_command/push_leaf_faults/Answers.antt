@@ -12,7 +12,7 @@ loop-fault-preserved c =
     let i = c.loop-fault.fault-index in
     let fault = c.fault-item.result in
     c.in_ok-push_leaf_fault.ensures ∙ ap (λ text. text ++ leaf_line fault) c.loop-fault.invariant
-    ∙ flat_map_more leaf_line old (take i faults) fault
+    ∙ flat_map_more leaf_line old _ fault
     ∙ ap (λ (f : LeafFault). old ++ flat_map leaf_line (take i faults ++ f ∷ [])) c.fault-item.is
     ∙ ap (λ (l : List LeafFault). old ++ flat_map leaf_line l)
     (sym (take_more faults i fault (omega arith)))

@@ -1,9 +1,8 @@
-use Rattle.std.proofs.Common.{◌≡◌, ℕ, ◌==◌, true, not, List, ◌++◌, length, vec_len, sym, ap, subst, ◌∙◌}
+use Rattle.std.proofs.Common.{◌≡◌, ℕ, ◌==◌, true, not, List, ◌++◌, length, vec_len, sym, ap, ◌∙◌}
 use Rattle.std.proofs.lemmas.List.{append-nil}
 use Rattle.std.proofs.lemmas.Result.{err_from_is_err_and}
 use Rattle.apollo_meaning.specs.Faults.Collisions.{Fault}
 use Rattle.apollo_schema.specs.SchemaWriteOut.{write_schema}
-use Rattle.gqltool_run.specs.FaultLines.{AreFaultLines}
 use Rattle.gqltool_run.proofs.BuiltLemmas.{built}
 use Rattle.gqltool_run.proofs.FaultLineLemmas.{no-lines, not-false}
 use Rattle.bench_notation.specs.Text.{printed_definitions}
@@ -23,7 +22,7 @@ returns-clause-means c =
       lines = lines;
       prints = c.in_ok-push_faults.ensures.1.0 ∙ ap (λ l. l ++ lines) (c.in_ok-text.ensures
           ∙ ap printed_definitions (c.as_slice.ensures.value ∙ c.in_ok-compiled.ensures.compiled.1.1.ast));
-      tells = subst (λ (l : List Fault). AreFaultLines l lines) faults c.in_ok-push_faults.ensures.1.1;
+      tells = rw faults at c.in_ok-push_faults.ensures.1.1;
       any = ap not (c.is_empty.ensures ∙ ap (λ (n : ℕ). n == 0) len ∙ ap (λ (l : List Fault). length l == 0)
           faults);
     }
@@ -40,8 +39,7 @@ returns-clause-printed c = λ none.
       c.in_ok-push_faults.ensures.1.0
           ∙ (λ i. (c.in_ok-text.ensures ∙ ap printed_definitions (c.as_slice.ensures.value
           ∙ c.in_ok-compiled.ensures.compiled.1.1.ast)) i
-          ++ no-lines c.as_slice-2.result.now lines empty c.in_ok-push_faults.ensures.1.1 i)
-          ∙ append-nil (printed_definitions (write_schema compiled.schema)),
+          ++ no-lines c.as_slice-2.result.now lines empty c.in_ok-push_faults.ensures.1.1 i) ∙ append-nil _,
     )
 
 pub returns-in_err-text-clause-causes : goal.returns-in_err-text-clause-causes

@@ -1,17 +1,14 @@
-use Rattle.std.proofs.Common.{◌++◌, List, ℕ, codes, map, string_bytes, ap, subst, ◌∙◌}
+use Rattle.std.proofs.Common.{map, string_bytes, ap, ◌∙◌}
 use Rattle.std.proofs.lemmas.Map.Iter.{rest_all, rest_more}
 use Rattle.std.proofs.lemmas.Result.{err_from_is_err_and}
 use Rattle.std.specs.Map.Iter.{deref_pair}
-use Rattle.apollo_executable.specs.declared.operation.Fragment.{Fragment}
-use Rattle.gqltool_run.specs.Pieces.{IsCutShort, IsSaid}
-use Rattle.gqltool_run.specs.WalkCommand.{IsSetText, fragment_with_line}
+use Rattle.gqltool_run.specs.WalkCommand.{fragment_with_line}
 use Rattle.gqltool_run.proofs.WalkTextLemmas.{set-cut, sets-begin, sets-cut, sets-end, sets-turn}
 use Rattle.gqltool_run.proofs.walk_command.push_fragments.Goals as goal
 
 pub loop-name-init : goal.loop-name-init
-loop-name-init g c = sets-begin c.args.document.now (map fragment_with_line c.args.document.now.fragments)
-    (map fragment_with_line c.into_iter-name-iterator.result) (g.O.Outlet.sent c.args.outlet.now)
-    (string_bytes c.args.text.now) (ap (map fragment_with_line)
+loop-name-init g c = sets-begin c.args.document.now _
+    (map fragment_with_line c.into_iter-name-iterator.result) _ _ (ap (map fragment_with_line)
     (c.into_iter-name-iterator.ensures.into_iter_gives ∙ c.iter-name-items.ensures.rest))
 
 pub loop-name-preserved : goal.loop-name-preserved
@@ -24,26 +21,19 @@ loop-name-preserved g c =
     let fragment = c.in-Some.fragment in
     let text = string_bytes c.loop-name.text in
     let after = string_bytes c.push_set.new.text in
-    let line = c.in_ok-push_line.ensures ∙ ap (λ key. text ++ (codes "walk fragment " ++ (key ++ codes "\n")))
-    c.as_str.ensures in
     sets-turn document (map fragment_with_line document.fragments) (map fragment_with_line left)
     (fragment_with_line (name.now, fragment.now)) (map fragment_with_line more) (sent c.args.outlet.now)
     (sent c.loop-name.outlet) (sent c.push_set.new.outlet) (string_bytes c.args.text.now) text after
     c.loop-name.invariant (ap (map fragment_with_line) (rest_more deref_pair left more c.next.result
     (name, fragment) c.in-Some.is c.next.ensures.steps))
-    (subst (λ (t : List ℕ). IsSaid (IsSetText document fragment.now.value.selection_set)
-    (sent c.loop-name.outlet) (sent c.push_set.new.outlet) t after) line
-    (subst (λ (f : Fragment). IsSaid (IsSetText document f.selection_set) (sent c.loop-name.outlet)
-    (sent c.push_set.new.outlet) (string_bytes c.push_line.new.text) after) c.deref.ensures
-    c.in_ok-push_set.ensures.said))
+    (rw (c.deref.ensures, c.in_ok-push_line.ensures, c.as_str.ensures) at c.in_ok-push_set.ensures.said)
 
 pub returns-in_err-push_line-clause-begun : goal.returns-in_err-push_line-clause-begun
 returns-in_err-push_line-clause-begun g c =
     let exit = err_from_is_err_and c.from_residual.result c.from_residual.ensures.1 in
     let document = c.args.document.now in
-    rw (exit.1) (sets-cut document (map fragment_with_line document.fragments)
-    (map fragment_with_line c.loop-name.name-iterator) (g.O.Outlet.sent c.args.outlet.now)
-    (g.O.Outlet.sent c.loop-name.outlet) (string_bytes c.args.text.now) (string_bytes c.loop-name.text)
+    rw (exit.1) (sets-cut document _ (map fragment_with_line c.loop-name.name-iterator) _
+    (g.O.Outlet.sent c.loop-name.outlet) _ (string_bytes c.loop-name.text)
     (c.walks_have_texts.ensures.texts document) c.loop-name.invariant)
 
 pub returns-in_err-push_set-clause-begun : goal.returns-in_err-push_set-clause-begun
@@ -57,18 +47,14 @@ returns-in_err-push_set-clause-begun g c =
     let name = c.in-Some.name in
     let fragment = c.in-Some.fragment in
     let text = string_bytes c.loop-name.text in
-    let line = c.in_ok-push_line.ensures ∙ ap (λ key. text ++ (codes "walk fragment " ++ (key ++ codes "\n")))
-    c.as_str.ensures in
-    rw (exit.1) (set-cut document (map fragment_with_line document.fragments) (map fragment_with_line left)
-    (fragment_with_line (name.now, fragment.now)) (map fragment_with_line more) (sent c.args.outlet.now)
-    (sent c.loop-name.outlet) (sent c.push_set.new.outlet) (string_bytes c.args.text.now) text
+    rw (exit.1) (set-cut document _ _ _ _ _ (sent c.loop-name.outlet) _ (string_bytes c.args.text.now) text
     (c.walks_have_texts.ensures.texts document) c.loop-name.invariant (ap (map fragment_with_line)
     (rest_more deref_pair left more c.next.result (name, fragment) c.in-Some.is c.next.ensures.steps))
-    (subst (λ (t : List ℕ). IsCutShort (IsSetText document fragment.now.value.selection_set)
-    (sent c.loop-name.outlet) (sent c.push_set.new.outlet) t) line
-    (subst (λ (f : Fragment). IsCutShort (IsSetText document f.selection_set) (sent c.loop-name.outlet)
-    (sent c.push_set.new.outlet) (string_bytes c.push_line.new.text)) c.deref.ensures
-    c.in_err-push_set.ensures.begun)))
+    (rw (
+      c.deref.ensures,
+      c.in_ok-push_line.ensures,
+      c.as_str.ensures,
+    ) at c.in_err-push_set.ensures.begun))
 
 pub returns-clause-said : goal.returns-clause-said
 returns-clause-said g c =

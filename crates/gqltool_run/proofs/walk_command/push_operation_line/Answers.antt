@@ -11,7 +11,6 @@ returns c =
     let before = c.in_ok-push_str-2.ensures.bytes ∙ ap (λ t. t ++ c.name.result.now)
     c.in_ok-push_str.ensures.bytes ∙ ap (λ k. (text ++ codes "walk operation ") ++ k) c.name.ensures in
     let name = end c.name_word.result.now in
-    on_ok_weaker c.push_line.result (λ line. line ∙ ap (λ t. t ++ name) before
-    ∙ append_assoc (text ++ codes "walk operation ") kind name
-    ∙ append_assoc text (codes "walk operation ") (kind ++ name) ∙ ap (λ n. text
-    ++ (codes "walk operation " ++ (kind ++ end n))) c.name_word.ensures) c.push_line.ensures
+    on_ok_weaker c.push_line.result (λ line. line ∙ ap (λ t. t ++ name) before ∙ append_assoc _ kind name
+    ∙ append_assoc text _ _ ∙ ap (λ n. text ++ (codes "walk operation " ++ (kind ++ end n)))
+    c.name_word.ensures) c.push_line.ensures

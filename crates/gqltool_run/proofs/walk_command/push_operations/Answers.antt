@@ -1,11 +1,9 @@
-use Rattle.std.proofs.Common.{◌++◌, List, ℕ, map, string_bytes, ap, subst, ◌∙◌}
+use Rattle.std.proofs.Common.{map, string_bytes, ap, ◌∙◌}
 use Rattle.std.proofs.lemmas.Map.Iter.{rest_all, rest_more}
 use Rattle.std.proofs.lemmas.Result.{err_from_is_err_and}
 use Rattle.std.specs.Map.Iter.{deref}
 use Rattle.apollo_executable.specs.Operations.{all_operations}
-use Rattle.apollo_executable.specs.declared.operation.Operation.{Operation}
-use Rattle.gqltool_run.specs.Pieces.{IsCutShort, IsSaid}
-use Rattle.gqltool_run.specs.WalkCommand.{IsSetText, operation_line, operation_with_line}
+use Rattle.gqltool_run.specs.WalkCommand.{operation_with_line}
 use Rattle.gqltool_run.proofs.WalkTextLemmas.{set-cut, sets-begin, sets-cut, sets-end, sets-turn}
 use Rattle.gqltool_run.proofs.walk_command.push_operations.Goals as goal
 
@@ -26,27 +24,23 @@ loop-operation-preserved g c =
     let operation = c.in-Some.operation in
     let text = string_bytes c.loop-operation.text in
     let after = string_bytes c.push_set.new.text in
-    let line = c.in_ok-push_operation_line.ensures ∙ ap (λ (o : Operation). text ++ operation_line o)
-    c.deref.ensures in
     sets-turn document (map operation_with_line (all_operations document.operations))
     (map operation_with_line left) (operation_with_line operation.now) (map operation_with_line more)
     (sent c.args.outlet.now) (sent c.loop-operation.outlet) (sent c.push_set.new.outlet)
     (string_bytes c.args.text.now) text after c.loop-operation.invariant (ap (map operation_with_line)
-    (rest_more deref left more c.next.result operation c.in-Some.is c.next.ensures.steps))
-    (subst (λ (t : List ℕ). IsSaid (IsSetText document operation.now.value.selection_set)
-    (sent c.loop-operation.outlet) (sent c.push_set.new.outlet) t after) line
-    (subst (λ (o : Operation). IsSaid (IsSetText document o.selection_set) (sent c.loop-operation.outlet)
-    (sent c.push_set.new.outlet) (string_bytes c.push_operation_line.new.text) after)
-    c.deref-in-loop-operation.ensures c.in_ok-push_set.ensures.said))
+    (rest_more deref left more c.next.result operation c.in-Some.is c.next.ensures.steps)) (rw (
+      c.deref-in-loop-operation.ensures,
+      c.in_ok-push_operation_line.ensures,
+      c.deref.ensures,
+    ) at c.in_ok-push_set.ensures.said)
 
 pub returns-in_err-push_operation_line-clause-begun : goal.returns-in_err-push_operation_line-clause-begun
 returns-in_err-push_operation_line-clause-begun g c =
     let exit = err_from_is_err_and c.from_residual.result c.from_residual.ensures.1 in
     let document = c.args.document.now in
-    rw (exit.1) (sets-cut document (map operation_with_line (all_operations document.operations))
-    (map operation_with_line c.loop-operation.operation-iterator) (g.O.Outlet.sent c.args.outlet.now)
-    (g.O.Outlet.sent c.loop-operation.outlet) (string_bytes c.args.text.now) (string_bytes
-    c.loop-operation.text) (c.walks_have_texts.ensures.texts document) c.loop-operation.invariant)
+    rw (exit.1) (sets-cut document _ (map operation_with_line c.loop-operation.operation-iterator) _
+    (g.O.Outlet.sent c.loop-operation.outlet) _ (string_bytes c.loop-operation.text)
+    (c.walks_have_texts.ensures.texts document) c.loop-operation.invariant)
 
 pub returns-in_err-push_set-clause-begun : goal.returns-in_err-push_set-clause-begun
 returns-in_err-push_set-clause-begun g c =
@@ -58,20 +52,14 @@ returns-in_err-push_set-clause-begun g c =
     let more = c.next.new.self in
     let operation = c.in-Some.operation in
     let text = string_bytes c.loop-operation.text in
-    let line = c.in_ok-push_operation_line.ensures ∙ ap (λ (o : Operation). text ++ operation_line o)
-    c.deref.ensures in
-    rw (exit.1) (set-cut document (map operation_with_line (all_operations document.operations))
-    (map operation_with_line left) (operation_with_line operation.now) (map operation_with_line more)
-    (sent c.args.outlet.now) (sent c.loop-operation.outlet) (sent c.push_set.new.outlet)
-    (string_bytes c.args.text.now) text (c.walks_have_texts.ensures.texts document)
-    c.loop-operation.invariant (ap (map operation_with_line) (rest_more deref left more c.next.result
-    operation c.in-Some.is c.next.ensures.steps))
-    (subst (λ (t : List ℕ). IsCutShort (IsSetText document operation.now.value.selection_set)
-    (sent c.loop-operation.outlet) (sent c.push_set.new.outlet) t) line
-    (subst (λ (o : Operation). IsCutShort (IsSetText document o.selection_set)
-    (sent c.loop-operation.outlet) (sent c.push_set.new.outlet)
-    (string_bytes c.push_operation_line.new.text)) c.deref-in-loop-operation.ensures
-    c.in_err-push_set.ensures.begun)))
+    rw (exit.1) (set-cut document _ _ _ _ _ (sent c.loop-operation.outlet) _ (string_bytes c.args.text.now)
+    text (c.walks_have_texts.ensures.texts document) c.loop-operation.invariant
+    (ap (map operation_with_line) (rest_more deref left more c.next.result operation c.in-Some.is
+    c.next.ensures.steps)) (rw (
+      c.deref-in-loop-operation.ensures,
+      c.in_ok-push_operation_line.ensures,
+      c.deref.ensures,
+    ) at c.in_err-push_set.ensures.begun))
 
 pub returns-clause-said : goal.returns-clause-said
 returns-clause-said g c =

@@ -18,18 +18,12 @@ returns-in_err-push_operations-clause-begun g c =
 
 pub returns-clause-said : goal.returns-clause-said
 returns-clause-said g c =
-    let sent = g.O.Outlet.sent in
     on_ok_weaker c.push_fragments.result
-    (λ then. said-both (λ x y first then. (x, (first, (y, (then, refl))))) (sent c.args.outlet.now)
-    (sent c.push_operations.new.outlet) (sent c.push_fragments.new.outlet) (string_bytes c.args.text.now)
-    (string_bytes c.push_operations.new.text) (string_bytes c.push_fragments.new.text)
+    (λ then. said-both (λ x y first then. (x, (first, (y, (then, refl))))) _ _ _ _ _ _
     c.in_ok-push_operations.ensures.said then) c.push_fragments.ensures.said
 
 pub returns-clause-begun : goal.returns-clause-begun
 returns-clause-begun g c =
-    let sent = g.O.Outlet.sent in
     on_err_weaker c.push_fragments.result
-    (λ cut. cut-second (λ x y first then. (x, (first, (y, (then, refl))))) (sent c.args.outlet.now)
-    (sent c.push_operations.new.outlet) (sent c.push_fragments.new.outlet) (string_bytes c.args.text.now)
-    (string_bytes c.push_operations.new.text) c.in_ok-push_operations.ensures.said cut)
-    c.push_fragments.ensures.begun
+    (λ cut. cut-second (λ x y first then. (x, (first, (y, (then, refl))))) _ _ _ _ _
+    c.in_ok-push_operations.ensures.said cut) c.push_fragments.ensures.begun

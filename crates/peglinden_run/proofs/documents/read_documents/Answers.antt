@@ -1,7 +1,5 @@
-use Rattle.std.proofs.Common.{◌≡◌, ◌++◌, ◌∷◌, [], ◌∙◌, ◌+◌, None, Some, string_bytes, take, sym, ap, subst}
-use Rattle.std.proofs.Common.{arith}
+use Rattle.std.proofs.Common.{◌≡◌, ◌++◌, ◌∙◌, ◌+◌, None, Some, string_bytes, sym, ap, arith}
 use Rattle.std.proofs.lemmas.List.{append-nil}
-use Rattle.peglinden_run.specs.Documents.{AreDocumentsAt, texts_of}
 use Rattle.peglinden_run.proofs.DocumentLemmas.{matched-err, matched-ok, next-document, next-reported}
 use Rattle.peglinden_run.proofs.documents.read_documents.Goals as goal
 use Rattle.peglinden_run.proofs.documents.read_documents.Goals.{in-Ok+in_ok-push_document-in-Ok}
@@ -27,9 +25,7 @@ loop-index-preserved g c =
                 let are = next-document held may_fail paths i _ below c.loop-index.documents.items
                 w.in-Ok.document (λ n. matched-ok c.in_ok-document.field-0 w.in-Ok.document _ _ w.in-Ok.is
                 (c.in_ok-document.ensures n)) (before.documents (sym w.refused-is ∙ none)) in
-                let now : c.match-branch-2.documents.items ≡ c.loop-index.documents.items ++ w.in-Ok.document
-                ∷ [] = ap (λ d. d.items) w.documents-is ∙ w.in_ok-push_document-in-Ok.ensures in
-                subst (AreDocumentsAt held 1 (texts_of (take (i + 1) paths))) (sym now) are;
+                rw (w.documents-is, w.in_ok-push_document-in-Ok.ensures) are;
             reported = next-reported held may_fail paths i _ below None text after count more (λ n. (
               w.in-Ok.document,
               matched-ok c.in_ok-document.field-0 w.in-Ok.document _ _ w.in-Ok.is

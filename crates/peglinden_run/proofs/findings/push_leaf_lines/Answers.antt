@@ -1,10 +1,7 @@
-use Rattle.std.proofs.Common.{string_bytes}
 use Rattle.peglinden_run.specs.Findings.{IsLeafLine}
 use Rattle.peglinden_run.proofs.ReportLemmas.{says-next}
 use Rattle.peglinden_run.proofs.findings.push_leaf_lines.Goals as goal
 
 pub loop-fault-preserved : goal.loop-fault-preserved
-loop-fault-preserved g c = says-next (IsLeafLine (g.S.Sources.files c.args.sources.now)) c.args.faults.now
-    c.loop-fault.fault-index c.fault-item.result (string_bytes c.args.lines.now)
-    (string_bytes c.loop-fault.lines) (string_bytes c.push_json.new.lines) c.loop-fault-test.true
-    c.fault-item.is c.loop-fault.invariant c.in_ok-push_json.ensures
+loop-fault-preserved g c = says-next (IsLeafLine (g.S.Sources.files c.args.sources.now)) _ _ _ _ _ _
+    c.loop-fault-test.true c.fault-item.is c.loop-fault.invariant c.in_ok-push_json.ensures

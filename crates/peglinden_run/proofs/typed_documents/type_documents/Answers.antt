@@ -1,6 +1,5 @@
-use Rattle.std.proofs.Common.{◌≤◌, ◌++◌, List, length, take, drop, sym, ap, subst, ◌∙◌}
+use Rattle.std.proofs.Common.{◌++◌, sym, ap, ◌∙◌}
 use Rattle.graphql_nodes.specs.Sources.{merged}
-use Rattle.graphql_ast.specs.declared.document.Document.{Document}
 use Rattle.peglinden_run.specs.Documents.{texts_of}
 use Rattle.peglinden_run.proofs.TypedLemmas.{both-read, first-fits, texts-length, typed-of}
 use Rattle.peglinden_run.proofs.typed_documents.type_documents.Goals as goal
@@ -12,10 +11,8 @@ split_at-requires g c =
     let second = c.args.document_paths.now in
     let whole = c.as_slice.ensures.value ∙ c.in_ok-extend_from_slice-2.ensures.items ∙ ap (λ l. l ++ second)
     (c.in_ok-extend_from_slice.ensures.items ∙ ap (λ l. l ++ first) c.new-paths.ensures.items) in
-    let read = both-read held first second c.as_slice.result.now c.in_ok-documents.documents.items whole
-    c.in_ok-documents.ensures.documents in
-    subst (λ (ds : List Document). length first ≤ length ds) (sym c.as_slice-2.ensures.value)
-    (first-fits held first second c.in_ok-documents.documents.items read)
+    let read = both-read held first second _ _ whole c.in_ok-documents.ensures.documents in
+    rw c.as_slice-2.ensures.value (first-fits held first second _ read)
 
 pub returns-clause-typed : goal.returns-clause-typed
 returns-clause-typed g c =
@@ -25,12 +22,10 @@ returns-clause-typed g c =
     let documents = c.in_ok-documents.documents.items in
     let whole = c.as_slice.ensures.value ∙ c.in_ok-extend_from_slice-2.ensures.items ∙ ap (λ l. l ++ second)
     (c.in_ok-extend_from_slice.ensures.items ∙ ap (λ l. l ++ first) c.new-paths.ensures.items) in
-    let read = both-read held first second c.as_slice.result.now documents whole
-    c.in_ok-documents.ensures.documents in
-    let front = c.split_at.ensures.front
-    ∙ (λ i. take (sym (texts-length first) i) (c.as_slice-2.ensures.value i)) in
-    let back = c.split_at.ensures.back
-    ∙ (λ i. drop (sym (texts-length first) i) (c.as_slice-2.ensures.value i)) in
+    let read = both-read held first second _ _ whole c.in_ok-documents.ensures.documents in
+    let count = sym (texts-length first) in
+    let front = rw (count, c.as_slice-2.ensures.value) at c.split_at.ensures.front in
+    let back = rw (count, c.as_slice-2.ensures.value) at c.split_at.ensures.back in
     typed-of held (texts_of first) (texts_of second) documents _ _ c.none.result c.in_ok-schema.schema _
     c.none.ensures front back read c.in_ok-schema.ensures.means c.in_ok-schema.ensures.faults
     c.in_ok-document.ensures.means c.in_ok-document.ensures.faults c.in_ok-leaf_faults.ensures.faults

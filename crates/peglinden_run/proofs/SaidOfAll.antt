@@ -1,0 +1,47 @@
+-- What is said of all that is at fault.
+use Rattle.std.proofs.Common.{◌≡◌, ℕ, List, [], ◌∷◌, false, refl, subst, arith}
+use Rattle.apollo_document.specs.Typable.{Fault as DocumentFault}
+use Rattle.apollo_meaning.specs.Faults.Collisions.{Fault}
+use Rattle.leafcheck.specs.declared.leaf_fault.LeafFault.{LeafFault}
+use Rattle.peglinden_run.specs.Findings.{AreJsonLines, AreReports, Found, SaysAll, any_fault}
+use Rattle.peglinden_run.specs.Reports.{Adds, SaysEach}
+use Rattle.peglinden_run.proofs.ReportLemmas.{three-added}
+
+module _ (OfSchema : Fault → List ℕ → Type 0) (OfDocument : DocumentFault → List ℕ
+    → Type 0) (OfLeaf : LeafFault → List ℕ → Type 0) where
+  -- what is added for each sort of faults, in turn
+  pub says-all : (found : Found) (none one two three : List ℕ) → none ≡ []
+      → Adds (SaysEach OfSchema found.schema) none one → Adds (SaysEach OfDocument found.document) one two
+      → Adds (SaysEach OfLeaf found.leaves) two three → SaysAll OfSchema OfDocument OfLeaf found three
+  says-all found none one two three is schema document leaves = record {
+    of_schema = schema.0;
+    schema = schema.1.1;
+    of_document = document.0;
+    document = document.1.1;
+    of_leaves = leaves.0;
+    leaves = leaves.1.1;
+    are = three-added schema.0 document.0 leaves.0 none one two three is schema.1.0 document.1.0 leaves.1.0;
+  }
+
+  -- nothing is said where nothing is at fault
+  says-nothing : (xs : List Fault) (ys : List DocumentFault) (zs : List LeafFault) (it : Found)
+      → xs ≡ it.schema → ys ≡ it.document → zs ≡ it.leaves → any_fault it ≡ false
+      → SaysAll OfSchema OfDocument OfLeaf it []
+  says-nothing [] [] [] it a b c is =
+      says-all it [] [] [] [] refl ([], (refl, subst (λ l. SaysEach OfSchema l []) a refl))
+      ([], (refl, subst (λ l. SaysEach OfDocument l []) b refl))
+      ([], (refl, subst (λ l. SaysEach OfLeaf l []) c refl))
+  says-nothing (x ∷ xs) ys zs it a b c is = absurd (grind (arith, is, a))
+  says-nothing [] (y ∷ ys) zs it a b c is = absurd (grind (arith, is, b))
+  says-nothing [] [] (z ∷ zs) it a b c is = absurd (grind (arith, is, c))
+
+-- no report, and no line of JSON
+pub nothing_reported : (it : Found) (text : List ℕ) → any_fault it ≡ false → text ≡ [] → AreReports it text
+nothing_reported it text is none = rw none (
+  [],
+  (says-nothing _ _ _ it.schema it.document it.leaves it refl refl refl is, grind (arith, is)),
+)
+
+pub nothing_written : (it : Found) (text : List ℕ) → any_fault it ≡ false → text ≡ [] → AreJsonLines it text
+nothing_written it text is none = rw none (says-nothing _ _ _ it.schema it.document it.leaves it refl refl
+    refl is)
