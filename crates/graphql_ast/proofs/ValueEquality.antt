@@ -3,7 +3,7 @@ use Rattle.std.proofs.Common.{rules, ◌≡◌, Bool, true, false, ◌&&◌, Lis
 use Rattle.std.proofs.Common.{nat_eq}
 use Rattle.std.proofs.Math.Bool.{beq}
 use lib.Pointwise.{pointwise, bytes_decides}
-use denote.Hole.Compared.{compared, compared_is}
+use denote.Hole.Compared.{compared_is}
 use Rattle.graphql_nodes.specs.NameView.{NameView}
 use Rattle.graphql_nodes.specs.NodeView.{NodeView}
 use Rattle.graphql_nodes.specs.Comparing.{bare_name, bare_node}
@@ -16,8 +16,8 @@ use Rattle.graphql_ast.specs.declared.value.Value.TheFolds.{map-Value}
 use Rattle.graphql_ast.specs.declared.value.Value.TheOpen.{Value-F}
 use Rattle.graphql_ast.specs.contracts.value.ValuePartialEq.TheImpl as impl
 use Rattle.graphql_ast.specs.contracts.value.ValuePartialEq.TheImpl.Laws as laws
-use Rattle.graphql_nodes.proofs.Comparisons.{At, Compares, both_true, and_true, flag_at, name_at, node_at}
-use Rattle.graphql_nodes.proofs.Comparisons.{list_at, rolled}
+use Rattle.graphql_nodes.proofs.Comparisons.{At, Compared, Compares, both, inside, met, flag_at, name_at}
+use Rattle.graphql_nodes.proofs.Comparisons.{node_at, list_at}
 
 -- what `==` answers
 unfoldable pub value_eq : Value → Value → Bool
@@ -62,16 +62,14 @@ bare_layer (Value-F.Boolean b) = Value-F.Boolean b
 bare_layer (Value-F.List x) = Value-F.List (map (bare_node bare_value) x)
 bare_layer (Value-F.Object x) = Value-F.Object (map bare_member x)
 
-unrolls : (a b : Value)
-    → impl.ghosts.eq a b ≡ impl.the_step (compared block.the_members block.the_family block.the_depth Bool
-    true impl.the_step) block.member-Value a b
-unrolls a b = compared_is block.the_members block.the_family block.the_depth Bool true impl.the_step
-    laws.local block.member-Value a b
-
 eq-roll : (y z : Value-F Value) → value_eq (roll-Value y) (roll-Value z) ≡ layer_eq y z
 unfolding value_eq
-eq-roll Value-F.Null z = rw (unrolls (roll-Value Value-F.Null) (roll-Value z)) (search (rules, the_lemmas))
-eq-roll y z = rw (unrolls (roll-Value y) (roll-Value z)) (search (rules, the_lemmas))
+eq-roll Value-F.Null z = rw (compared_is _ _ _ _ _ _ laws.local block.member-Value)
+    (search (rules, the_lemmas))
+eq-roll y z = rw (compared_is _ _ _ _ _ _ laws.local block.member-Value) (search (rules, the_lemmas))
+
+eq-is : (a b : Value) → value_eq a b ≡ layer_eq (out-Value a) (out-Value b)
+eq-is a b = rw (roll-out-Value a, roll-out-Value b) at (eq-roll (out-Value a) (out-Value b))
 
 abbrev along : {A B : Type 0} → (A → B) → NodeView A → NodeView B
 along f n = record { value = f n.value; location = n.location }
@@ -97,48 +95,35 @@ bare-roll (Value-F.Object x) = fold-roll-Value Value value_step (Value-F.Object 
     ∙ ap (λ l. roll-Value (Value-F.Object l)) (fuse_members x)
 bare-roll z = fold-roll-Value Value value_step z
 
-abbrev Same : Value → Type 0
-Same a = (b : Value) → At value_eq bare_value a b
-
--- a value with what is to be shown of it
-abbrev Shown : Type 0
-Shown = (d : Value) × Same d
-
-abbrev value_of : Shown → Value
+abbrev value_of : Compared value_eq bare_value → Value
 value_of e = e.0
 
-member_at : (y : Member Shown) (z : Member Value) → At member_eq bare_member (along_member value_of y) z
-member_at y z = let n = name_at y.0 z.0 in let v = node_at value_eq bare_value (along value_of y.1) z.1
-    (y.1.value.1 z.1.value) in (
-      λ h. let w = both_true (name_eq y.0 z.0) _ h in let l = n.0 w.0 in let r = v.0 w.1 in λ i. (l i, r i),
-      λ h. and_true _ _ (n.1 (λ i. (h i).0)) (v.1 (λ i. (h i).1)),
-    )
+shown_at : (y : NodeView (Compared value_eq bare_value)) (z : NodeView Value)
+    → At node_eq (bare_node bare_value) (along value_of y) z
+shown_at y z = node_at value_eq bare_value (along value_of y) z (y.value.1 z.value)
 
-layers : (y : Value-F Shown) (z : Value-F Value) → At layer_eq bare_layer (map-Value Shown Value value_of y) z
+member_at : (y : Member (Compared value_eq bare_value)) (z : Member Value)
+    → At member_eq bare_member (along_member value_of y) z
+member_at y z = both (name_at y.0 z.0) (shown_at y.1 z.1)
+
+layers : (y : Value-F (Compared value_eq bare_value)) (z : Value-F Value)
+    → At layer_eq bare_layer (map-Value _ _ value_of y) z
 layers Value-F.Null Value-F.Null = (λ _. refl, λ _. refl)
-layers (Value-F.Enum m) (Value-F.Enum n) = let t = name_at m n in (λ h. ap Value-F.Enum (t.0 h), λ h. t.1 cc)
-layers (Value-F.Variable m) (Value-F.Variable n) = let t =
-    name_at m n in (λ h. ap Value-F.Variable (t.0 h), λ h. t.1 cc)
-layers (Value-F.String m) (Value-F.String n) = let t =
-    bytes_decides m n in (λ h. ap Value-F.String (t.0 h), λ h. t.1 cc)
-layers (Value-F.Float m) (Value-F.Float n) = let t =
-    bytes_decides m n in (λ h. ap Value-F.Float (t.0 h), λ h. t.1 cc)
-layers (Value-F.Int m) (Value-F.Int n) = let t =
-    bytes_decides m n in (λ h. ap Value-F.Int (t.0 h), λ h. t.1 cc)
-layers (Value-F.Boolean m) (Value-F.Boolean n) = let t =
-    flag_at m n in (λ h. ap Value-F.Boolean (t.0 h), λ h. t.1 cc)
-layers (Value-F.List ys) (Value-F.List zs) = let t = list_at node_eq (bare_node bare_value) (along value_of)
-    (λ y z. node_at value_eq bare_value (along value_of y) z (y.value.1 z.value)) ys
-    zs in (λ h. ap Value-F.List (t.0 h), λ h. t.1 cc)
-layers (Value-F.Object ys) (Value-F.Object zs) = let t = list_at member_eq bare_member (along_member value_of)
-    member_at ys zs in (λ h. ap Value-F.Object (t.0 h), λ h. t.1 cc)
+layers (Value-F.Enum m) (Value-F.Enum n) = inside Value-F.Enum (λ h. cc) (name_at m n)
+layers (Value-F.Variable m) (Value-F.Variable n) = inside Value-F.Variable (λ h. cc) (name_at m n)
+layers (Value-F.String m) (Value-F.String n) = inside Value-F.String (λ h. cc) (bytes_decides m n)
+layers (Value-F.Float m) (Value-F.Float n) = inside Value-F.Float (λ h. cc) (bytes_decides m n)
+layers (Value-F.Int m) (Value-F.Int n) = inside Value-F.Int (λ h. cc) (bytes_decides m n)
+layers (Value-F.Boolean m) (Value-F.Boolean n) = inside Value-F.Boolean (λ h. cc) (flag_at m n)
+layers (Value-F.List ys) (Value-F.List zs) =
+    inside Value-F.List (λ h. cc) (list_at node_eq (bare_node bare_value) (along value_of) shown_at ys zs)
+layers (Value-F.Object ys) (Value-F.Object zs) =
+    inside Value-F.Object (λ h. cc) (list_at member_eq bare_member (along_member value_of) member_at ys zs)
 layers _ _ = (λ h. cc, λ h. cc)
-
-value_at : (d : Value) → Same d
-value_at = ind-Value Same (λ x y is b. subst (λ c. At value_eq bare_value (roll-Value x) c) (roll-out-Value b)
-    (rolled value_eq bare_value roll-Value out-Value layer_eq bare_layer eq-roll bare-roll out-roll-Value x
-    (out-Value b) (subst (λ l. At layer_eq bare_layer l (out-Value b)) is (layers y (out-Value b)))))
 
 pub values : Compares impl.ghosts.eq bare_value
 unfolding value_eq
-values = record { at = value_at }
+values = record {
+  at = ind-Value _ (λ x y is. met bare_value roll-Value out-Value layer_eq bare_layer eq-is bare-roll
+      out-roll-Value roll-out-Value is (layers y));
+}

@@ -12,6 +12,7 @@ use Rattle.graphql_ast.specs.BareTypeSystem.{bare_schema_extension, bare_scalar_
 use Rattle.graphql_ast.specs.BareTypeSystem.{bare_object_type_extension, bare_interface_type_extension}
 use Rattle.graphql_ast.specs.BareTypeSystem.{bare_union_type_extension, bare_enum_type_extension}
 use Rattle.graphql_ast.specs.BareTypeSystem.{bare_input_object_type_extension}
+use Rattle.graphql_ast.specs.Operations.{fragment_of, operation_of, variable_of}
 use Rattle.graphql_ast.specs.declared.operation.VariableDefinition.{VariableDefinition}
 use Rattle.graphql_ast.specs.declared.operation.OperationDefinition.{OperationDefinition}
 use Rattle.graphql_ast.specs.declared.operation.FragmentDefinition.{FragmentDefinition}
@@ -22,35 +23,21 @@ use Rattle.graphql_ast.specs.declared.document.Document.{Document}
 -- the definition of a variable without locations
 abbrev pub bare_variable_definition : VariableDefinition → VariableDefinition
 bare_variable_definition d =
-    record {
-      name = bare_name d.name;
-      ty = bare_node bare_type d.ty;
-      default_value = option_map (bare_node bare_value) d.default_value;
-      directives =
-          bare_directive_list d.directives;
-    }
+    variable_of (bare_name d.name) (bare_node bare_type d.ty)
+    (option_map (bare_node bare_value) d.default_value) (bare_directive_list d.directives)
 
 -- an operation without locations
 abbrev pub bare_operation_definition : OperationDefinition → OperationDefinition
 bare_operation_definition d =
-    record {
-      operation_type = d.operation_type;
-      name = option_map bare_name d.name;
-      variables = map (bare_node bare_variable_definition) d.variables;
-      directives =
-          bare_directive_list d.directives;
-      selection_set = map bare_selection d.selection_set;
-    }
+    operation_of d.operation_type (option_map bare_name d.name)
+    (map (bare_node bare_variable_definition) d.variables) (bare_directive_list d.directives)
+    (map bare_selection d.selection_set)
 
 -- a fragment without locations
 abbrev pub bare_fragment_definition : FragmentDefinition → FragmentDefinition
 bare_fragment_definition d =
-    record {
-      name = bare_name d.name;
-      type_condition = bare_name d.type_condition;
-      directives = bare_directive_list d.directives;
-      selection_set = map bare_selection d.selection_set;
-    }
+    fragment_of (bare_name d.name) (bare_name d.type_condition) (bare_directive_list d.directives)
+    (map bare_selection d.selection_set)
 
 -- a definition of any sort without locations
 abbrev pub bare_definition : Definition → Definition

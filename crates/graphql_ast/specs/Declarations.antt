@@ -7,6 +7,11 @@ use Rattle.graphql_nodes.specs.declared.source.SourceSpan.{SourceSpan}
 use Rattle.graphql_nodes.specs.declared.type_kind.TypeKind.{TypeKind}
 use Rattle.graphql_nodes.specs.declared.type_kind.TypeKind.TheVariants as k
 use Rattle.graphql_ast.specs.Parts.{directed, directive_list, fielded, of_type, of_schema}
+use Rattle.graphql_ast.specs.TypeSystem.{enum_extension_of, enum_type_of, input_object_extension_of}
+use Rattle.graphql_ast.specs.TypeSystem.{input_object_type_of, interface_extension_of, interface_type_of}
+use Rattle.graphql_ast.specs.TypeSystem.{object_extension_of, object_type_of, scalar_extension_of}
+use Rattle.graphql_ast.specs.TypeSystem.{scalar_type_of, schema_extension_of, schema_of, union_extension_of}
+use Rattle.graphql_ast.specs.TypeSystem.{union_type_of}
 use Rattle.graphql_ast.specs.declared.declaration.SchemaDeclaration.{SchemaDeclaration}
 use Rattle.graphql_ast.specs.declared.declaration.TypeDeclaration.{TypeDeclaration}
 use Rattle.graphql_ast.specs.declared.definition.Definition.{Definition}
@@ -111,94 +116,50 @@ placed location value = record { value = value; location = location }
 
 -- the definition of a type of this kind
 abbrev pub type_definition : TypeKind → Option NameView → NameView → Parts → Option SourceSpan → Definition
-type_definition k.Scalar description name parts location = d.ScalarTypeDefinition (placed location (record {
-  description = description;
-  name = name;
-  directives = directive_list parts;
-}))
-type_definition k.Object description name parts location = d.ObjectTypeDefinition (placed location (record {
-  description = description;
-  name = name;
-  implements_interfaces = parts.names;
-  directives = directive_list parts;
-  fields = parts.fields;
-}))
+type_definition k.Scalar description name parts location =
+    d.ScalarTypeDefinition (placed location (scalar_type_of description name (directive_list parts)))
+type_definition k.Object description name parts location =
+    d.ObjectTypeDefinition (placed location (object_type_of description name parts.names
+    (directive_list parts) parts.fields))
 type_definition k.Interface description name parts location =
-    d.InterfaceTypeDefinition (placed location (record {
-      description = description;
-      name = name;
-      implements_interfaces = parts.names;
-      directives = directive_list parts;
-      fields = parts.fields;
-    }))
-type_definition k.Union description name parts location = d.UnionTypeDefinition (placed location (record {
-  description = description;
-  name = name;
-  directives = directive_list parts;
-  members = parts.names;
-}))
-type_definition k.Enum description name parts location = d.EnumTypeDefinition (placed location (record {
-  description = description;
-  name = name;
-  directives = directive_list parts;
-  values = parts.values;
-}))
+    d.InterfaceTypeDefinition (placed location (interface_type_of description name parts.names
+    (directive_list parts) parts.fields))
+type_definition k.Union description name parts location =
+    d.UnionTypeDefinition (placed location (union_type_of description name (directive_list parts)
+    parts.names))
+type_definition k.Enum description name parts location =
+    d.EnumTypeDefinition (placed location (enum_type_of description name (directive_list parts) parts.values))
 type_definition k.InputObject description name parts location =
-    d.InputObjectTypeDefinition (placed location (record {
-      description = description;
-      name = name;
-      directives = directive_list parts;
-      fields = parts.input_fields;
-    }))
+    d.InputObjectTypeDefinition (placed location (input_object_type_of description name (directive_list parts)
+    parts.input_fields))
 
 -- the extension of a type of this kind
 abbrev pub type_extension : TypeKind → NameView → Parts → Option SourceSpan → Definition
-type_extension k.Scalar name parts location = d.ScalarTypeExtension (placed location (record {
-  name = name;
-  directives = directive_list parts;
-}))
-type_extension k.Object name parts location = d.ObjectTypeExtension (placed location (record {
-  name = name;
-  implements_interfaces = parts.names;
-  directives = directive_list parts;
-  fields = parts.fields;
-}))
-type_extension k.Interface name parts location = d.InterfaceTypeExtension (placed location (record {
-  name = name;
-  implements_interfaces = parts.names;
-  directives = directive_list parts;
-  fields = parts.fields;
-}))
-type_extension k.Union name parts location = d.UnionTypeExtension (placed location (record {
-  name = name;
-  directives = directive_list parts;
-  members = parts.names;
-}))
-type_extension k.Enum name parts location = d.EnumTypeExtension (placed location (record {
-  name = name;
-  directives = directive_list parts;
-  values = parts.values;
-}))
-type_extension k.InputObject name parts location = d.InputObjectTypeExtension (placed location (record {
-  name = name;
-  directives = directive_list parts;
-  fields = parts.input_fields;
-}))
+type_extension k.Scalar name parts location =
+    d.ScalarTypeExtension (placed location (scalar_extension_of name (directive_list parts)))
+type_extension k.Object name parts location =
+    d.ObjectTypeExtension (placed location (object_extension_of name parts.names (directive_list parts)
+    parts.fields))
+type_extension k.Interface name parts location =
+    d.InterfaceTypeExtension (placed location (interface_extension_of name parts.names (directive_list parts)
+    parts.fields))
+type_extension k.Union name parts location =
+    d.UnionTypeExtension (placed location (union_extension_of name (directive_list parts) parts.names))
+type_extension k.Enum name parts location =
+    d.EnumTypeExtension (placed location (enum_extension_of name (directive_list parts) parts.values))
+type_extension k.InputObject name parts location =
+    d.InputObjectTypeExtension (placed location (input_object_extension_of name (directive_list parts)
+    parts.input_fields))
 
 -- the definition of the schema
 abbrev pub schema_definition : Option NameView → Parts → Option SourceSpan → Definition
-schema_definition description parts location = d.SchemaDefinition (placed location (record {
-  description = description;
-  directives = directive_list parts;
-  root_operations = parts.roots;
-}))
+schema_definition description parts location =
+    d.SchemaDefinition (placed location (schema_of description (directive_list parts) parts.roots))
 
 -- an extension of the schema
 abbrev pub schema_extension : Parts → Option SourceSpan → Definition
-schema_extension parts location = d.SchemaExtension (placed location (record {
-  directives = directive_list parts;
-  root_operations = parts.roots;
-}))
+schema_extension parts location =
+    d.SchemaExtension (placed location (schema_extension_of (directive_list parts) parts.roots))
 
 -- the definition or extension of a type that says this. An extension has no description
 abbrev pub made_type : TypeDeclaration → Definition

@@ -10,6 +10,8 @@ pub mod Declarations
 pub mod DeclarationsSeen
 pub mod DefinitionTexts
 pub mod Definitions
+pub mod Operations
 pub mod Parts
 pub mod PartsSeen
 pub mod TypeReferences
+pub mod TypeSystem

@@ -6,7 +6,7 @@ use crate::directive::Argument;
 use crate::type_system::{DirectiveDefinition, FieldDefinition, InputValueDefinition};
 use crate::value::Value;
 use graphql_nodes::name::Name;
-use graphql_nodes::named::{Named, first_of_name};
+use graphql_nodes::named::first_of_name;
 use graphql_nodes::node::Node;
 use thiserror::Error;
 
@@ -85,13 +85,5 @@ impl Argument {
             return Err(ArgumentByNameError::RequiredArgumentNotSpecified);
         }
         Ok(None)
-    }
-}
-
-impl Named for Argument {
-    ghost name_of = { λ argument. argument.name };
-
-    fn name(&self) -> &Name {
-        &self.name
     }
 }

@@ -45,7 +45,7 @@ pub struct SchemaDeclaration {
 }
 
 impl TypeDeclaration {
-    ghost use Rattle.graphql_ast.specs.Declarations.{type_definition, type_extension, made_type};
+    ghost use Rattle.graphql_ast.specs.Declarations.{made_type};
 
     /// The definition or extension that says this: of its parts each list that the kind has, in order.
     ///
@@ -53,22 +53,10 @@ impl TypeDeclaration {
     pub fn into_definition(self, alloc: Global) -> Result<Definition, AllocError>
         ensures { IfOk result (λ definition. definition ≡ made_type self) }
     {
-        if self.is_extension {
-            self.extending(alloc)
-        } else {
-            self.defining(alloc)
-        }
-    }
-
-    /// The definition. The error is out of memory.
-    fn defining(self, alloc: Global) -> Result<Definition, AllocError>
-        ensures { let made = type_definition self.kind self.description self.name self.parts self.location in
-            IfOk result (λ definition. definition ≡ made) }
-    {
         let TypeDeclaration {
             kind,
             name,
-            is_extension: _,
+            is_extension,
             description,
             location,
             parts,
@@ -82,134 +70,33 @@ impl TypeDeclaration {
             roots: _,
         } = parts;
         let directives = DirectiveList(directives);
-        match kind {
-            TypeKind::Scalar => {
-                let value = ScalarTypeDefinition {
-                    description,
-                    name,
-                    directives,
-                };
-                placed(alloc, value, location)
-            }
-            TypeKind::Object => {
-                let value = ObjectTypeDefinition {
-                    description,
-                    name,
-                    implements_interfaces: names,
-                    directives,
-                    fields,
-                };
-                placed(alloc, value, location)
-            }
-            TypeKind::Interface => {
-                let value = InterfaceTypeDefinition {
-                    description,
-                    name,
-                    implements_interfaces: names,
-                    directives,
-                    fields,
-                };
-                placed(alloc, value, location)
-            }
-            TypeKind::Union => {
-                let value = UnionTypeDefinition {
-                    description,
-                    name,
-                    directives,
-                    members: names,
-                };
-                placed(alloc, value, location)
-            }
-            TypeKind::Enum => {
-                let value = EnumTypeDefinition {
-                    description,
-                    name,
-                    directives,
-                    values,
-                };
-                placed(alloc, value, location)
-            }
-            TypeKind::InputObject => {
-                let value = InputObjectTypeDefinition {
-                    description,
-                    name,
-                    directives,
-                    fields: input_fields,
-                };
-                placed(alloc, value, location)
-            }
+        // the extension with these fields, or the definition, which has the description too
+        macro_rules! made {
+            ($extension:ident or $definition:ident { $($field:tt)* }) => {
+                if is_extension {
+                    placed(alloc, $extension { $($field)* }, location)
+                } else {
+                    placed(alloc, $definition { description, $($field)* }, location)
+                }
+            };
         }
-    }
-
-    /// The extension. The error is out of memory.
-    fn extending(self, alloc: Global) -> Result<Definition, AllocError>
-        ensures { let made = type_extension self.kind self.name self.parts self.location in
-            IfOk result (λ extension. extension ≡ made) }
-    {
-        let TypeDeclaration {
-            kind,
-            name,
-            is_extension: _,
-            description: _,
-            location,
-            parts,
-        } = self;
-        let Parts {
-            directives,
-            names,
-            fields,
-            values,
-            input_fields,
-            roots: _,
-        } = parts;
-        let directives = DirectiveList(directives);
         match kind {
-            TypeKind::Scalar => {
-                let value = ScalarTypeExtension { name, directives };
-                placed(alloc, value, location)
-            }
-            TypeKind::Object => {
-                let value = ObjectTypeExtension {
-                    name,
-                    implements_interfaces: names,
-                    directives,
-                    fields,
-                };
-                placed(alloc, value, location)
-            }
-            TypeKind::Interface => {
-                let value = InterfaceTypeExtension {
-                    name,
-                    implements_interfaces: names,
-                    directives,
-                    fields,
-                };
-                placed(alloc, value, location)
-            }
-            TypeKind::Union => {
-                let value = UnionTypeExtension {
-                    name,
-                    directives,
-                    members: names,
-                };
-                placed(alloc, value, location)
-            }
-            TypeKind::Enum => {
-                let value = EnumTypeExtension {
-                    name,
-                    directives,
-                    values,
-                };
-                placed(alloc, value, location)
-            }
-            TypeKind::InputObject => {
-                let value = InputObjectTypeExtension {
-                    name,
-                    directives,
-                    fields: input_fields,
-                };
-                placed(alloc, value, location)
-            }
+            TypeKind::Scalar =>
+                made!(ScalarTypeExtension or ScalarTypeDefinition { name, directives }),
+            TypeKind::Object => made!(ObjectTypeExtension or ObjectTypeDefinition {
+                name, implements_interfaces: names, directives, fields
+            }),
+            TypeKind::Interface => made!(InterfaceTypeExtension or InterfaceTypeDefinition {
+                name, implements_interfaces: names, directives, fields
+            }),
+            TypeKind::Union => made!(UnionTypeExtension or UnionTypeDefinition {
+                name, directives, members: names
+            }),
+            TypeKind::Enum =>
+                made!(EnumTypeExtension or EnumTypeDefinition { name, directives, values }),
+            TypeKind::InputObject => made!(InputObjectTypeExtension or InputObjectTypeDefinition {
+                name, directives, fields: input_fields
+            }),
         }
     }
 }
@@ -229,15 +116,7 @@ impl SchemaDeclaration {
             location,
             parts,
         } = self;
-        let Parts {
-            directives,
-            names: _,
-            fields: _,
-            values: _,
-            input_fields: _,
-            roots: root_operations,
-        } = parts;
-        let directives = DirectiveList(directives);
+        let (directives, root_operations) = parts.into_schema_parts();
         if is_extension {
             let value = SchemaExtension {
                 directives,

@@ -99,6 +99,28 @@ impl<'a> DeclarationRef<'a> {
     pub fn of(definition: &'a Definition) -> DeclarationRef<'a>
         ensures { declaration_seen result ≡ declaration_of definition.now }
     {
+        // the directives of the node, and these lists of it
+        macro_rules! parts {
+            ($node:ident) => { PartsRef::directed(&$node.directives) };
+            ($node:ident $(, $sort:ident: $list:ident)+) => {
+                PartsRef {
+                    $($sort: $node.$list.as_slice(),)+
+                    ..PartsRef::directed(&$node.directives)
+                }
+            };
+        }
+        macro_rules! defined {
+            ($node:ident, $kind:ident $(, $sort:ident: $list:ident)*) => {{
+                let parts = parts!($node $(, $sort: $list)*);
+                Self::defined($node, TypeKind::$kind, &$node.name, &$node.description, parts)
+            }};
+        }
+        macro_rules! extended {
+            ($node:ident, $kind:ident $(, $sort:ident: $list:ident)*) => {{
+                let parts = parts!($node $(, $sort: $list)*);
+                Self::extended($node, TypeKind::$kind, &$node.name, parts)
+            }};
+        }
         match definition {
             Definition::OperationDefinition(node) => DeclarationRef::Operation(node),
             Definition::FragmentDefinition(node) => DeclarationRef::Fragment(node),
@@ -107,114 +129,32 @@ impl<'a> DeclarationRef<'a> {
                 is_extension: false,
                 description: node.description.as_ref(),
                 location: node.location(),
-                parts: PartsRef {
-                    roots: node.root_operations.as_slice(),
-                    ..PartsRef::directed(&node.directives)
-                },
+                parts: parts!(node, roots: root_operations),
             }),
-            Definition::ScalarTypeDefinition(node) => {
-                let parts = PartsRef::directed(&node.directives);
-                Self::defined(node, TypeKind::Scalar, &node.name, &node.description, parts)
-            }
-            Definition::ObjectTypeDefinition(node) => {
-                let parts = PartsRef::fielded(
-                    &node.implements_interfaces,
-                    &node.directives,
-                    &node.fields,
-                );
-                Self::defined(node, TypeKind::Object, &node.name, &node.description, parts)
-            }
-            Definition::InterfaceTypeDefinition(node) => {
-                let parts = PartsRef::fielded(
-                    &node.implements_interfaces,
-                    &node.directives,
-                    &node.fields,
-                );
-                Self::defined(
-                    node,
-                    TypeKind::Interface,
-                    &node.name,
-                    &node.description,
-                    parts,
-                )
-            }
-            Definition::UnionTypeDefinition(node) => {
-                let parts = PartsRef {
-                    names: node.members.as_slice(),
-                    ..PartsRef::directed(&node.directives)
-                };
-                Self::defined(node, TypeKind::Union, &node.name, &node.description, parts)
-            }
-            Definition::EnumTypeDefinition(node) => {
-                let parts = PartsRef {
-                    values: node.values.as_slice(),
-                    ..PartsRef::directed(&node.directives)
-                };
-                Self::defined(node, TypeKind::Enum, &node.name, &node.description, parts)
-            }
-            Definition::InputObjectTypeDefinition(node) => {
-                let parts = PartsRef {
-                    input_fields: node.fields.as_slice(),
-                    ..PartsRef::directed(&node.directives)
-                };
-                Self::defined(
-                    node,
-                    TypeKind::InputObject,
-                    &node.name,
-                    &node.description,
-                    parts,
-                )
-            }
+            Definition::ScalarTypeDefinition(node) => defined!(node, Scalar),
+            Definition::ObjectTypeDefinition(node) =>
+                defined!(node, Object, names: implements_interfaces, fields: fields),
+            Definition::InterfaceTypeDefinition(node) =>
+                defined!(node, Interface, names: implements_interfaces, fields: fields),
+            Definition::UnionTypeDefinition(node) => defined!(node, Union, names: members),
+            Definition::EnumTypeDefinition(node) => defined!(node, Enum, values: values),
+            Definition::InputObjectTypeDefinition(node) =>
+                defined!(node, InputObject, input_fields: fields),
             Definition::SchemaExtension(node) => DeclarationRef::Schema(SchemaDeclarationRef {
                 is_extension: true,
                 description: None,
                 location: node.location(),
-                parts: PartsRef {
-                    roots: node.root_operations.as_slice(),
-                    ..PartsRef::directed(&node.directives)
-                },
+                parts: parts!(node, roots: root_operations),
             }),
-            Definition::ScalarTypeExtension(node) => {
-                let parts = PartsRef::directed(&node.directives);
-                Self::extended(node, TypeKind::Scalar, &node.name, parts)
-            }
-            Definition::ObjectTypeExtension(node) => {
-                let parts = PartsRef::fielded(
-                    &node.implements_interfaces,
-                    &node.directives,
-                    &node.fields,
-                );
-                Self::extended(node, TypeKind::Object, &node.name, parts)
-            }
-            Definition::InterfaceTypeExtension(node) => {
-                let parts = PartsRef::fielded(
-                    &node.implements_interfaces,
-                    &node.directives,
-                    &node.fields,
-                );
-                Self::extended(node, TypeKind::Interface, &node.name, parts)
-            }
-            Definition::UnionTypeExtension(node) => {
-                let parts = PartsRef {
-                    names: node.members.as_slice(),
-                    ..PartsRef::directed(&node.directives)
-                };
-                Self::extended(node, TypeKind::Union, &node.name, parts)
-            }
-            Definition::EnumTypeExtension(node) => {
-                let parts = PartsRef {
-                    values: node.values.as_slice(),
-                    ..PartsRef::directed(&node.directives)
-                };
-                Self::extended(node, TypeKind::Enum, &node.name, parts)
-            }
-            Definition::InputObjectTypeExtension(node) => {
-                let parts = PartsRef {
-                    input_fields: node.fields.as_slice(),
-                    ..PartsRef::directed(&node.directives)
-                };
-                Self::extended(node, TypeKind::InputObject, &node.name, parts)
-            }
+            Definition::ScalarTypeExtension(node) => extended!(node, Scalar),
+            Definition::ObjectTypeExtension(node) =>
+                extended!(node, Object, names: implements_interfaces, fields: fields),
+            Definition::InterfaceTypeExtension(node) =>
+                extended!(node, Interface, names: implements_interfaces, fields: fields),
+            Definition::UnionTypeExtension(node) => extended!(node, Union, names: members),
+            Definition::EnumTypeExtension(node) => extended!(node, Enum, values: values),
+            Definition::InputObjectTypeExtension(node) =>
+                extended!(node, InputObject, input_fields: fields),
         }
     }
 }

@@ -2,6 +2,7 @@
 ghost use Rattle.std.specs.Prelude.{◌≡◌, IfOk, ◌↔◌, IsTrue};
 ghost use Rattle.std.specs.Option.{option_copied};
 
+use crate::from_nodes::copied;
 use crate::operation::{FragmentDefinition, OperationDefinition};
 use crate::type_system::{
     DirectiveDefinition, EnumTypeDefinition, EnumTypeExtension, InputObjectTypeDefinition,
@@ -36,13 +37,6 @@ pub enum Definition {
     UnionTypeExtension(Node<UnionTypeExtension>),
     EnumTypeExtension(Node<EnumTypeExtension>),
     InputObjectTypeExtension(Node<InputObjectTypeExtension>),
-}
-
-/// What a copy of the node becomes. The error is out of memory.
-fn copied<T: Drop, D: From<Node<T>>>(node: &Node<T>) -> Result<D, AllocError>
-    ensures { IfOk result (λ made. D.from_gives node.now made) }
-{
-    Ok(D::from(node.clone()?))
 }
 
 impl Clone for Definition {

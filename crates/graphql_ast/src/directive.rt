@@ -5,6 +5,7 @@ use crate::value::Value;
 use graphql_nodes::collections::items::Items;
 use graphql_nodes::name::Name;
 use graphql_nodes::node::Node;
+use graphql_nodes::take_apart;
 use std::alloc::{AllocError, Global};
 use std::ops::Deref;
 
@@ -17,7 +18,7 @@ pub struct Argument {
 
 impl Drop for Argument {
     fn drop(self) {
-        let Self { name: _, value: _ } = self;
+        take_apart!(self: name, value);
     }
 }
 
@@ -39,10 +40,7 @@ pub struct Directive {
 
 impl Drop for Directive {
     fn drop(self) {
-        let Self {
-            name: _,
-            arguments: _,
-        } = self;
+        take_apart!(self: name, arguments);
     }
 }
 

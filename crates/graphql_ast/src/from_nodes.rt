@@ -1,5 +1,5 @@
 //! Nodes as what they are in a document: a definition, or a selection.
-ghost use Rattle.std.specs.Prelude.{◌≡◌};
+ghost use Rattle.std.specs.Prelude.{◌≡◌, IfOk};
 ghost use Rattle.graphql_ast.specs.declared.definition.Definition.TheVariants as definitions;
 ghost use Rattle.graphql_ast.specs.declared.selection.Selection as selections;
 
@@ -13,6 +13,14 @@ use crate::type_system::{
     SchemaDefinition, SchemaExtension, UnionTypeDefinition, UnionTypeExtension,
 };
 use graphql_nodes::node::Node;
+use std::alloc::AllocError;
+
+/// What a copy of the node becomes. The error is out of memory.
+pub(crate) fn copied<T: Drop, D: From<Node<T>>>(node: &Node<T>) -> Result<D, AllocError>
+    ensures { IfOk result (λ made. D.from_gives node.now made) }
+{
+    Ok(D::from(node.clone()?))
+}
 
 impl From<Node<OperationDefinition>> for Definition {
     ghost from_gives = { λ node definition. definition ≡ definitions.OperationDefinition node };

@@ -1,7 +1,11 @@
 //! Operations and fragments: GraphQL specification of October 2021, sections 2.3, 2.8 and 2.10.
 ghost use Rattle.std.specs.Prelude.{◌≡◌, [], IfOk, None};
+ghost use Rattle.graphql_ast.specs.Declarations.{placed};
+ghost use Rattle.graphql_ast.specs.Operations.{fragment_of, operation_of, variable_of};
+ghost use Rattle.graphql_ast.specs.TypeSystem.{no_directives};
 
 use crate::directive::DirectiveList;
+use crate::else_empty::else_empty;
 use crate::selection::Selection;
 use crate::type_reference::Type;
 use crate::value::Value;
@@ -9,6 +13,7 @@ use graphql_nodes::collections::items::Items;
 use graphql_nodes::name::{Name, NamedType};
 use graphql_nodes::node::Node;
 use graphql_nodes::operation_type::OperationType;
+use graphql_nodes::take_apart;
 use std::alloc::{AllocError, Global};
 
 /// A query, mutation or subscription, anonymous where it has no name (section 2.3).
@@ -23,34 +28,17 @@ pub struct OperationDefinition {
 
 impl Drop for OperationDefinition {
     fn drop(self) {
-        let Self {
-            operation_type: _,
-            name: _,
-            variables: _,
-            directives: _,
-            selection_set: _,
-        } = self;
+        take_apart!(self: operation_type, name, variables, directives, selection_set);
     }
 }
 
 impl OperationDefinition {
     /// An anonymous operation of this type, without variables, directives and selections.
     pub fn new(alloc: Global, operation_type: OperationType) -> OperationDefinition
-        ensures { result ≡ record {
-          operation_type = operation_type;
-          name = None;
-          variables = [];
-          directives = record { 0 = [] };
-          selection_set = [];
-        } }
+        ensures { result ≡ operation_of operation_type None [] no_directives [] }
     {
-        OperationDefinition {
-            operation_type,
-            name: None,
-            variables: Items::new(alloc),
-            directives: DirectiveList::new(alloc),
-            selection_set: Items::new(alloc),
-        }
+        let name = None;
+        else_empty!(alloc: operation_type, name; directives, variables, selection_set)
     }
 }
 
@@ -65,12 +53,7 @@ pub struct VariableDefinition {
 
 impl Drop for VariableDefinition {
     fn drop(self) {
-        let Self {
-            name: _,
-            ty: _,
-            default_value: _,
-            directives: _,
-        } = self;
+        take_apart!(self: name, ty, default_value, directives);
     }
 }
 
@@ -78,20 +61,11 @@ impl VariableDefinition {
     /// A variable of this name and type, without default value and directives. The node of the type has no
     /// location. The error is out of memory.
     pub fn new(alloc: Global, name: Name, ty: Type) -> Result<VariableDefinition, AllocError>
-        ensures { IfOk result (λ variable. variable
-            ≡ record {
-              name = name;
-              ty = record { value = ty; location = None };
-              default_value = None;
-              directives = record { 0 = [] };
-            }) }
+        ensures { IfOk result (λ variable. variable ≡ variable_of name (placed None ty) None no_directives) }
     {
-        Ok(VariableDefinition {
-            name,
-            ty: Node::new(alloc, ty)?,
-            default_value: None,
-            directives: DirectiveList::new(alloc),
-        })
+        let ty = Node::new(alloc, ty)?;
+        let default_value = None;
+        Ok(else_empty!(alloc: name, ty, default_value; directives))
     }
 }
 
@@ -106,31 +80,15 @@ pub struct FragmentDefinition {
 
 impl Drop for FragmentDefinition {
     fn drop(self) {
-        let Self {
-            name: _,
-            type_condition: _,
-            directives: _,
-            selection_set: _,
-        } = self;
+        take_apart!(self: name, type_condition, directives, selection_set);
     }
 }
 
 impl FragmentDefinition {
     /// A fragment of this name on this type, without directives and selections.
     pub fn new(alloc: Global, name: Name, type_condition: NamedType) -> FragmentDefinition
-        ensures { result
-            ≡ record {
-              name = name;
-              type_condition = type_condition;
-              directives = record { 0 = [] };
-              selection_set = [];
-            } }
+        ensures { result ≡ fragment_of name type_condition no_directives [] }
     {
-        FragmentDefinition {
-            name,
-            type_condition,
-            directives: DirectiveList::new(alloc),
-            selection_set: Items::new(alloc),
-        }
+        else_empty!(alloc: name, type_condition; directives, selection_set)
     }
 }

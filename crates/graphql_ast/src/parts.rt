@@ -1,7 +1,7 @@
 //! What stands in a definition or extension of a type or of the schema, whatever its kind. GraphQL
 //! specification of October 2021, sections 3.3 and 3.5 to 3.10.
 ghost use Rattle.std.specs.Prelude.{◌≡◌, OnOk, OnErr};
-ghost use Rattle.graphql_ast.specs.Parts.{no_parts, with_part};
+ghost use Rattle.graphql_ast.specs.Parts.{directive_list, no_parts, with_part};
 
 use crate::directive::{Directive, DirectiveList};
 use crate::type_system::{EnumValueDefinition, FieldDefinition, InputValueDefinition};
@@ -73,6 +73,23 @@ impl Parts {
         }
     }
 
+    /// The directives and the roots, which the schema has. The others are dropped.
+    pub(crate) fn into_schema_parts(
+        self,
+    ) -> (DirectiveList, Items<Node<(OperationType, NamedType)>>)
+        ensures { result ≡ (directive_list self, self.roots) }
+    {
+        let Parts {
+            directives,
+            names: _,
+            fields: _,
+            values: _,
+            input_fields: _,
+            roots,
+        } = self;
+        (DirectiveList(directives), roots)
+    }
+
     /// Adds a part at the end of the list of its sort. The error is out of memory: the parts are as they
     /// were, and this one is dropped.
     pub fn push(&mut self, part: Part) -> Result<(), AllocError>
@@ -108,7 +125,7 @@ pub struct PartsRef<'a> {
 }
 
 impl<'a> PartsRef<'a> {
-    ghost use Rattle.graphql_ast.specs.Parts.{directed, fielded};
+    ghost use Rattle.graphql_ast.specs.Parts.{directed};
     ghost use Rattle.graphql_ast.specs.PartsSeen.{parts_seen};
 
     /// These directives alone.
@@ -122,21 +139,6 @@ impl<'a> PartsRef<'a> {
             values: &[],
             input_fields: &[],
             roots: &[],
-        }
-    }
-
-    /// These interfaces, directives and fields of an object or interface type.
-    pub(crate) fn fielded(
-        interfaces: &'a Items<Name>,
-        directives: &'a DirectiveList,
-        fields: &'a Items<Node<FieldDefinition>>,
-    ) -> PartsRef<'a>
-        ensures { parts_seen result ≡ fielded interfaces.now directives.now fields.now }
-    {
-        PartsRef {
-            names: interfaces.as_slice(),
-            fields: fields.as_slice(),
-            ..PartsRef::directed(directives)
         }
     }
 }

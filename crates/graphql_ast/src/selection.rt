@@ -2,9 +2,12 @@
 ghost use Rattle.std.specs.Prelude.{◌≡◌, IfOk, [], None, Some};
 
 use crate::directive::{Argument, DirectiveList};
+use crate::else_empty::else_empty;
+use crate::from_nodes::copied;
 use graphql_nodes::collections::items::Items;
 use graphql_nodes::name::{Name, NamedType};
 use graphql_nodes::node::Node;
+use graphql_nodes::{clone_fields, take_apart};
 use std::alloc::{AllocError, Global};
 
 /// One entry of a selection set (section 2.4). `From` of a node is the variant of its kind, which holds this
@@ -31,13 +34,7 @@ pub struct Field {
 impl Drop for Field {
     #[cycle(drop_selection)]
     fn drop(self) {
-        let Self {
-            alias: _,
-            name: _,
-            arguments: _,
-            directives: _,
-            selection_set: _,
-        } = self;
+        take_apart!(self: alias, name, arguments, directives, selection_set);
     }
 }
 
@@ -52,13 +49,8 @@ impl Field {
           selection_set = [];
         } }
     {
-        Field {
-            alias: None,
-            name,
-            arguments: Items::new(alloc),
-            directives: DirectiveList::new(alloc),
-            selection_set: Items::new(alloc),
-        }
+        let alias = None;
+        else_empty!(alloc: alias, name; directives, arguments, selection_set)
     }
 }
 
@@ -71,10 +63,7 @@ pub struct FragmentSpread {
 
 impl Drop for FragmentSpread {
     fn drop(self) {
-        let Self {
-            fragment_name: _,
-            directives: _,
-        } = self;
+        take_apart!(self: fragment_name, directives);
     }
 }
 
@@ -83,10 +72,7 @@ impl FragmentSpread {
     pub fn new(alloc: Global, fragment_name: Name) -> FragmentSpread
         ensures { result ≡ record { fragment_name = fragment_name; directives = record { 0 = [] } } }
     {
-        FragmentSpread {
-            fragment_name,
-            directives: DirectiveList::new(alloc),
-        }
+        else_empty!(alloc: fragment_name; directives)
     }
 }
 
@@ -102,11 +88,7 @@ pub struct InlineFragment {
 impl Drop for InlineFragment {
     #[cycle(drop_selection)]
     fn drop(self) {
-        let Self {
-            type_condition: _,
-            directives: _,
-            selection_set: _,
-        } = self;
+        take_apart!(self: type_condition, directives, selection_set);
     }
 }
 
@@ -119,11 +101,8 @@ impl InlineFragment {
           selection_set = [];
         } }
     {
-        InlineFragment {
-            type_condition: Some(type_condition),
-            directives: DirectiveList::new(alloc),
-            selection_set: Items::new(alloc),
-        }
+        let type_condition = Some(type_condition);
+        else_empty!(alloc: type_condition; directives, selection_set)
     }
 
     /// An inline fragment on the type that it stands in, without directives and selections.
@@ -134,11 +113,8 @@ impl InlineFragment {
           selection_set = [];
         } }
     {
-        InlineFragment {
-            type_condition: None,
-            directives: DirectiveList::new(alloc),
-            selection_set: Items::new(alloc),
-        }
+        let type_condition = None;
+        else_empty!(alloc: type_condition; directives, selection_set)
     }
 }
 
@@ -148,9 +124,9 @@ impl Clone for Selection {
     /// The same selection, with every location. The node is shared. The error is out of memory.
     fn clone(&self) -> Result<Selection, AllocError> {
         match self {
-            Selection::Field(node) => Ok(Selection::Field(node.clone()?)),
-            Selection::FragmentSpread(node) => Ok(Selection::FragmentSpread(node.clone()?)),
-            Selection::InlineFragment(node) => Ok(Selection::InlineFragment(node.clone()?)),
+            Selection::Field(node) => copied(node),
+            Selection::FragmentSpread(node) => copied(node),
+            Selection::InlineFragment(node) => copied(node),
         }
     }
 }
@@ -160,13 +136,7 @@ impl Clone for Field {
 
     /// The same field, with every location. The error is out of memory.
     fn clone(&self) -> Result<Field, AllocError> {
-        Ok(Field {
-            alias: self.alias.clone()?,
-            name: self.name.clone()?,
-            arguments: self.arguments.clone()?,
-            directives: self.directives.clone()?,
-            selection_set: self.selection_set.clone()?,
-        })
+        clone_fields!(self: alias, name, arguments, directives, selection_set)
     }
 }
 
@@ -175,10 +145,6 @@ impl Clone for InlineFragment {
 
     /// The same fragment, with every location. The error is out of memory.
     fn clone(&self) -> Result<InlineFragment, AllocError> {
-        Ok(InlineFragment {
-            type_condition: self.type_condition.clone()?,
-            directives: self.directives.clone()?,
-            selection_set: self.selection_set.clone()?,
-        })
+        clone_fields!(self: type_condition, directives, selection_set)
     }
 }

@@ -1,15 +1,29 @@
 //! Definitions and extensions of the type system: GraphQL specification of October 2021, section 3.
+//!
+//! What `new` makes has what it can't be without, and is else empty. None but `InputValueDefinition::new`
+//! takes memory.
+ghost use Rattle.std.specs.Prelude.{◌≡◌, [], IfOk, None, false};
+ghost use Rattle.graphql_ast.specs.Declarations.{placed};
+ghost use Rattle.graphql_ast.specs.TypeSystem.{directive_definition_of, enum_extension_of, enum_type_of};
+ghost use Rattle.graphql_ast.specs.TypeSystem.{enum_value_of, field_of, input_object_extension_of};
+ghost use Rattle.graphql_ast.specs.TypeSystem.{input_object_type_of, input_value_of};
+ghost use Rattle.graphql_ast.specs.TypeSystem.{interface_extension_of, interface_type_of, no_directives};
+ghost use Rattle.graphql_ast.specs.TypeSystem.{object_extension_of, object_type_of, scalar_extension_of};
+ghost use Rattle.graphql_ast.specs.TypeSystem.{scalar_type_of, schema_extension_of, schema_of};
+ghost use Rattle.graphql_ast.specs.TypeSystem.{union_extension_of, union_type_of};
 
 use crate::directive::DirectiveList;
+use crate::else_empty::else_empty;
 use crate::type_reference::Type;
 use crate::value::Value;
 use graphql_nodes::collections::items::Items;
 use graphql_nodes::directive_location::DirectiveLocation;
 use graphql_nodes::name::{Name, NamedType};
-use graphql_nodes::named::Named;
 use graphql_nodes::node::Node;
 use graphql_nodes::node_str::NodeStr;
 use graphql_nodes::operation_type::OperationType;
+use graphql_nodes::take_apart;
+use std::alloc::{AllocError, Global};
 
 /// A field of an object or interface type (section 3.6).
 #[derive(Debug, PartialEq, Eq, Hash, Clone)]
@@ -23,13 +37,16 @@ pub struct FieldDefinition {
 
 impl Drop for FieldDefinition {
     fn drop(self) {
-        let Self {
-            description: _,
-            name: _,
-            arguments: _,
-            ty: _,
-            directives: _,
-        } = self;
+        take_apart!(self: description, name, arguments, ty, directives);
+    }
+}
+
+impl FieldDefinition {
+    /// A field of this name and type, without description, arguments and directives.
+    pub fn new(alloc: Global, name: Name, ty: Type) -> FieldDefinition
+        ensures { result ≡ field_of None name [] ty no_directives }
+    {
+        else_empty!(alloc: name, ty; description, directives, arguments)
     }
 }
 
@@ -45,13 +62,20 @@ pub struct InputValueDefinition {
 
 impl Drop for InputValueDefinition {
     fn drop(self) {
-        let Self {
-            description: _,
-            name: _,
-            ty: _,
-            default_value: _,
-            directives: _,
-        } = self;
+        take_apart!(self: description, name, ty, default_value, directives);
+    }
+}
+
+impl InputValueDefinition {
+    /// An argument or input field of this name and type, without description, default value and directives.
+    /// The node of the type has no location. The error is out of memory.
+    pub fn new(alloc: Global, name: Name, ty: Type) -> Result<InputValueDefinition, AllocError>
+        ensures { IfOk result (λ value. value
+            ≡ input_value_of None name (placed None ty) None no_directives) }
+    {
+        let ty = Node::new(alloc, ty)?;
+        let default_value = None;
+        Ok(else_empty!(alloc: name, ty, default_value; description, directives))
     }
 }
 
@@ -65,11 +89,16 @@ pub struct EnumValueDefinition {
 
 impl Drop for EnumValueDefinition {
     fn drop(self) {
-        let Self {
-            description: _,
-            value: _,
-            directives: _,
-        } = self;
+        take_apart!(self: description, value, directives);
+    }
+}
+
+impl EnumValueDefinition {
+    /// An enum value of this name, without description and directives.
+    pub fn new(alloc: Global, value: Name) -> EnumValueDefinition
+        ensures { result ≡ enum_value_of None value no_directives }
+    {
+        else_empty!(alloc: value; description, directives)
     }
 }
 
@@ -85,13 +114,23 @@ pub struct DirectiveDefinition {
 
 impl Drop for DirectiveDefinition {
     fn drop(self) {
-        let Self {
-            description: _,
-            name: _,
-            arguments: _,
-            repeatable: _,
-            locations: _,
-        } = self;
+        take_apart!(self: description, name, arguments, repeatable, locations);
+    }
+}
+
+impl DirectiveDefinition {
+    /// The definition of a directive of this name that is not repeatable, without description, arguments and
+    /// locations.
+    pub fn new(alloc: Global, name: Name) -> DirectiveDefinition
+        ensures { result ≡ directive_definition_of None name [] false [] }
+    {
+        DirectiveDefinition {
+            description: None,
+            name,
+            arguments: Items::new(alloc),
+            repeatable: false,
+            locations: Items::new(alloc),
+        }
     }
 }
 
@@ -105,11 +144,16 @@ pub struct SchemaDefinition {
 
 impl Drop for SchemaDefinition {
     fn drop(self) {
-        let Self {
-            description: _,
-            directives: _,
-            root_operations: _,
-        } = self;
+        take_apart!(self: description, directives, root_operations);
+    }
+}
+
+impl SchemaDefinition {
+    /// A definition of the schema without description, directives and root operations.
+    pub fn new(alloc: Global) -> SchemaDefinition
+        ensures { result ≡ schema_of None no_directives [] }
+    {
+        else_empty!(alloc:; description, directives, root_operations)
     }
 }
 
@@ -123,11 +167,16 @@ pub struct ScalarTypeDefinition {
 
 impl Drop for ScalarTypeDefinition {
     fn drop(self) {
-        let Self {
-            description: _,
-            name: _,
-            directives: _,
-        } = self;
+        take_apart!(self: description, name, directives);
+    }
+}
+
+impl ScalarTypeDefinition {
+    /// The definition of a scalar type of this name, without description and directives.
+    pub fn new(alloc: Global, name: Name) -> ScalarTypeDefinition
+        ensures { result ≡ scalar_type_of None name no_directives }
+    {
+        else_empty!(alloc: name; description, directives)
     }
 }
 
@@ -143,13 +192,16 @@ pub struct ObjectTypeDefinition {
 
 impl Drop for ObjectTypeDefinition {
     fn drop(self) {
-        let Self {
-            description: _,
-            name: _,
-            implements_interfaces: _,
-            directives: _,
-            fields: _,
-        } = self;
+        take_apart!(self: description, name, implements_interfaces, directives, fields);
+    }
+}
+
+impl ObjectTypeDefinition {
+    /// The definition of an object type of this name, without description, interfaces, directives and fields.
+    pub fn new(alloc: Global, name: Name) -> ObjectTypeDefinition
+        ensures { result ≡ object_type_of None name [] no_directives [] }
+    {
+        else_empty!(alloc: name; description, directives, implements_interfaces, fields)
     }
 }
 
@@ -165,13 +217,17 @@ pub struct InterfaceTypeDefinition {
 
 impl Drop for InterfaceTypeDefinition {
     fn drop(self) {
-        let Self {
-            description: _,
-            name: _,
-            implements_interfaces: _,
-            directives: _,
-            fields: _,
-        } = self;
+        take_apart!(self: description, name, implements_interfaces, directives, fields);
+    }
+}
+
+impl InterfaceTypeDefinition {
+    /// The definition of an interface type of this name, without description, interfaces, directives and
+    /// fields.
+    pub fn new(alloc: Global, name: Name) -> InterfaceTypeDefinition
+        ensures { result ≡ interface_type_of None name [] no_directives [] }
+    {
+        else_empty!(alloc: name; description, directives, implements_interfaces, fields)
     }
 }
 
@@ -186,12 +242,16 @@ pub struct UnionTypeDefinition {
 
 impl Drop for UnionTypeDefinition {
     fn drop(self) {
-        let Self {
-            description: _,
-            name: _,
-            directives: _,
-            members: _,
-        } = self;
+        take_apart!(self: description, name, directives, members);
+    }
+}
+
+impl UnionTypeDefinition {
+    /// The definition of a union type of this name, without description, directives and members.
+    pub fn new(alloc: Global, name: Name) -> UnionTypeDefinition
+        ensures { result ≡ union_type_of None name no_directives [] }
+    {
+        else_empty!(alloc: name; description, directives, members)
     }
 }
 
@@ -206,12 +266,16 @@ pub struct EnumTypeDefinition {
 
 impl Drop for EnumTypeDefinition {
     fn drop(self) {
-        let Self {
-            description: _,
-            name: _,
-            directives: _,
-            values: _,
-        } = self;
+        take_apart!(self: description, name, directives, values);
+    }
+}
+
+impl EnumTypeDefinition {
+    /// The definition of an enum type of this name, without description, directives and values.
+    pub fn new(alloc: Global, name: Name) -> EnumTypeDefinition
+        ensures { result ≡ enum_type_of None name no_directives [] }
+    {
+        else_empty!(alloc: name; description, directives, values)
     }
 }
 
@@ -226,12 +290,16 @@ pub struct InputObjectTypeDefinition {
 
 impl Drop for InputObjectTypeDefinition {
     fn drop(self) {
-        let Self {
-            description: _,
-            name: _,
-            directives: _,
-            fields: _,
-        } = self;
+        take_apart!(self: description, name, directives, fields);
+    }
+}
+
+impl InputObjectTypeDefinition {
+    /// The definition of an input object type of this name, without description, directives and fields.
+    pub fn new(alloc: Global, name: Name) -> InputObjectTypeDefinition
+        ensures { result ≡ input_object_type_of None name no_directives [] }
+    {
+        else_empty!(alloc: name; description, directives, fields)
     }
 }
 
@@ -244,10 +312,16 @@ pub struct SchemaExtension {
 
 impl Drop for SchemaExtension {
     fn drop(self) {
-        let Self {
-            directives: _,
-            root_operations: _,
-        } = self;
+        take_apart!(self: directives, root_operations);
+    }
+}
+
+impl SchemaExtension {
+    /// An extension of the schema without directives and root operations.
+    pub fn new(alloc: Global) -> SchemaExtension
+        ensures { result ≡ schema_extension_of no_directives [] }
+    {
+        else_empty!(alloc:; directives, root_operations)
     }
 }
 
@@ -260,10 +334,16 @@ pub struct ScalarTypeExtension {
 
 impl Drop for ScalarTypeExtension {
     fn drop(self) {
-        let Self {
-            name: _,
-            directives: _,
-        } = self;
+        take_apart!(self: name, directives);
+    }
+}
+
+impl ScalarTypeExtension {
+    /// An extension of the scalar type of this name, without directives.
+    pub fn new(alloc: Global, name: Name) -> ScalarTypeExtension
+        ensures { result ≡ scalar_extension_of name no_directives }
+    {
+        else_empty!(alloc: name; directives)
     }
 }
 
@@ -278,12 +358,16 @@ pub struct ObjectTypeExtension {
 
 impl Drop for ObjectTypeExtension {
     fn drop(self) {
-        let Self {
-            name: _,
-            implements_interfaces: _,
-            directives: _,
-            fields: _,
-        } = self;
+        take_apart!(self: name, implements_interfaces, directives, fields);
+    }
+}
+
+impl ObjectTypeExtension {
+    /// An extension of the object type of this name, without interfaces, directives and fields.
+    pub fn new(alloc: Global, name: Name) -> ObjectTypeExtension
+        ensures { result ≡ object_extension_of name [] no_directives [] }
+    {
+        else_empty!(alloc: name; directives, implements_interfaces, fields)
     }
 }
 
@@ -298,12 +382,16 @@ pub struct InterfaceTypeExtension {
 
 impl Drop for InterfaceTypeExtension {
     fn drop(self) {
-        let Self {
-            name: _,
-            implements_interfaces: _,
-            directives: _,
-            fields: _,
-        } = self;
+        take_apart!(self: name, implements_interfaces, directives, fields);
+    }
+}
+
+impl InterfaceTypeExtension {
+    /// An extension of the interface type of this name, without interfaces, directives and fields.
+    pub fn new(alloc: Global, name: Name) -> InterfaceTypeExtension
+        ensures { result ≡ interface_extension_of name [] no_directives [] }
+    {
+        else_empty!(alloc: name; directives, implements_interfaces, fields)
     }
 }
 
@@ -317,11 +405,16 @@ pub struct UnionTypeExtension {
 
 impl Drop for UnionTypeExtension {
     fn drop(self) {
-        let Self {
-            name: _,
-            directives: _,
-            members: _,
-        } = self;
+        take_apart!(self: name, directives, members);
+    }
+}
+
+impl UnionTypeExtension {
+    /// An extension of the union type of this name, without directives and members.
+    pub fn new(alloc: Global, name: Name) -> UnionTypeExtension
+        ensures { result ≡ union_extension_of name no_directives [] }
+    {
+        else_empty!(alloc: name; directives, members)
     }
 }
 
@@ -335,11 +428,16 @@ pub struct EnumTypeExtension {
 
 impl Drop for EnumTypeExtension {
     fn drop(self) {
-        let Self {
-            name: _,
-            directives: _,
-            values: _,
-        } = self;
+        take_apart!(self: name, directives, values);
+    }
+}
+
+impl EnumTypeExtension {
+    /// An extension of the enum type of this name, without directives and values.
+    pub fn new(alloc: Global, name: Name) -> EnumTypeExtension
+        ensures { result ≡ enum_extension_of name no_directives [] }
+    {
+        else_empty!(alloc: name; directives, values)
     }
 }
 
@@ -353,34 +451,15 @@ pub struct InputObjectTypeExtension {
 
 impl Drop for InputObjectTypeExtension {
     fn drop(self) {
-        let Self {
-            name: _,
-            directives: _,
-            fields: _,
-        } = self;
+        take_apart!(self: name, directives, fields);
     }
 }
 
-impl Named for FieldDefinition {
-    ghost name_of = { λ field. field.name };
-
-    fn name(&self) -> &Name {
-        &self.name
-    }
-}
-
-impl Named for InputValueDefinition {
-    ghost name_of = { λ value. value.name };
-
-    fn name(&self) -> &Name {
-        &self.name
-    }
-}
-
-impl Named for EnumValueDefinition {
-    ghost name_of = { λ value. value.value };
-
-    fn name(&self) -> &Name {
-        &self.value
+impl InputObjectTypeExtension {
+    /// An extension of the input object type of this name, without directives and fields.
+    pub fn new(alloc: Global, name: Name) -> InputObjectTypeExtension
+        ensures { result ≡ input_object_extension_of name no_directives [] }
+    {
+        else_empty!(alloc: name; directives, fields)
     }
 }

@@ -13,6 +13,7 @@
 //! seen changes no answer.
 #![tactic(auto)]
 
+mod by_fields;
 pub mod collections;
 pub mod directive_location;
 mod kept_location;

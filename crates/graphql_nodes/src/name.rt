@@ -17,6 +17,7 @@ pub mod seen_names;
 use crate::collections::text::Text;
 use crate::name_text::NameText;
 use crate::source::SourceSpan;
+use crate::take_apart;
 use std::alloc::{AllocError, Global};
 use std::cmp::Ordering;
 use std::fmt;
@@ -81,10 +82,7 @@ pub struct Name {
 
 impl Drop for Name {
     fn drop(self) {
-        let Self {
-            shared: _,
-            location: _,
-        } = self;
+        take_apart!(self: shared, location);
     }
 }
 

@@ -8,6 +8,7 @@ ghost use Rattle.std.proofs.Common.{rules};
 
 use crate::kept_location::KeptLocation;
 use crate::source::{FileId, SourceSpan};
+use crate::take_apart;
 use std::alloc::{AllocError, Global};
 use std::fmt;
 use std::hash::{Hash, Hasher};
@@ -22,10 +23,7 @@ struct Held<T> {
 
 impl<T: Drop> Drop for Held<T> {
     fn drop(self) {
-        let Self {
-            location: _,
-            value: _,
-        } = self;
+        take_apart!(self: location, value);
     }
 }
 

@@ -10,6 +10,7 @@ ghost use Rattle.std.proofs.Common.{rules};
 
 use crate::collections::boxed::Boxed;
 use crate::source::SourceSpan;
+use crate::take_apart;
 use std::alloc::{AllocError, Global};
 use std::fmt;
 use std::hash::{Hash, Hasher};
@@ -24,10 +25,7 @@ struct Placed {
 
 impl Drop for Placed {
     fn drop(self) {
-        let Self {
-            shared: _,
-            location: _,
-        } = self;
+        take_apart!(self: shared, location);
     }
 }
 

@@ -1,8 +1,7 @@
-use Rattle.graphql_ast.specs.contracts.argument.ArgumentByNameError as error
-use Rattle.graphql_nodes.proofs.Comparisons.{kinds}
 use Rattle.graphql_ast.proofs.ValueEquality.{values}
 use Rattle.graphql_ast.proofs.TypeEquality.{types}
-use Rattle.graphql_ast.proofs.DirectiveEquality.{arguments, directives, directive_lists}
+use Rattle.graphql_ast.proofs.DirectiveEquality.{argument_by_name_errors, arguments, directives}
+use Rattle.graphql_ast.proofs.DirectiveEquality.{directive_lists}
 use Rattle.graphql_ast.proofs.laws.equality_of_values_and_directives.Goals as goal
 
 pub returns-clause-value : goal.returns-clause-value
@@ -21,4 +20,4 @@ pub returns-clause-directive_list : goal.returns-clause-directive_list
 returns-clause-directive_list c = directive_lists.at
 
 pub returns-clause-argument_by_name_error : goal.returns-clause-argument_by_name_error
-returns-clause-argument_by_name_error c = (kinds error.the_type tt).at
+returns-clause-argument_by_name_error c = argument_by_name_errors.at

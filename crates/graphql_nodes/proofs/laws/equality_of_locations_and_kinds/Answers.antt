@@ -1,9 +1,5 @@
-use Rattle.graphql_nodes.specs.contracts.operation_type.OperationType as operation
-use Rattle.graphql_nodes.specs.contracts.type_kind.TypeKind as kind
-use Rattle.graphql_nodes.specs.contracts.directive_location.DirectiveLocation as location
-use Rattle.graphql_nodes.proofs.Comparisons.{kinds}
 use Rattle.graphql_nodes.proofs.LocationEquality.{file_ids, source_spans, line_columns, source_files}
-use Rattle.graphql_nodes.proofs.LocationEquality.{hash_keys}
+use Rattle.graphql_nodes.proofs.LocationEquality.{hash_keys, operation_types, type_kinds, directive_locations}
 use Rattle.graphql_nodes.proofs.laws.equality_of_locations_and_kinds.Goals as goal
 
 pub returns-clause-file_id : goal.returns-clause-file_id
@@ -19,13 +15,13 @@ pub returns-clause-source_file : goal.returns-clause-source_file
 returns-clause-source_file c = source_files.at
 
 pub returns-clause-operation_type : goal.returns-clause-operation_type
-returns-clause-operation_type c = (kinds operation.the_type tt).at
+returns-clause-operation_type c = operation_types.at
 
 pub returns-clause-type_kind : goal.returns-clause-type_kind
-returns-clause-type_kind c = (kinds kind.the_type tt).at
+returns-clause-type_kind c = type_kinds.at
 
 pub returns-clause-directive_location : goal.returns-clause-directive_location
-returns-clause-directive_location c = (kinds location.the_type tt).at
+returns-clause-directive_location c = directive_locations.at
 
 pub returns-clause-hash_keys : goal.returns-clause-hash_keys
 returns-clause-hash_keys c = hash_keys.at
