@@ -11,7 +11,7 @@ use Rattle.graphql_grammar.specs.Refusals.{Viable}
 use Rattle.graphql_grammar.specs.Words.{WordView}
 use Rattle.graphql_grammar.specs.Pieces.{Piece, Reading, Refusal, State, Wrong, ◌>>=◌}
 use Rattle.graphql_grammar.specs.Pieces.{picked, refused}
-use Rattle.graphql_grammar.specs.Pieces.{sign, sign_or, some, take_picked}
+use Rattle.graphql_grammar.specs.Pieces.{sign, sign_or, take_picked}
 use Rattle.graphql_grammar.specs.Pieces.{take_sign, take_word, word}
 use Rattle.graphql_grammar.proofs.ReadingLemmas.{chosen}
 

@@ -10,13 +10,13 @@ use Rattle.graphql_grammar.specs.declared.fault.Item.TheVariants as i
 use Rattle.graphql_grammar.specs.declared.kind.Kind.{Kind}
 use Rattle.graphql_grammar.specs.Kinds.{Kinds, only}
 use Rattle.graphql_grammar.specs.Words.{WordView, begins, starting}
-use Rattle.graphql_grammar.specs.Pieces.{Piece, Reading, State, Wrong, ◌>>=◌, behind_sign, branch, choose}
+use Rattle.graphql_grammar.specs.Pieces.{Piece, Reading, State, Wrong, ◌>>=◌, behind_sign, branch}
 use Rattle.graphql_grammar.specs.Pieces.{filtered, headed, item, listed, located, many, many_at, mapped}
 use Rattle.graphql_grammar.specs.Pieces.{nested, nothing, optional, picked, read_first, refused, separated}
 use Rattle.graphql_grammar.specs.Pieces.{separated_of, seq, sign, sign_or, some, take_picked, take_word}
 use Rattle.graphql_grammar.specs.Pieces.{tested, word}
 use Rattle.graphql_grammar.specs.Refusals.{EndOf}
-use Rattle.graphql_grammar.proofs.ManyLaws.{shorter}
+use Rattle.graphql_grammar.proofs.ManyLaws.{and_others, shorter}
 use Rattle.graphql_grammar.proofs.PieceLaws.{Lawful, mapped_law, seq_law, sign_law}
 
 -- a word, and two lists of words that may stand behind it
@@ -321,19 +321,15 @@ optional_blind {A} {p} pb = record {
 -- ---- any number
 
 module _ {A : Type 0} {p : Piece A} (pl : Lawful p) (solid : p.may_be_empty ≡ false) (pb : Blind p) where
-  -- one that was read, and those behind it
-  abbrev and_others : ℕ → A × State → Reading (List A)
-  and_others n x = many_at p.first p.read n x.1 >>= λ y. Ok (x.0 ∷ y.0, y.1)
-
   others_within : (n : ℕ) → ((s : State) → EndOf (rest_of (many_at p.first p.read n s)) s.left)
-      → (x : A × State) → EndOf (rest_of (and_others n x)) x.1.left
+      → (x : A × State) → EndOf (rest_of (and_others p n x)) x.1.left
   others_within n within x = bind_within {B = List A} (many_at p.first p.read n x.1)
       (λ y. Ok (x.0 ∷ y.0, y.1)) x.1.left (within x.1) (λ y. nothing_taken y.1.left)
 
   many_within : (n : ℕ) (s : State) → EndOf (rest_of (many_at p.first p.read n s)) s.left
   many_within zero s = nothing_taken s.left
-  many_within (suc n) s = chosen_within {A = List A} (begins p.first s.left) (p.read s >>= and_others n)
-      (Ok ([], s)) s.left (bind_within {B = List A} (p.read s) (and_others n) s.left (pb.within s)
+  many_within (suc n) s = chosen_within {A = List A} (begins p.first s.left) (p.read s >>= and_others p n)
+      (Ok ([], s)) s.left (bind_within {B = List A} (p.read s) (and_others p n) s.left (pb.within s)
       (others_within n (λ t. many_within n t))) (nothing_taken s.left)
 
   many_same : (f : Fork) (n m : ℕ) (s t : State) → Alike f s t → length s.left ≤ n → length t.left ≤ m
@@ -341,9 +337,9 @@ module _ {A : Type 0} {p : Piece A} (pl : Lawful p) (solid : p.may_be_empty ≡ 
   many_same f zero m s t a le lm = absurd (one_left f s.left t.left a.left le)
   many_same f (suc n) zero s t a le lm = absurd (other_left f s.left t.left a.left lm)
   many_same f (suc n) (suc m) s t a le lm = chosen_same {A = List A} f (begins p.first s.left)
-      (begins p.first t.left) (p.read s >>= and_others n) (p.read t >>= and_others m) (Ok ([], s))
+      (begins p.first t.left) (p.read s >>= and_others p n) (p.read t >>= and_others p m) (Ok ([], s))
       (Ok ([], t)) (begins_same f p.first s.left t.left a.left) (bind_same {B = List A} f (p.read s)
-      (p.read t) (and_others n) (and_others m) (pb.same f s t a) (others_within n (many_within n))
+      (p.read t) (and_others p n) (and_others p m) (pb.same f s t a) (others_within n (many_within n))
       (λ x u v here there b.
       let less : length u.left < length s.left = shorter p pl solid s x u here in
       let fewer : length v.left < length t.left = shorter p pl solid t x v there in
@@ -449,9 +445,3 @@ another_blind kind pb = mapped_blind behind_sign (seq_blind (sign_blind kind) pb
 pub separated_blind : {A : Type 0} (kind : Kind) {p : Piece A} → Lawful p → Blind p → Blind (separated kind p)
 separated_blind kind {p} pl pb = mapped_blind separated_of (seq_blind (optional_blind (sign_blind kind))
     (seq_blind pb (many_blind (another_law kind p pl) refl (another_blind kind pb))))
-
--- ---- one of two, by a flag
-
-pub choose_blind : {A : Type 0} (flag : Bool) {p q : Piece A} → Blind p → Blind q → Blind (choose flag p q)
-choose_blind true pb qb = pb
-choose_blind false pb qb = qb

@@ -5,7 +5,7 @@ use Rattle.graphql_grammar.specs.declared.kind.Kind.{Kind}
 use Rattle.graphql_grammar.specs.Kinds.{Kinds, each_kind}
 use Rattle.graphql_grammar.specs.Spelling.{spells_by}
 use Rattle.graphql_grammar.specs.Words.{WordView, ended}
-use Rattle.graphql_grammar.specs.Pieces.{Piece, State, Wrong, branch, choose, read_first}
+use Rattle.graphql_grammar.specs.Pieces.{Piece, State, Wrong, branch, read_first}
 use Rattle.graphql_grammar.proofs.KindLemmas.{of_each}
 use Rattle.graphql_grammar.proofs.PieceLaws.{Begun, Lawful, Stops, Took, by_implied, by_not, implied}
 
@@ -75,8 +75,3 @@ module _ {A : Type 0} (first more : Kinds) (pick : Kind → Piece A) (wrong : Wr
     complete = branch_again;
     begun = branch_begun;
   }
-
--- one of two, by a flag
-pub either_law : {A : Type 0} (flag : Bool) (p q : Piece A) → Lawful p → Lawful q → Lawful (choose flag p q)
-either_law true p q pl ql = pl
-either_law false p q pl ql = ql

@@ -8,7 +8,7 @@ use Rattle.graphql_grammar.specs.Clean.{AllClean}
 use Rattle.graphql_grammar.specs.Kinds.{each_kind, is_token, Kinds}
 use Rattle.graphql_grammar.specs.Spelling.{spells_by, spells_many}
 use Rattle.graphql_grammar.specs.Words.{WordView}
-use Rattle.graphql_grammar.specs.Pieces.{Piece, Wrong, behind_sign, branch, choose, filtered, headed, item}
+use Rattle.graphql_grammar.specs.Pieces.{Piece, Wrong, behind_sign, branch, filtered, headed, item}
 use Rattle.graphql_grammar.specs.Pieces.{listed, located, many, mapped, nested, nothing, optional, picked}
 use Rattle.graphql_grammar.specs.Pieces.{separated, separated_of, seq, sign, sign_or, some, word}
 use Rattle.graphql_grammar.proofs.KindLemmas.{of_each, only_kind}
@@ -110,11 +110,6 @@ module _ {A : Type 0} {pick : Kind → Piece A} (wrong : Wrong) (pc : (kind : Ki
 
   pub branch_clean : {first more : Kinds} → Spotless (branch first more pick wrong)
   branch_clean = record { clean = by_first_word }
-
-pub choose_clean : {A : Type 0} (flag : Bool) {p q : Piece A} → Spotless p → Spotless q
-    → Spotless (choose flag p q)
-choose_clean true pc qc = pc
-choose_clean false pc qc = qc
 
 -- ---- with where it stands, what begins with one of these, items, and what is nested
 

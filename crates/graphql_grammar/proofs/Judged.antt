@@ -1,7 +1,7 @@
 -- What reading all of some words says of what they spell.
-use Rattle.std.proofs.Common.{◌≡◌, List, Ok, Err}
-use Rattle.graphql_grammar.specs.Pieces.{Piece, Refusal, read_all}
-use Rattle.graphql_grammar.specs.Refusals.{RefusedWith, Viable}
+use Rattle.std.proofs.Common.{◌≡◌, List, Ok}
+use Rattle.graphql_grammar.specs.Pieces.{Piece, read_all}
+use Rattle.graphql_grammar.specs.Refusals.{CanGoOn, RulesOut}
 use Rattle.graphql_grammar.specs.Words.{WordView}
 use Rattle.graphql_grammar.proofs.BlindLaws.{Blind}
 use Rattle.graphql_grammar.proofs.PieceLaws.{Lawful}
@@ -15,15 +15,13 @@ use Rattle.graphql_grammar.proofs.WholeViable.{viable_law}
 pub record Judged {A : Type 0} (p : Piece A) (spells further : A → List WordView → Type 0) : Type 0 where
   pub found : (words : List WordView) (x : A) → read_all p words ≡ Ok x → spells x words
   pub only : (words : List WordView) (x : A) → spells x words → read_all p words ≡ Ok x
-  pub ruled_out : (words : List WordView) (e : Refusal) → read_all p words ≡ Err e
-      → RefusedWith spells words e
-  pub can_go_on : (words : List WordView) (e : Refusal) → read_all p words ≡ Err e
-      → Viable further words e.left
+  pub ruled_out : RulesOut p spells
+  pub can_go_on : CanGoOn p further
 
 pub judged : {A : Type 0} (p q : Piece A) → Lawful p → Blind p → Begins p q → Judged p p.spells q.spells
 judged p q pl pb begins = record {
-  found = λ words x e. all_sound p pl words x e;
-  only = λ words x h. all_again p pl words x h;
-  ruled_out = λ words e h. refusal_law p pl pb words e h;
-  can_go_on = λ words e h. viable_law pl.sound begins words e h;
+  found = all_sound p pl;
+  only = all_again p pl;
+  ruled_out = refusal_law p pl pb;
+  can_go_on = viable_law pl.sound begins;
 }

@@ -1,87 +1,45 @@
 -- Any number of pieces: what is read is spelled so, and the other way round.
-use Rattle.std.proofs.Common.{subst, ◌≡◌, ℕ, zero, suc, ◌<◌, ◌≤◌, Bool, true, false, cond, List, [], ◌∷◌}
+use Rattle.std.proofs.Common.{◌≡◌, ℕ, zero, suc, ◌<◌, ◌≤◌, Bool, true, false, cond, List, [], ◌∷◌}
 use Rattle.std.proofs.Common.{◌++◌, length, Ok, Err, inl, inr, refl, sym, ap, ◌∙◌, append_assoc, arith}
 use Rattle.std.proofs.lemmas.List.{length-append}
 use Rattle.graphql_grammar.specs.Kinds.{Kinds}
 use Rattle.graphql_grammar.specs.Words.{WordView, begins, ended}
 use Rattle.graphql_grammar.specs.Pieces.{Piece, Reading, Refusal, State, ◌>>=◌, listed, many, many_at, seq}
 use Rattle.graphql_grammar.specs.Pieces.{some}
-use Rattle.graphql_grammar.proofs.PieceLaws.{Apart, Begun, Lawful, Stops, Took, is_begun, mapped_law}
-use Rattle.graphql_grammar.proofs.PieceLaws.{not_begun, seq_law, stops_left}
-use Rattle.graphql_grammar.proofs.ReadingLemmas.{read_as, bind_ok, chosen, ended_append, ok_is}
+use Rattle.graphql_grammar.proofs.PieceLaws.{Apart, Begun, Lawful, Sound, Stops, Took, is_begun, mapped_law}
+use Rattle.graphql_grammar.proofs.PieceLaws.{mapped_sound, not_begun, seq_law, seq_sound, stops_left, took_as}
+use Rattle.graphql_grammar.proofs.PieceLaws.{took_both, took_none}
+use Rattle.graphql_grammar.proofs.ReadingLemmas.{read_as, bind_ok, chosen, ended_append}
+
+-- those behind one that was read, and it in front of them
+abbrev pub and_others : {A : Type 0} → Piece A → ℕ → A × State → Reading (List A)
+and_others p n x = many_at p.first p.read n x.1 >>= λ y. Ok (x.0 ∷ y.0, y.1)
 
 module _ {A : Type 0} (p : Piece A) (pl : Lawful p) (solid : p.may_be_empty ≡ false) where
   many_sound : (n : ℕ) (s : State) (xs : List A) (then : State) → many_at p.first p.read n s ≡ Ok (xs, then)
       → Took (many p).spells s xs then
-  many_sound zero s xs then e =
-      let w : Took (many p).spells s [] s = record { front = []; left = refl; last = refl; spelled = refl } in
-      read_as (Took (many p).spells s) e w
+  many_sound zero s xs then e = read_as (Took (many p).spells s) e (took_none [] refl)
   many_sound (suc n) s xs then e =
-      elim (chosen (begins p.first s.left) (p.read s >>= λ x. many_at p.first p.read n x.1 >>= λ y. Ok
-      (x.0 ∷ y.0, y.1)) (Ok ([], s)) (Ok (xs, then)) e) [
+      elim (chosen (begins p.first s.left) (p.read s >>= and_others p n) (Ok ([], s)) (Ok (xs, then)) e) [
         | inl (hit, is) ↦
-            let b = bind_ok (p.read s) (λ x. many_at p.first p.read n x.1 >>= λ y. Ok (x.0 ∷ y.0, y.1))
-            (xs, then) is in
+            let b = bind_ok (p.read s) (and_others p n) (xs, then) is in
             let y : A × State = b.0 in
             let d = bind_ok (many_at p.first p.read n y.1) (λ z. Ok (y.0 ∷ z.0, z.1)) (xs, then) b.2 in
             let z : List A × State = d.0 in
-            let t : Took p.spells s y.0 y.1 = pl.sound s y.0 y.1 b.1 in
-            let u : Took (many p).spells y.1 z.0 z.1 = many_sound n y.1 z.0 z.1 d.1 in
-            let w : Took (many p).spells s (y.0 ∷ z.0) z.1 = record {
-              front = t.front ++ u.front;
-              left = t.left ∙ ap (λ (l : List WordView). t.front ++ l) u.left
-                  ∙ sym (append_assoc t.front u.front z.1.left);
-              last = u.last ∙ ap (λ (m : ℕ). ended m u.front) t.last
-                  ∙ sym (ended_append s.last t.front u.front);
-              spelled = record {
-                head = t.front;
-                tail = u.front;
-                whole = refl;
-                first = t.spelled;
-                second = u.spelled;
-              };
-            } in
-            read_as (Took (many p).spells s) d.2 w
-        | inr (miss, is) ↦
-            let w : Took (many p).spells s [] s =
-            record { front = []; left = refl; last = refl; spelled = refl } in
-            read_as (Took (many p).spells s) is w
+            read_as (Took (many p).spells s) d.2 (took_as (y.0 ∷ z.0)
+            (took_both (pl.sound s y.0 y.1 b.1) (many_sound n y.1 z.0 z.1 d.1)) (λ _ h. h))
+        | inr (miss, is) ↦ read_as (Took (many p).spells s) is (took_none [] refl)
       ]
 
   -- one or more that are read are spelled so, whatever may go on with one
-  pub some_sound : (s : State) (xs : List A) (then : State) → (some p).read s ≡ Ok (xs, then)
-      → Took (some p).spells s xs then
-  some_sound s xs then e =
-      let l = bind_ok (p.read s >>= λ x. (many p).read x.1 >>= λ y. Ok ((x.0, y.0), y.1))
-      (λ x. Ok (listed x.0, x.1)) (xs, then) e in
-      let v : (A × List A) × State = l.0 in
-      let b = bind_ok (p.read s) (λ x. (many p).read x.1 >>= λ y. Ok ((x.0, y.0), y.1)) v l.1 in
-      let y : A × State = b.0 in
-      let d = bind_ok ((many p).read y.1) (λ z. Ok ((y.0, z.0), z.1)) v b.2 in
-      let z : List A × State = d.0 in
-      let t : Took p.spells s y.0 y.1 = pl.sound s y.0 y.1 b.1 in
-      let u : Took (many p).spells y.1 z.0 z.1 = many_sound (length y.1.left) y.1 z.0 z.1 d.1 in
-      let w : Took (some p).spells s (y.0 ∷ z.0) z.1 = record {
-        front = t.front ++ u.front;
-        left = t.left ∙ ap (λ (l : List WordView). t.front ++ l) u.left
-            ∙ sym (append_assoc t.front u.front z.1.left);
-        last = u.last ∙ ap (λ (m : ℕ). ended m u.front) t.last ∙ sym (ended_append s.last t.front u.front);
-        spelled = (
-          (y.0, z.0),
-          refl,
-          record { head = t.front; tail = u.front; whole = refl; first = t.spelled; second = u.spelled },
-        );
-      } in
-      let made : ((y.0, z.0), z.1) ≡ v = ok_is ((y.0, z.0), z.1) v d.2 in
-      let whole : (listed v.0, v.1) ≡ (xs, then) = ok_is (listed v.0, v.1) (xs, then) l.2 in
-      subst (λ (o : List A × State). Took (some p).spells s o.0 o.1)
-      (ap (λ (o : (A × List A) × State). (listed o.0, o.1)) made ∙ whole) w
+  pub some_sound : Sound (some p)
+  some_sound = mapped_sound listed (seq p (many p)) (seq_sound p (many p) pl.sound (λ s xs then e. many_sound
+      (length s.left) s xs then e))
 
   pub many_none : (n : ℕ) (s : State) → begins p.first s.left ≡ false
       → many_at p.first p.read n s ≡ Ok ([], s)
   many_none zero s miss = refl
-  many_none (suc n) s miss = ap (λ (b : Bool). cond b (p.read s >>= λ x. many_at p.first p.read n x.1 >>= λ y.
-      Ok (x.0 ∷ y.0, y.1)) (Ok ([], s))) miss
+  many_none (suc n) s miss = ap (λ (b : Bool). cond b (p.read s >>= and_others p n) (Ok ([], s))) miss
 
   begun_more : (first : Kinds) (e f : Bool) (head tail : List WordView) → e ≡ false → Begun first e head
       → Begun first f (head ++ tail)
@@ -129,12 +87,10 @@ module _ {A : Type 0} (p : Piece A) (pl : Lawful p) (solid : p.may_be_empty ≡ 
       ∙ is_begun p.first p.may_be_empty h.head (h.tail ++ rest) solid (pl.begun x h.head h.first) in
       let next : Stops p.more (h.tail ++ rest) = through_many p.first p.more h.tail rest apart
       (many_begun xs h.tail h.second) (stops_left p.more p.first rest stops) in
-      ap (λ (b : Bool). cond b (p.read (record { last = last; left = front ++ rest }) >>= λ x. many_at p.first
-      p.read n x.1 >>= λ y. Ok (x.0 ∷ y.0, y.1)) (Ok ([], record { last = last; left = front ++ rest })))
-      begun ∙ ap (λ (l : List WordView). p.read (record { last = last; left = l }) >>= λ x. many_at
-      p.first p.read n x.1 >>= λ y. Ok (x.0 ∷ y.0, y.1)) whole
-      ∙ ap (λ (r : Reading A). r >>= λ x. many_at p.first p.read n x.1 >>= λ y. Ok (x.0 ∷ y.0, y.1))
-      (pl.complete x h.head (h.tail ++ rest) last h.first next)
+      ap (λ (b : Bool). cond b (p.read (record { last = last; left = front ++ rest }) >>= and_others p n)
+      (Ok ([], record { last = last; left = front ++ rest }))) begun
+      ∙ ap (λ (l : List WordView). p.read (record { last = last; left = l }) >>= and_others p n) whole
+      ∙ ap (λ (r : Reading A). r >>= and_others p n) (pl.complete x h.head (h.tail ++ rest) last h.first next)
       ∙ ap (λ (r : Reading (List A)). r >>= λ y. Ok (x ∷ y.0, y.1))
       (many_again xs h.tail rest (ended last h.head) n apart fits h.second stops)
       ∙ ap (λ (m : ℕ). Ok (x ∷ xs, record { last = m; left = rest }))
@@ -162,14 +118,10 @@ module _ {A : Type 0} (p : Piece A) (pl : Lawful p) (solid : p.may_be_empty ≡ 
   none_left [] h = refl
   none_left (t ∷ ts) h = absurd (omega arith)
 
-  -- one that was read, and those behind it
-  abbrev pub one_more : ℕ → Reading A → Reading (List A)
-  one_more n r = r >>= λ x. many_at p.first p.read n x.1 >>= λ y. Ok (x.0 ∷ y.0, y.1)
-
   enough_step : (n m : ℕ) (s : State) (r : Reading A) → p.read s ≡ r → length s.left ≤ suc n
       → length s.left ≤ suc m
       → ((t : State) → length t.left ≤ n → length t.left ≤ m → many_at p.first p.read n t
-      ≡ many_at p.first p.read m t) → one_more n r ≡ one_more m r
+      ≡ many_at p.first p.read m t) → (r >>= and_others p n) ≡ (r >>= and_others p m)
   enough_step n m s (Ok x) e le lm again =
       let less : length x.1.left < length s.left = shorter s x.0 x.1 e in
       ap (λ (r : Reading (List A)). r >>= λ y. Ok (x.0 ∷ y.0, y.1)) (again x.1 (omega arith) (omega arith))
@@ -189,10 +141,10 @@ module _ {A : Type 0} (p : Piece A) (pl : Lawful p) (solid : p.may_be_empty ≡ 
   many_more_at last (t ∷ ts) x then hit e =
       let less : length then.left < suc (length ts) = shorter (record { last = last; left = t ∷ ts }) x then
       e in
-      ap (λ (b : Bool). cond b (p.read (record { last = last; left = t ∷ ts }) >>= λ x. many_at p.first p.read
-      (length ts) x.1 >>= λ y. Ok (x.0 ∷ y.0, y.1)) (Ok ([], record { last = last; left = t ∷ ts }))) hit
-      ∙ ap (λ (r : Reading A). r >>= λ x. many_at p.first p.read (length ts) x.1 >>= λ y. Ok
-      (x.0 ∷ y.0, y.1)) e ∙ ap (λ (r : Reading (List A)). r >>= λ y. Ok (x ∷ y.0, y.1))
+      ap (λ (b : Bool). cond b (p.read (record { last = last; left = t ∷ ts }) >>= and_others p (length ts))
+      (Ok ([], record { last = last; left = t ∷ ts }))) hit
+      ∙ ap (λ (r : Reading A). r >>= and_others p (length ts)) e
+      ∙ ap (λ (r : Reading (List A)). r >>= λ y. Ok (x ∷ y.0, y.1))
       (enough (length ts) (length then.left) then (omega arith) (omega arith))
 
   pub many_err_at : (last : ℕ) (left : List WordView) (f : Refusal) → begins p.first left ≡ true

@@ -11,6 +11,7 @@ use Rattle.graphql_grammar.specs.Words.{WordView, begins, ended, starting}
 use Rattle.graphql_grammar.specs.Pieces.{Piece, Reading, State, Wrong, ◌>>=◌, filtered, headed, item, located}
 use Rattle.graphql_grammar.specs.Pieces.{mapped, nested, nothing, optional, picked, picked_at, refused, seq}
 use Rattle.graphql_grammar.specs.Pieces.{sign, sign_or, take_picked, take_word, tested, word}
+use Rattle.graphql_grammar.specs.Spelling.{Parts}
 use Rattle.graphql_grammar.proofs.KindLemmas.{of_each}
 use Rattle.graphql_grammar.proofs.ReadingLemmas.{read_as, bind_ok, chosen, ended_append, or_false, or_left}
 use Rattle.graphql_grammar.proofs.ReadingLemmas.{or_right}
@@ -22,6 +23,33 @@ pub record Took {A : Type 0} (spells : A → List WordView → Type 0) (s : Stat
   pub left : s.left ≡ front ++ then.left
   pub last : then.last ≡ ended s.last front
   pub spelled : spells x front
+
+-- words that spell one thing, and words that spell another
+pub joined : {P Q : List WordView → Type 0} (head tail : List WordView) → P head → Q tail
+    → Parts P Q (head ++ tail)
+joined head tail h g = record { head = head; tail = tail; whole = refl; first = h; second = g }
+
+-- one thing was taken, and then another
+pub took_both : {A B : Type 0} {P : A → List WordView → Type 0} {Q : B → List WordView → Type 0}
+    {s between then : State} {x : A} {y : B} → Took P s x between → Took Q between y then
+    → Took (λ (z : A × B) front. Parts (P z.0) (Q z.1) front) s (x, y) then
+took_both {s} {then = then} t u = record {
+  front = t.front ++ u.front;
+  left = t.left ∙ ap (λ (l : List WordView). t.front ++ l) u.left
+      ∙ sym (append_assoc t.front u.front then.left);
+  last = u.last ∙ ap (λ (n : ℕ). ended n u.front) t.last ∙ sym (ended_append s.last t.front u.front);
+  spelled = joined t.front u.front t.spelled u.spelled;
+}
+
+-- the words that were taken spell something else, too
+pub took_as : {A B : Type 0} {P : A → List WordView → Type 0} {Q : B → List WordView → Type 0}
+    {s then : State} {x : A} (y : B) → Took P s x then
+    → ((front : List WordView) → P x front → Q y front) → Took Q s y then
+took_as y t so = record { front = t.front; left = t.left; last = t.last; spelled = so t.front t.spelled }
+
+-- what no words spell is taken at once
+pub took_none : {A : Type 0} {P : A → List WordView → Type 0} {s : State} (x : A) → P x [] → Took P s x s
+took_none x h = record { front = []; left = refl; last = refl; spelled = h }
 
 -- none of these kinds comes next
 abbrev pub Stops : Kinds → List WordView → Type 0
@@ -37,10 +65,14 @@ Begun first may_be_empty (t ∷ ts) = first t.kind ≡ true
 abbrev pub Apart : Kinds → Kinds → Type 0
 Apart more first = (kind : Kind) → first kind ≡ true → more kind ≡ false
 
+-- what a piece reads is spelled so
+abbrev pub Sound : {A : Type 0} → Piece A → Type 0
+Sound {A} p = (s : State) (x : A) (then : State) → p.read s ≡ Ok (x, then) → Took p.spells s x then
+
 -- what a piece reads is spelled so, and what is spelled so is read, whatever stands behind it that can't go
 -- on with it
 pub record Lawful {A : Type 0} (p : Piece A) : Type 0 where
-  pub sound : (s : State) (x : A) (then : State) → p.read s ≡ Ok (x, then) → Took p.spells s x then
+  pub sound : Sound p
   pub complete : (x : A) (front rest : List WordView) (last : ℕ) → p.spells x front → Stops p.more rest
       → p.read (record { last = last; left = front ++ rest })
       ≡ Ok (x, record { last = ended last front; left = rest })
@@ -105,11 +137,8 @@ took_picked : {A : Type 0} (pick : WordView → Option A) (kinds : Kinds) (wrong
     → Took (picked pick kinds wrong).spells (record { last = last; left = w ∷ ws }) x then
 took_picked pick kinds wrong fault last w ws None x then is e = absurd cc
 took_picked {A} pick kinds wrong fault last w ws (Some y) x then is e =
-    let t : Took (picked pick kinds wrong).spells (record { last = last; left = w ∷ ws }) y
-    (record { last = w.end; left = ws }) =
-    record { front = w ∷ []; left = refl; last = refl; spelled = (w, refl, is) } in
-    read_as (Took (picked pick kinds wrong).spells (record { last = last; left = w ∷ ws })
-    ) e t
+    read_as (Took (picked pick kinds wrong).spells (record { last = last; left = w ∷ ws })) e
+    (record { front = w ∷ []; left = refl; last = refl; spelled = (w, refl, is) })
 
 took_first : {A : Type 0} (pick : WordView → Option A) (kinds : Kinds) (wrong : Wrong) (fault : FaultKind)
     (last : ℕ) (left : List WordView) (x : A) (then : State) → take_picked pick fault left ≡ Ok (x, then)
@@ -133,11 +162,9 @@ sign_or_law kind wrong = record {
   sound = λ s x then e.
       let b = bind_ok (take_word (only kind) (wrong s.left) s.left) (λ y. Ok (tt, y.1)) (x, then) e in
       let y : WordView × State = b.0 in
-      let t : Took (word (only kind) wrong).spells s y.0 y.1 =
-      took_word (only kind) (wrong s.left) wrong s.last s.left y.0 y.1 b.1 in
-      let w : Took (sign_or kind wrong).spells s tt y.1 =
-      record { front = t.front; left = t.left; last = t.last; spelled = (y.0, t.spelled.0, t.spelled.1) } in
-      read_as (Took (sign_or kind wrong).spells s) b.2 w;
+      read_as (Took (sign_or kind wrong).spells s) b.2
+      (took_as tt (took_word (only kind) (wrong s.left) wrong s.last s.left y.0 y.1 b.1)
+      (λ _ h. (y.0, h.0, h.1)));
   complete = λ x front rest last h _.
       ap (λ (r : Reading WordView). r >>= λ y. Ok (tt, y.1)) (word_again (only kind) (wrong (front ++ rest))
       h.0 front rest last (h.1, h.2));
@@ -178,32 +205,15 @@ begun_both p q true f [] [] h g = g
 begun_both p q true f [] (t ∷ ts) h g = or_right (p t.kind) (q t.kind) g
 begun_both p q false f [] tail h g = absurd cc
 
-module _ {A B : Type 0} (p : Piece A) (q : Piece B) (pl : Lawful p) (ql : Lawful q) where
-  seq_sound : (s : State) (x : A × B) (then : State) → (seq p q).read s ≡ Ok (x, then)
-      → Took (seq p q).spells s x then
-  seq_sound s x then e =
-      let b = bind_ok (p.read s) (λ y. q.read y.1 >>= λ z. Ok ((y.0, z.0), z.1)) (x, then) e in
-      let y : A × State = b.0 in
-      let d = bind_ok (q.read y.1) (λ z. Ok ((y.0, z.0), z.1)) (x, then) b.2 in
-      let z : B × State = d.0 in
-      let t : Took p.spells s y.0 y.1 = pl.sound s y.0 y.1 b.1 in
-      let u : Took q.spells y.1 z.0 z.1 = ql.sound y.1 z.0 z.1 d.1 in
-      let w : Took (seq p q).spells s (y.0, z.0) z.1 = record {
-        front = t.front ++ u.front;
-        left = t.left ∙ ap (λ (l : List WordView). t.front ++ l) u.left
-            ∙ sym (append_assoc t.front u.front z.1.left);
-        last = u.last ∙ ap (λ (n : ℕ). ended n u.front) t.last ∙ sym (ended_append s.last t.front u.front);
-        spelled = record {
-          head = t.front;
-          tail = u.front;
-          whole = refl;
-          first = t.spelled;
-          second = u.spelled;
-        };
-      } in
-      read_as (Took (seq p q).spells s) d.2
-      w
+pub seq_sound : {A B : Type 0} (p : Piece A) (q : Piece B) → Sound p → Sound q → Sound (seq p q)
+seq_sound {A} {B} p q ps qs s x then e =
+    let b = bind_ok (p.read s) (λ y. q.read y.1 >>= λ z. Ok ((y.0, z.0), z.1)) (x, then) e in
+    let y : A × State = b.0 in
+    let d = bind_ok (q.read y.1) (λ z. Ok ((y.0, z.0), z.1)) (x, then) b.2 in
+    let z : B × State = d.0 in
+    read_as (Took (seq p q).spells s) d.2 (took_both (ps s y.0 y.1 b.1) (qs y.1 z.0 z.1 d.1))
 
+module _ {A B : Type 0} (p : Piece A) (q : Piece B) (pl : Lawful p) (ql : Lawful q) where
   seq_again : (x : A × B) (head tail rest : List WordView) (last : ℕ) → p.spells x.0 head → q.spells x.1 tail
       → Stops p.more (tail ++ rest) → Stops q.more rest
       → (seq p q).read (record { last = last; left = (head ++ tail) ++ rest })
@@ -217,7 +227,7 @@ module _ {A B : Type 0} (p : Piece A) (q : Piece B) (pl : Lawful p) (ql : Lawful
 
   pub seq_law : Apart p.more q.first → Lawful (seq p q)
   seq_law apart = record {
-    sound = seq_sound;
+    sound = seq_sound p q pl.sound ql.sound;
     complete = λ x front rest last h stops. rw h.whole
         (seq_again x h.head h.tail rest last h.first h.second (through q.first p.more q.more q.may_be_empty
         h.tail rest apart (ql.begun x.1 h.tail h.second) stops) (after_stops p.more q.more q.may_be_empty
@@ -229,15 +239,15 @@ module _ {A B : Type 0} (p : Piece A) (q : Piece B) (pl : Lawful p) (ql : Lawful
 
 -- ---- the same, said otherwise
 
+pub mapped_sound : {A B : Type 0} (f : A → B) (p : Piece A) → Sound p → Sound (mapped f p)
+mapped_sound {A} f p ps s x then e =
+    let b = bind_ok (p.read s) (λ y. Ok (f y.0, y.1)) (x, then) e in
+    let y : A × State = b.0 in
+    read_as (Took (mapped f p).spells s) b.2 (took_as (f y.0) (ps s y.0 y.1 b.1) (λ _ h. (y.0, refl, h)))
+
 pub mapped_law : {A B : Type 0} (f : A → B) (p : Piece A) → Lawful p → Lawful (mapped f p)
 mapped_law {A} {B} f p pl = record {
-  sound = λ s x then e.
-      let b = bind_ok (p.read s) (λ y. Ok (f y.0, y.1)) (x, then) e in
-      let y : A × State = b.0 in
-      let t : Took p.spells s y.0 y.1 = pl.sound s y.0 y.1 b.1 in
-      let w : Took (mapped f p).spells s (f y.0) y.1 =
-      record { front = t.front; left = t.left; last = t.last; spelled = (y.0, refl, t.spelled) } in
-      read_as (Took (mapped f p).spells s) b.2 w;
+  sound = mapped_sound f p pl.sound;
   complete = λ x front rest last h stops.
       ap (λ (r : Reading A). r >>= λ y. Ok (f y.0, y.1)) (pl.complete h.0 front rest last h.2 stops)
       ∙ ap (λ (b : B). Ok (b, record { last = ended last front; left = rest })) (sym h.1);
@@ -253,11 +263,8 @@ filtered_law {A} test wrong p pl = record {
       let b = bind_ok (p.read s) (tested test wrong) (x, then) e in
       let y : A × State = b.0 in
       elim (chosen (test y.0) (Ok y) (refused (wrong y.1.left) y.1.left) (Ok (x, then)) b.2) [
-        | inl (hit, is) ↦
-            let t : Took p.spells s y.0 y.1 = pl.sound s y.0 y.1 b.1 in
-            let w : Took (filtered test wrong p).spells s y.0 y.1 =
-            record { front = t.front; left = t.left; last = t.last; spelled = (t.spelled, hit) } in
-            read_as (Took (filtered test wrong p).spells s) is w
+        | inl (hit, is) ↦ read_as (Took (filtered test wrong p).spells s) is
+            (took_as y.0 (pl.sound s y.0 y.1 b.1) (λ _ h. (h, hit)))
         | inr (miss, is) ↦ absurd cc
       ];
   complete = λ x front rest last h stops.
@@ -292,14 +299,9 @@ module _ {A : Type 0} (p : Piece A) (pl : Lawful p) (solid : p.may_be_empty ≡ 
         | inl (hit, is) ↦
             let b = bind_ok (p.read s) (λ y. Ok (Some y.0, y.1)) (x, then) is in
             let y : A × State = b.0 in
-            let t : Took p.spells s y.0 y.1 = pl.sound s y.0 y.1 b.1 in
-            let w : Took (optional p).spells s (Some y.0) y.1 =
-            record { front = t.front; left = t.left; last = t.last; spelled = t.spelled } in
-            read_as (Took (optional p).spells s) b.2 w
-        | inr (miss, is) ↦
-            let w : Took (optional p).spells s None s =
-            record { front = []; left = refl; last = refl; spelled = refl } in
-            read_as (Took (optional p).spells s) is w
+            read_as (Took (optional p).spells s) b.2
+            (took_as (Some y.0) (pl.sound s y.0 y.1 b.1) (λ _ h. h))
+        | inr (miss, is) ↦ read_as (Took (optional p).spells s) is (took_none None refl)
       ]
 
   optional_again : (x : Option A) (front rest : List WordView) (last : ℕ) → (optional p).spells x front
@@ -348,9 +350,8 @@ module _ {A : Type 0} (p : Piece A) (pl : Lawful p) (solid : p.may_be_empty ≡ 
       let end : y.1.last ≡ ended 0 t.front = t.last ∙ end_of p.first p.may_be_empty t.front s.last solid
       begun in
       let span : (starting s.left, y.1.last) ≡ (starting t.front, ended 0 t.front) = cc in
-      let w : Took (located p).spells s (y.0, (starting s.left, y.1.last)) y.1 =
-      record { front = t.front; left = t.left; last = t.last; spelled = (t.spelled, span) } in
-      read_as (Took (located p).spells s) b.2 w
+      read_as (Took (located p).spells s) b.2
+      (record { front = t.front; left = t.left; last = t.last; spelled = (t.spelled, span) })
 
   located_again : (x : A × (ℕ × ℕ)) (front rest : List WordView) (last : ℕ) → (located p).spells x front
       → Stops p.more rest
@@ -405,8 +406,7 @@ pub headed_law : {A : Type 0} (kinds : Kinds) (p : Piece A) → Lawful p
     → each_kind (λ other. implied (p.first other) (kinds other)) ≡ true
     → each_kind (λ other. not (p.more other)) ≡ true → p.may_be_empty ≡ false → Lawful (headed kinds p)
 headed_law {A} kinds p pl first more solid = record {
-  sound = λ s x then e. let t : Took p.spells s x then =
-      pl.sound s x then e in record { front = t.front; left = t.left; last = t.last; spelled = t.spelled };
+  sound = λ s x then e. took_as x (pl.sound s x then e) (λ _ h. h);
   complete = λ x front rest last h stops. pl.complete x front rest last h (stops_none p.more more rest);
   begun = λ x front h. begun_within p.first kinds p.may_be_empty first solid front (pl.begun x front h);
 }
@@ -419,12 +419,7 @@ pub item_law : {A : Type 0} (kinds : Kinds) (wrong : Wrong) (p : Piece A) → La
 item_law {A} kinds wrong p pl first solid = record {
   sound = λ s x then e. elim (chosen (begins kinds s.left) (p.read s) (refused (wrong s.left) s.left)
       (Ok (x, then)) e) [
-        | inl (hit, is) ↦ let t : Took p.spells s x then = pl.sound s x then is in record {
-          front = t.front;
-          left = t.left;
-          last = t.last;
-          spelled = t.spelled;
-        }
+        | inl (hit, is) ↦ took_as x (pl.sound s x then is) (λ _ h. h)
         | inr (miss, is) ↦ absurd cc
       ];
   complete = λ x front rest last h stops.

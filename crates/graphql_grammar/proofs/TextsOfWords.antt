@@ -1,11 +1,9 @@
 -- The words of a text have their texts, and stand in it one behind the other.
-use Rattle.std.proofs.Common.{◌≡◌, ℕ, zero, suc, ◌≤◌, ◌+◌, ◌-◌, true, false, List, [], ◌∷◌, length, take}
-use Rattle.std.proofs.Common.{drop, Ok, Err, refl, arith}
+use Rattle.std.proofs.Common.{◌≡◌, ℕ, zero, suc, ◌≤◌, ◌+◌, ◌-◌, true, false, List, length, drop, Ok, Err}
+use Rattle.std.proofs.Common.{refl, arith}
 use Rattle.std.specs.Prelude.{None, Some}
 use Rattle.std.specs.List.{AllByRecursion}
-use Rattle.graphql_tokens.specs.First.{First, FirstReading, first_behind, first_of, read_behind}
-use Rattle.graphql_tokens.specs.Ignored.{ignored}
-use Rattle.graphql_tokens.specs.Lexemes.{Reading, lexeme}
+use Rattle.graphql_tokens.specs.First.{First, FirstReading, first_of}
 use Rattle.graphql_tokens.specs.declared.token.TokenErrorKind.{TokenErrorKind}
 use Rattle.graphql_tokens.specs.declared.token.TokenErrorKind.TheVariants as e
 use Rattle.graphql_tokens.specs.declared.token.TokenKind.{TokenKind}
@@ -23,26 +21,9 @@ use Rattle.graphql_grammar.specs.WordsOfText.{words_by, words_of, words_within, 
 -- ---- the text of the token that comes first
 
 text_of_first : (text : List ℕ) (f : First) → first_of text ≡ Ok (Some f) → IsTextOf f.kind f.text
-text_of_first text f is = by (drop (ignored text) text) is
-  where
-    by : (xs : List ℕ) → first_behind (ignored text) xs ≡ Ok (Some f) → IsTextOf f.kind f.text
-    by [] is = absurd cc
-    by (c ∷ cs) is = read (lexeme (c ∷ cs)) refl is
-      where
-        read : (r : Reading) → lexeme (c ∷ cs) ≡ r → read_behind (ignored text) (c ∷ cs) r ≡ Ok (Some f)
-            → IsTextOf f.kind f.text
-        read (Err e) stands is = absurd cc
-        read (Ok l) stands is =
-            let made : First = record {
-              passed = ignored text;
-              kind = l.kind;
-              text = take l.size (c ∷ cs);
-              rest = drop l.size (c ∷ cs);
-            } in
-            let same : made ≡ f = cc is in
-            let there : IsTextOf made.kind made.text =
-            record { bytes = c ∷ cs; size = l.size; token = stands; taken = refl } in
-            rw (← same) there
+text_of_first text f is =
+    let part = parts text f is in
+    record { bytes = drop f.passed text; size = length f.text; token = part.read; taken = part.bytes }
 
 -- ---- kinds of names
 
@@ -71,47 +52,15 @@ has : (kind : TokenKind) (text : List ℕ) (start end : ℕ) → IsTextOf kind t
 has t.Name text start end is = a_name text start end is
 has t.Int text start end is = record { name = λ h. absurd cc; int = λ h. is; float = λ h. absurd cc }
 has t.Float text start end is = record { name = λ h. absurd cc; int = λ h. absurd cc; float = λ h. is }
-has t.Bang text start end is = other (record { kind = k.Bang; text = text; start = start; end = end }) refl
-    refl refl
-has t.Dollar text start end is = other (record { kind = k.Dollar; text = text; start = start; end = end })
-    refl refl refl
-has t.Ampersand text start end is =
-    other (record { kind = k.Ampersand; text = text; start = start; end = end }) refl refl refl
-has t.LeftParen text start end is =
-    other (record { kind = k.LeftParen; text = text; start = start; end = end }) refl refl refl
-has t.RightParen text start end is =
-    other (record { kind = k.RightParen; text = text; start = start; end = end }) refl refl refl
-has t.Spread text start end is = other (record { kind = k.Spread; text = text; start = start; end = end })
-    refl refl refl
-has t.Colon text start end is = other (record { kind = k.Colon; text = text; start = start; end = end }) refl
-    refl refl
-has t.Equals text start end is = other (record { kind = k.Equals; text = text; start = start; end = end })
-    refl refl refl
-has t.At text start end is = other (record { kind = k.At; text = text; start = start; end = end }) refl refl
-    refl
-has t.LeftBracket text start end is =
-    other (record { kind = k.LeftBracket; text = text; start = start; end = end }) refl refl refl
-has t.RightBracket text start end is =
-    other (record { kind = k.RightBracket; text = text; start = start; end = end }) refl refl refl
-has t.LeftBrace text start end is =
-    other (record { kind = k.LeftBrace; text = text; start = start; end = end }) refl refl refl
-has t.Pipe text start end is = other (record { kind = k.Pipe; text = text; start = start; end = end }) refl
-    refl refl
-has t.RightBrace text start end is =
-    other (record { kind = k.RightBrace; text = text; start = start; end = end }) refl refl refl
-has t.String text start end is = other (record { kind = k.String; text = text; start = start; end = end })
-    refl refl refl
-has t.BlockString text start end is =
-    other (record { kind = k.BlockString; text = text; start = start; end = end }) refl refl refl
+has kind text start end is =
+    other (record { kind = word_kind kind text; text = text; start = start; end = end }) refl refl refl
 
 -- where a text stops being tokens is no name and no number
 no_text : (kind : TokenErrorKind)
     → (is_name (error_kind kind) ≡ false) × (only k.Int (error_kind kind) ≡ false)
     × (only k.Float (error_kind kind) ≡ false)
 no_text e.UnexpectedCharacter = (refl, refl, refl)
-no_text e.UnterminatedString = (refl, refl, refl)
-no_text e.InvalidEscape = (refl, refl, refl)
-no_text e.InvalidNumber = (refl, refl, refl)
+no_text kind = (refl, refl, refl)
 
 each_by : (allowed total : ℕ) (text : List ℕ) (r : FirstReading) (behind : ℕ → List ℕ → List WordView)
     → first_of text ≡ r → ((left : ℕ) (rest : List ℕ) → AllByRecursion HasItsText (behind left rest))

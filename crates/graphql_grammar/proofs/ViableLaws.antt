@@ -3,20 +3,20 @@ use Rattle.std.proofs.Common.{subst, ◌≡◌, ℕ, zero, suc, Bool, true, fals
 use Rattle.std.proofs.Common.{None, Ok, Err, ◌⊎◌, inl, inr, refl, sym, ap, ◌∙◌, append_assoc, length}
 use Rattle.std.proofs.lemmas.List.{append-nil}
 use Rattle.graphql_grammar.specs.declared.fault.FaultKind.TheVariants.{TooDeep}
-use Rattle.graphql_grammar.specs.declared.fault.Item.TheVariants as i
 use Rattle.graphql_grammar.specs.declared.kind.Kind.{Kind}
 use Rattle.graphql_grammar.specs.Kinds.{Kinds, only}
 use Rattle.graphql_grammar.specs.Refusals.{Viable}
-use Rattle.graphql_grammar.specs.Spelling.{spells_by}
+use Rattle.graphql_grammar.specs.Spelling.{Parts, spells_by}
 use Rattle.graphql_grammar.specs.Words.{WordView, begins, ended, starting}
-use Rattle.graphql_grammar.specs.Pieces.{Piece, Reading, Refusal, State, Wrong, ◌>>=◌, behind_sign, branch}
-use Rattle.graphql_grammar.specs.Pieces.{choose, filtered, headed, item, listed, located, many, many_at}
+use Rattle.graphql_grammar.specs.Pieces.{Piece, Refusal, State, Wrong, ◌>>=◌, behind_sign, branch}
+use Rattle.graphql_grammar.specs.Pieces.{filtered, headed, item, listed, located, many, many_at}
 use Rattle.graphql_grammar.specs.Pieces.{mapped, nested, nothing, optional, read_first, refused}
 use Rattle.graphql_grammar.specs.Pieces.{separated, separated_of, seq, sign, some}
 use Rattle.graphql_grammar.specs.Pieces.{tested}
 use Rattle.graphql_grammar.proofs.BlindLaws.{another, another_law}
 use Rattle.graphql_grammar.proofs.KindLemmas.{only_kind}
-use Rattle.graphql_grammar.proofs.PieceLaws.{Begun, Lawful, Took, optional_law, sign_law}
+use Rattle.graphql_grammar.proofs.ManyLaws.{and_others}
+use Rattle.graphql_grammar.proofs.PieceLaws.{Begun, Lawful, Took, joined, optional_law, sign_law}
 use Rattle.graphql_grammar.proofs.ReadingLemmas.{chosen}
 pub use Rattle.graphql_grammar.proofs.BeginsLaws.{Begins, Leads, begun_leads, leads_begins, bind_err}
 pub use Rattle.graphql_grammar.proofs.BeginsLaws.{is_only, bare_word, word_begins, picked_begins}
@@ -25,62 +25,47 @@ use Rattle.graphql_grammar.proofs.BeginsLaws.{at_once, refused_left, given_err}
 
 -- ---- one after the other
 
--- what is left behind words is behind those and more
-behind : (words front then others left : List WordView) → words ≡ front ++ then → then ≡ others ++ left
-    → words ≡ (front ++ others) ++ left
-behind words front then others left h g = simp (h, g, append_assoc)
+-- words that begin one thing begin it and another, which some words spell
+before : {A B : Type 0} {P : A → List WordView → Type 0} (Q : B → List WordView → Type 0)
+    {words left : List WordView} → Viable P words left → (y : B) (others : List WordView) → Q y others
+    → Viable (λ (z : A × B) front. Parts (P z.0) (Q z.1) front) words left
+before Q v y others h = record {
+  front = v.front;
+  more = v.more ++ others;
+  value = (v.value, y);
+  whole = v.whole;
+  spelled = rw (← append_assoc v.front v.more others) (joined (v.front ++ v.more) others v.spelled h);
+}
+
+-- words that begin another thing behind one that was taken begin both
+behind : {A B : Type 0} {P P2 : A → List WordView → Type 0} {Q : B → List WordView → Type 0} {s then : State}
+    {x : A} {left : List WordView} → Took P s x then
+    → ((y : A) (front : List WordView) → P y front → P2 y front) → Viable Q then.left left
+    → Viable (λ (z : A × B) front. Parts (P2 z.0) (Q z.1) front) s.left left
+behind {x = x} {left} t wider v = record {
+  front = t.front ++ v.front;
+  more = v.more;
+  value = (x, v.value);
+  whole = t.left ∙ ap (λ (l : List WordView). t.front ++ l) v.whole ∙ sym (append_assoc t.front v.front left);
+  spelled = rw (append_assoc t.front v.front v.more)
+      (joined t.front (v.front ++ v.more) (wider x t.front t.spelled) v.spelled);
+}
 
 module _ {A B : Type 0} {p p2 : Piece A} {q q2 : Piece B} (pl : Lawful p) (pb : Begins p p2)
     (qb : Begins q q2) where
-  in_first : (s : State) (e : Refusal) → p.read s ≡ Err e → Viable (seq p2 q2).spells s.left e.left
-  in_first s e h =
-      let v : Viable p2.spells s.left e.left = pb.viable s e h in
-      record {
-        front = v.front;
-        more = v.more ++ qb.words;
-        value = (v.value, qb.value);
-        whole = v.whole;
-        spelled = record {
-          head = v.front ++ v.more;
-          tail = qb.words;
-          whole = sym (append_assoc v.front v.more qb.words);
-          first = v.spelled;
-          second = qb.some;
-        };
-      }
-
-  in_second : (s : State) (e : Refusal) (y : A × State) → p.read s ≡ Ok y → q.read y.1 ≡ Err e
-      → Viable (seq p2 q2).spells s.left e.left
-  in_second s e y h g =
-      let t : Took p.spells s y.0 y.1 = pl.sound s y.0 y.1 h in
-      let v : Viable q2.spells y.1.left e.left = qb.viable y.1 e g in
-      record {
-        front = t.front ++ v.front;
-        more = v.more;
-        value = (y.0, v.value);
-        whole = behind s.left t.front y.1.left v.front e.left t.left v.whole;
-        spelled = record {
-          head = t.front;
-          tail = v.front ++ v.more;
-          whole = append_assoc t.front v.front v.more;
-          first = pb.wider y.0 t.front t.spelled;
-          second = v.spelled;
-        };
-      }
-
   seq_viable : (s : State) (e : Refusal) → (seq p q).read s ≡ Err e → Viable (seq p2 q2).spells s.left e.left
   seq_viable s e h = elim (bind_err {B = (A × B) × State} (p.read s) (λ y. q.read y.1 >>= λ z. Ok
       ((y.0, z.0), z.1)) e h) [
-        | inl g ↦ in_first s e g
-        | inr g ↦ let y : A × State =
-            g.0 in in_second s e y g.1 (given_err {B = A × B} (q.read y.1) (λ z. ((y.0, z.0), z.1)) e g.2)
+        | inl g ↦ before q2.spells (pb.viable s e g) qb.value qb.words qb.some
+        | inr g ↦ let y : A × State = g.0 in behind (pl.sound s y.0 y.1 g.1) pb.wider
+            (qb.viable y.1 e (given_err {B = A × B} (q.read y.1) (λ z. ((y.0, z.0), z.1)) e g.2))
       ]
 
   pub seq_begins : Begins (seq p q) (seq p2 q2)
   seq_begins = record {
     value = (pb.value, qb.value);
     words = pb.words ++ qb.words;
-    some = record { head = pb.words; tail = qb.words; whole = refl; first = pb.some; second = qb.some };
+    some = joined pb.words qb.words pb.some qb.some;
     wider = λ x front h. record {
       head = h.head;
       tail = h.tail;
@@ -242,57 +227,22 @@ module _ {A : Type 0} {p q : Piece A} (pl : Lawful p) (pb : Begins p q) where
     second = many_wider xs h.tail h.second;
   }
 
-  -- the next one is refused
-  in_next : (s : State) (e : Refusal) → p.read s ≡ Err e → Viable (many q).spells s.left e.left
-  in_next s e h =
-      let v : Viable q.spells s.left e.left = pb.viable s e h in
-      record {
-        front = v.front;
-        more = v.more;
-        value = v.value ∷ [];
-        whole = v.whole;
-        spelled = record {
-          head = v.front ++ v.more;
-          tail = [];
-          whole = sym (append-nil (v.front ++ v.more));
-          first = v.spelled;
-          second = refl;
-        };
-      }
-
-  -- one behind the next is refused
-  in_others : (s : State) (e : Refusal) (y : A × State) → p.read s ≡ Ok y
-      → Viable (many q).spells y.1.left e.left → Viable (many q).spells s.left e.left
-  in_others s e y h v =
-      let t : Took p.spells s y.0 y.1 = pl.sound s y.0 y.1 h in
-      record {
-        front = t.front ++ v.front;
-        more = v.more;
-        value = y.0 ∷ v.value;
-        whole = behind s.left t.front y.1.left v.front e.left t.left v.whole;
-        spelled = record {
-          head = t.front;
-          tail = v.front ++ v.more;
-          whole = append_assoc t.front v.front v.more;
-          first = pb.wider y.0 t.front t.spelled;
-          second = v.spelled;
-        };
-      }
-
-  -- one that was read, and those behind it
-  abbrev and_others : ℕ → A × State → Reading (List A)
-  and_others n x = many_at p.first p.read n x.1 >>= λ y. Ok (x.0 ∷ y.0, y.1)
+  -- the next one and those behind it are a list
+  as_list : {words left : List WordView} → Viable (seq q (many q)).spells words left
+      → Viable (many q).spells words left
+  as_list v =
+      record { front = v.front; more = v.more; value = listed v.value; whole = v.whole; spelled = v.spelled }
 
   many_viable : (n : ℕ) (s : State) (e : Refusal) → many_at p.first p.read n s ≡ Err e
       → Viable (many q).spells s.left e.left
   many_viable zero s e h = absurd cc
-  many_viable (suc n) s e h = elim (chosen (begins p.first s.left) (p.read s >>= and_others n) (Ok ([], s))
+  many_viable (suc n) s e h = elim (chosen (begins p.first s.left) (p.read s >>= and_others p n) (Ok ([], s))
       (Err e) h) [
-        | inl (hit, is) ↦ elim (bind_err (p.read s) (and_others n) e is) [
-          | inl g ↦ in_next s e g
-          | inr g ↦ let y : A × State = g.0 in in_others s e y g.1 (many_viable n y.1 e
+        | inl (hit, is) ↦ as_list (elim (bind_err (p.read s) (and_others p n) e is) [
+          | inl g ↦ before (many q).spells (pb.viable s e g) [] [] refl
+          | inr g ↦ let y : A × State = g.0 in behind (pl.sound s y.0 y.1 g.1) pb.wider (many_viable n y.1 e
               (given_err {B = List A} (many_at p.first p.read n y.1) (λ z. (y.0 ∷ z.0, z.1)) e g.2))
-        ]
+        ])
         | inr (miss, is) ↦ absurd cc
       ]
 
@@ -320,12 +270,6 @@ nothing_leads {A} wrong {q} = record {
 pub headed_leads : {A : Type 0} (kinds : Kinds) {p q : Piece A} → Leads p q
     → Leads (headed kinds p) (headed kinds q)
 headed_leads kinds leads = record { wider = leads.wider; viable = leads.viable }
-
--- one of two, by a flag
-pub choose_leads : {A : Type 0} (flag : Bool) {p p2 q q2 : Piece A} → Leads p p2 → Leads q q2
-    → Leads (choose flag p q) (choose flag p2 q2)
-choose_leads true pb qb = pb
-choose_leads false pb qb = qb
 
 module _ {A : Type 0} (pick pick2 : Kind → Piece A) (wrong : Wrong) (leads : (kind : Kind)
     → Leads (pick kind) (pick2 kind)) where

@@ -4,12 +4,11 @@ use Rattle.std.proofs.lemmas.List.{append-nil}
 use Rattle.graphql_grammar.specs.Words.{WordView}
 use Rattle.graphql_grammar.specs.Pieces.{Piece, Refusal, State, all_read, read_all}
 use Rattle.graphql_grammar.specs.Refusals.{Viable}
-use Rattle.graphql_grammar.proofs.PieceLaws.{Took}
+use Rattle.graphql_grammar.proofs.PieceLaws.{Sound, Took}
 use Rattle.graphql_grammar.proofs.ViableLaws.{Begins, bind_err}
 use Rattle.graphql_grammar.proofs.WholeBlind.{left_over}
 
-module _ {A : Type 0} {p q : Piece A} (sound : (s : State) (x : A) (then : State) → p.read s ≡ Ok (x, then)
-    → Took p.spells s x then) (pb : Begins p q) where
+module _ {A : Type 0} {p q : Piece A} (sound : Sound p) (pb : Begins p q) where
   -- what is left over stands behind what is spelled
   over_viable : (s : State) (e : Refusal) (y : A × State) → p.read s ≡ Ok y → all_read y.0 y.1.left ≡ Err e
       → Viable q.spells s.left e.left

@@ -3,10 +3,8 @@
 use Rattle.std.proofs.Common.{◌≡◌, ℕ, zero, suc, ◌+◌, ◌-◌, ◌<◌, ◌≤◌, true, List, [], ◌∷◌, length, map, take}
 use Rattle.std.proofs.Common.{drop, None, Some, Ok, Err, ◌⊎◌, inl, inr, refl, sym, ap, subst, ◌∙◌, arith}
 use Rattle.std.specs.Prelude.{slice_range}
-use Rattle.std.proofs.lemmas.List.{drop-drop, length-drop, length-take, take_min}
-use Rattle.graphql_tokens.specs.First.{First, FirstReading, first_behind, first_of, read_behind}
-use Rattle.graphql_tokens.specs.Ignored.{ignored}
-use Rattle.graphql_tokens.specs.Lexemes.{Reading, lexeme}
+use Rattle.std.proofs.lemmas.List.{drop-drop, length-drop}
+use Rattle.graphql_tokens.specs.First.{First, FirstReading, first_of}
 use Rattle.graphql_tokens.specs.Tokens.{Tokens, put_first, tokens_from, tokens_of}
 use Rattle.graphql_tokens.specs.declared.token.Token.{Token}
 use Rattle.graphql_tokens.specs.declared.token.TokenError.{TokenError}
@@ -31,24 +29,7 @@ name_clean text = name_passes is_token refl refl text
 
 kind_clean : (kind : TokenKind) (text : List ℕ) → is_token (word_kind kind text) ≡ true
 kind_clean t.Name text = name_clean text
-kind_clean t.Bang text = refl
-kind_clean t.Dollar text = refl
-kind_clean t.Ampersand text = refl
-kind_clean t.LeftParen text = refl
-kind_clean t.RightParen text = refl
-kind_clean t.Spread text = refl
-kind_clean t.Colon text = refl
-kind_clean t.Equals text = refl
-kind_clean t.At text = refl
-kind_clean t.LeftBracket text = refl
-kind_clean t.RightBracket text = refl
-kind_clean t.LeftBrace text = refl
-kind_clean t.Pipe text = refl
-kind_clean t.RightBrace text = refl
-kind_clean t.Int text = refl
-kind_clean t.Float text = refl
-kind_clean t.String text = refl
-kind_clean t.BlockString text = refl
+kind_clean kind text = refl
 
 all_clean : (text : List ℕ) (list : List Token) → AllClean (map (word_at text) list)
 all_clean text [] = tt
@@ -60,41 +41,12 @@ all_clean text (token ∷ list) =
 wrong_kind : (total : ℕ) (text : List ℕ) (kind : TokenErrorKind) (at : ℕ)
     → is_token (wrong total text (record { kind = kind; at = at })).kind ≡ true → ⊥
 wrong_kind total text wrongs.UnexpectedCharacter at is = absurd cc
-wrong_kind total text wrongs.UnterminatedString at is = absurd cc
-wrong_kind total text wrongs.InvalidEscape at is = absurd cc
-wrong_kind total text wrongs.InvalidNumber at is = absurd cc
+wrong_kind total text kind at is = absurd cc
 
 wrong_unclean : (total : ℕ) (text : List ℕ) (e : TokenError) → is_token (wrong total text e).kind ≡ true → ⊥
 wrong_unclean total text e is = wrong_kind total text e.kind e.at is
 
 -- ---- the word of the token that comes first
-
--- the bytes of a token that comes first stand at its place
-text_there : (text : List ℕ) (f : First) → first_of text ≡ Ok (Some f)
-    → f.text ≡ take (length f.text) (drop f.passed text)
-text_there text f is = by (drop (ignored text) text) refl is
-  where
-    by : (xs : List ℕ) → drop (ignored text) text ≡ xs → first_behind (ignored text) xs ≡ Ok (Some f)
-        → f.text ≡ take (length f.text) (drop f.passed text)
-    by [] here is = absurd cc
-    by (c ∷ cs) here is = read (lexeme (c ∷ cs)) is
-      where
-        read : (r : Reading) → read_behind (ignored text) (c ∷ cs) r ≡ Ok (Some f)
-            → f.text ≡ take (length f.text) (drop f.passed text)
-        read (Ok l) is =
-            let made : First = record {
-              passed = ignored text;
-              kind = l.kind;
-              text = take l.size (c ∷ cs);
-              rest = drop l.size (c ∷ cs);
-            } in
-            let same : made ≡ f = cc is in
-            let front : take l.size (c ∷ cs) ≡ take (length (take l.size (c ∷ cs))) (c ∷ cs) =
-            sym (take_min l.size (c ∷ cs)) ∙ ap (λ (n : ℕ). take n (c ∷ cs))
-            (sym (length-take l.size (c ∷ cs))) in
-            rw (← same) (front
-            ∙ ap (take (length (take l.size (c ∷ cs)))) (sym here))
-        read (Err e) is = absurd cc
 
 -- the word of a token that comes first behind a place is the word at the token there
 word_there : (text : List ℕ) (at : ℕ) (f : First) → at ≤ length text → first_of (drop at text) ≡ Ok (Some f)
@@ -106,7 +58,7 @@ word_there text at f within is =
     let end : length text - length f.rest ≡ at + f.passed + length f.text = omega (arith, part.whole) in
     let size : at + f.passed + length f.text - (at + f.passed) ≡ length f.text = omega arith in
     let bytes : f.text ≡ slice_range text (at + f.passed) (at + f.passed + length f.text) =
-    text_there (drop at text) f is ∙ ap (take (length f.text)) (drop-drop f.passed at text)
+    part.bytes ∙ ap (take (length f.text)) (drop-drop f.passed at text)
     ∙ ap (λ (n : ℕ). take n (drop (at + f.passed) text)) (sym size) in
     cc
 

@@ -1,5 +1,5 @@
 -- Where words are refused, as contracts speak of it.
-use Rattle.std.specs.Prelude.{◌≡◌, List, [], ◌∷◌, ◌++◌, Ok}
+use Rattle.std.specs.Prelude.{◌≡◌, List, [], ◌∷◌, ◌++◌, Ok, Err}
 use Rattle.graphql_grammar.specs.Words.{WordView}
 use Rattle.graphql_grammar.specs.Pieces.{Piece, Refusal, read_all}
 
@@ -31,3 +31,13 @@ pub record Viable {A : Type 0} (spells : A → List WordView
   pub value : A
   pub whole : words ≡ front ++ left
   pub spelled : spells value (front ++ more)
+
+-- what a piece refuses is refused for all words so far: none that begin with them are such
+abbrev pub RulesOut : {A : Type 0} → Piece A → (A → List WordView → Type 0) → Type 0
+RulesOut p spells = (words : List WordView) (e : Refusal) → read_all p words ≡ Err e
+    → RefusedWith spells words e
+
+-- what a piece refuses is refused no later than it has to be: the words before begin some that are such
+abbrev pub CanGoOn : {A : Type 0} → Piece A → (A → List WordView → Type 0) → Type 0
+CanGoOn p further = (words : List WordView) (e : Refusal) → read_all p words ≡ Err e
+    → Viable further words e.left

@@ -7,9 +7,10 @@ use Rattle.graphql_nodes.specs.declared.type_kind.TypeKind.TheVariants as t
 use Rattle.graphql_nodes.specs.declared.directive_location.DirectiveLocation.TheVariants as l
 use Rattle.graphql_nodes.specs.LocationTexts.{location_text}
 use Rattle.graphql_grammar.specs.declared.fault.Item.TheVariants as i
+use Rattle.graphql_grammar.specs.declared.kind.Kind.{Kind}
 use Rattle.graphql_grammar.specs.declared.kind.Kind.TheVariants as k
 use Rattle.graphql_grammar.specs.Kinds.{is_name, is_token, only}
-use Rattle.graphql_grammar.specs.Pieces.{item, separated}
+use Rattle.graphql_grammar.specs.Pieces.{Piece, choose, item, separated, seq, sign}
 use Rattle.graphql_grammar.specs.Words.{WordView}
 use Rattle.graphql_grammar.proofs.PieceLaws.{Lawful, picked_law}
 use Rattle.graphql_grammar.proofs.BlindLaws.{picked_blind}
@@ -23,16 +24,16 @@ use Rattle.graphql_productions.specs.Nodes.{name, node}
 use Rattle.graphql_productions.specs.Operations.{fragment_definition, is_operation_type, operation, shorthand}
 use Rattle.graphql_productions.specs.Operations.{variables}
 use Rattle.graphql_productions.specs.Selections.{fragment_name}
-use Rattle.graphql_productions.specs.TypeSystem.{described, described_pick, directive_body, enum_values}
-use Rattle.graphql_productions.specs.TypeSystem.{expecting, extended, extended_pick, extension}
+use Rattle.graphql_productions.specs.TypeSystem.{by_type_kind, described, described_pick, directive_body}
+use Rattle.graphql_productions.specs.TypeSystem.{enum_values, expecting, extended, extended_pick, extension}
 use Rattle.graphql_productions.specs.TypeSystem.{extension_body, fielded, fields, goes_on_type, input_values}
 use Rattle.graphql_productions.specs.TypeSystem.{is_described, is_description, is_extended, keyword, location}
 use Rattle.graphql_productions.specs.TypeSystem.{location_word, names_behind, no_described, no_location}
 use Rattle.graphql_productions.specs.TypeSystem.{parts, schema_body, schema_extension_body, system_definition}
 use Rattle.graphql_productions.specs.TypeSystem.{type_body}
-use Rattle.graphql_productions.proofs.TamePieces.{Nesting, Steady, Tame, begun_at, branch_tame, choose_tame}
-use Rattle.graphql_productions.proofs.TamePieces.{item_tame, led, located_tame, mapped_tame, nothing_tame}
-use Rattle.graphql_productions.proofs.TamePieces.{optional_tame, separated_tame, seq_tame, sign_tame}
+use Rattle.graphql_productions.proofs.TamePieces.{Led, Nesting, Steady, Tame, begun_at, branch_tame}
+use Rattle.graphql_productions.proofs.TamePieces.{choose_tame, item_tame, led, located_tame, mapped_tame}
+use Rattle.graphql_productions.proofs.TamePieces.{nothing_tame, optional_tame, separated_tame, seq_tame, sign_tame}
 use Rattle.graphql_productions.proofs.NodeLaws.{name_tame, node_tame}
 use Rattle.graphql_productions.proofs.DirectiveLaws.{directives_tame}
 use Rattle.graphql_productions.proofs.OperationLaws.{fragment_definition_tame, operation_tame, shorthand_tame}
@@ -42,11 +43,39 @@ use Rattle.graphql_productions.proofs.ExtensionParts.{extension_parts_tame, sche
 
 -- ---- definitions of the type system
 
+named_tame : (file : FileId) (kind : TypeKind) {A : Type 0} {p q : Piece A} → is_token (keyword kind) ≡ true
+    → Tame p q → Tame (seq (sign (keyword kind)) (seq (name file) p))
+    (seq (sign (keyword kind)) (seq (name file) q))
+unfolding name
+named_tame file kind token t =
+    seq_tame (sign_tame (keyword kind) token) (seq_tame (name_tame file) t refl) refl
+
+picked : {A : Type 0} (P : Piece A → Type 0) (flag : Bool) {p q : Piece A} → P p → P q → P (choose flag p q)
+picked P true h g = h
+picked P false h g = g
+
+-- what holds of the piece of each kind of types, and of another, holds of the one that is picked
+pub by_type_kind_each : {A : Type 0} (P : Piece A → Type 0) (kind : Kind) (p : TypeKind → Piece A)
+    {r : Piece A} → ((of : TypeKind) → P (p of)) → P r → P (by_type_kind kind p r)
+by_type_kind_each P kind p each other = picked P (only k.Scalar kind) (each t.Scalar)
+    (picked P (only k.Type kind) (each t.Object) (picked P (only k.Interface kind) (each t.Interface)
+    (picked P (only k.Union kind) (each t.Union) (picked P (only k.Enum kind) (each t.Enum)
+    (picked P (only k.Input kind) (each t.InputObject) other)))))
+
+by_type_kind_tame : {A : Type 0} (kind : Kind) (p q : TypeKind → Piece A) {r s : Piece A}
+    → ((of : TypeKind) → is_token (keyword of) ≡ true → Tame (p of) (q of)) → Led r s
+    → Led (by_type_kind kind p r) (by_type_kind kind q s)
+by_type_kind_tame kind p q each other = choose_tame (only k.Scalar kind) (led (each t.Scalar refl))
+    (choose_tame (only k.Type kind) (led (each t.Object refl))
+    (choose_tame (only k.Interface kind) (led (each t.Interface refl))
+    (choose_tame (only k.Union kind) (led (each t.Union refl))
+    (choose_tame (only k.Enum kind) (led (each t.Enum refl))
+    (choose_tame (only k.Input kind) (led (each t.InputObject refl)) other)))))
+
 type_body_tame : (file : FileId) (kind : TypeKind) (depth : ℕ) → is_token (keyword kind) ≡ true
     → Tame (type_body file kind depth) (type_body file kind (suc depth))
-unfolding type_body name
-type_body_tame file kind depth token = mapped_tame (seq_tame (sign_tame (keyword kind) token)
-    (seq_tame (name_tame file) (parts_tame file kind depth) refl) refl)
+unfolding type_body
+type_body_tame file kind depth token = mapped_tame (named_tame file kind token (parts_tame file kind depth))
 
 schema_body_tame : (file : FileId) → Nesting (schema_body file)
 unfolding schema_body directives directive_node arguments name
@@ -94,14 +123,10 @@ unfolding schema_body type_body directive_body parts fielded names_behind fields
 described_tame file depth = begun_at is_described goes_on_type (described_pick file (suc depth)) no_described
     k.Scalar (branch_tame is_described goes_on_type (described_pick file depth)
     (described_pick file (suc depth)) no_described (λ kind. choose_tame (only k.Schema kind)
-    (led (schema_body_tame file depth)) (choose_tame (only k.Scalar kind)
-    (led (type_body_tame file t.Scalar depth refl)) (choose_tame (only k.Type kind)
-    (led (type_body_tame file t.Object depth refl)) (choose_tame (only k.Interface kind)
-    (led (type_body_tame file t.Interface depth refl)) (choose_tame (only k.Union kind)
-    (led (type_body_tame file t.Union depth refl)) (choose_tame (only k.Enum kind)
-    (led (type_body_tame file t.Enum depth refl)) (choose_tame (only k.Input kind)
-    (led (type_body_tame file t.InputObject depth refl)) (choose_tame (only k.Directive kind)
-    (led (directive_body_tame file depth)) (nothing_tame no_described))))))))) refl refl refl)
+    (led (schema_body_tame file depth)) (by_type_kind_tame kind (λ of. type_body file of depth)
+    (λ of. type_body file of (suc depth)) (λ of token. type_body_tame file of depth token)
+    (choose_tame (only k.Directive kind) (led (directive_body_tame file depth)) (nothing_tame no_described))))
+    refl refl refl)
     (type_body_tame file t.Scalar depth refl) (type_body_tame file t.Scalar (suc depth) refl).law.begun
 
 pub system_definition_tame : (file : FileId) → Nesting (system_definition file)
@@ -114,9 +139,9 @@ system_definition_tame file depth =
 
 extension_body_tame : (file : FileId) (kind : TypeKind) (depth : ℕ) → is_token (keyword kind) ≡ true
     → Tame (extension_body file kind depth) (extension_body file kind (suc depth))
-unfolding extension_body name
-extension_body_tame file kind depth token = mapped_tame (seq_tame (sign_tame (keyword kind) token)
-    (seq_tame (name_tame file) (extension_parts_tame file kind depth) refl) refl)
+unfolding extension_body
+extension_body_tame file kind depth token =
+    mapped_tame (named_tame file kind token (extension_parts_tame file kind depth))
 
 schema_extension_body_tame : (file : FileId) → Nesting (schema_extension_body file)
 unfolding schema_extension_body
@@ -130,15 +155,11 @@ unfolding schema_extension_body extension_body parts fielded names_behind fields
 extended_tame file depth = begun_at is_extended goes_on_type (extended_pick file (suc depth))
     (expecting i.Extended) k.Scalar (branch_tame is_extended goes_on_type (extended_pick file depth)
     (extended_pick file (suc depth)) (expecting i.Extended) (λ kind. choose_tame (only k.Schema kind)
-    (led (schema_extension_body_tame file depth)) (choose_tame (only k.Scalar kind)
-    (led (extension_body_tame file t.Scalar depth refl)) (choose_tame (only k.Type kind)
-    (led (extension_body_tame file t.Object depth refl)) (choose_tame (only k.Interface kind)
-    (led (extension_body_tame file t.Interface depth refl)) (choose_tame (only k.Union kind)
-    (led (extension_body_tame file t.Union depth refl)) (choose_tame (only k.Enum kind)
-    (led (extension_body_tame file t.Enum depth refl)) (choose_tame (only k.Input kind)
-    (led (extension_body_tame file t.InputObject depth refl)) (nothing_tame (expecting i.Extended)))))))))
-    refl refl refl) (extension_body_tame file t.Scalar depth refl) (extension_body_tame file t.Scalar
-    (suc depth) refl).law.begun
+    (led (schema_extension_body_tame file depth)) (by_type_kind_tame kind
+    (λ of. extension_body file of depth) (λ of. extension_body file of (suc depth))
+    (λ of token. extension_body_tame file of depth token) (nothing_tame (expecting i.Extended)))) refl refl
+    refl) (extension_body_tame file t.Scalar depth refl) (extension_body_tame file t.Scalar (suc depth)
+    refl).law.begun
 
 extension_tame : (file : FileId) → Nesting (extension file)
 unfolding extension

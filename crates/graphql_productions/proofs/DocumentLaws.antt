@@ -12,8 +12,8 @@ use Rattle.graphql_grammar.specs.Pieces.{Piece, Reading, Refusal, State, ◌>>=�
 use Rattle.graphql_grammar.specs.Pieces.{many_at, read_all}
 use Rattle.graphql_grammar.specs.Words.{WordView, begins, ended}
 use Rattle.graphql_grammar.proofs.EndsLaws.{item_bounded}
-use Rattle.graphql_grammar.proofs.ManyLaws.{longer, some_sound}
-use Rattle.graphql_grammar.proofs.PieceLaws.{Begun, Stops, Took, apart}
+use Rattle.graphql_grammar.proofs.ManyLaws.{and_others, longer, some_sound}
+use Rattle.graphql_grammar.proofs.PieceLaws.{Begun, Stops, Took, apart, joined}
 use Rattle.graphql_grammar.proofs.ReadingLemmas.{and_true, bind_ok, chosen, ended_append, ok_is}
 use Rattle.graphql_productions.specs.Documents.{any_kind, definition, document, is_definition}
 use Rattle.graphql_productions.specs.Documents.{spells_document, spells_in_turn, takes_braces}
@@ -67,12 +67,8 @@ in_turn : (file : FileId) (depth : ℕ) (xs : List Definition) (words : List Wor
     → length words ≤ n → spells_in_turn file depth xs words
     → many_at any_kind (one file depth).read n (record { last = last; left = words })
     ≡ Ok (xs, record { last = ended last words; left = [] })
-in_turn file depth [] words last zero le h =
-    subst (λ (l : List WordView). many_at any_kind (one file depth).read zero
-    (record { last = last; left = l }) ≡ Ok ([], record { last = ended last l; left = [] })) (sym h) refl
-in_turn file depth [] words last (suc n) le h =
-    subst (λ (l : List WordView). many_at any_kind (one file depth).read (suc n)
-    (record { last = last; left = l }) ≡ Ok ([], record { last = ended last l; left = [] })) (sym h) refl
+in_turn file depth [] words last zero le h = rw h refl
+in_turn file depth [] words last (suc n) le h = rw h refl
 in_turn file depth (x ∷ xs) words last zero le h =
     let some_head : 0 < length h.head = longer (definition file depth) (definition_tame file depth).law refl
     (definition file depth).first false h.head refl ((definition_tame file depth).law.begun x h.head
@@ -86,13 +82,11 @@ in_turn file depth (x ∷ xs) words last (suc n) le h =
     let fits : length h.tail ≤ n = omega (arith, le, length-append h.head h.tail, ap length h.whole) in
     let begun : begins any_kind words ≡ true =
     begun_any words (omega (arith, length-append h.head h.tail, ap length h.whole)) in
-    ap (λ (b : Bool). cond b (p.read (record { last = last; left = words }) >>= λ y. many_at any_kind p.read n
-    y.1 >>= λ z. Ok (y.0 ∷ z.0, z.1)) (Ok ([], record { last = last; left = words }))) begun
-    ∙ ap (λ (l : List WordView). p.read (record { last = last; left = l }) >>= λ y. many_at any_kind
-    p.read n y.1 >>= λ z. Ok (y.0 ∷ z.0, z.1)) h.whole
-    ∙ ap (λ (r : Reading Definition). r >>= λ y. many_at any_kind p.read n y.1 >>= λ z. Ok
-    (y.0 ∷ z.0, z.1)) ((one_braced file depth).ends x h.head h.tail last h.first
-    (turn_ends file depth (takes_braces x) xs h.tail h.second.0 h.second.1))
+    ap (λ (b : Bool). cond b (p.read (record { last = last; left = words }) >>= and_others p n)
+    (Ok ([], record { last = last; left = words }))) begun
+    ∙ ap (λ (l : List WordView). p.read (record { last = last; left = l }) >>= and_others p n) h.whole
+    ∙ ap (λ (r : Reading Definition). r >>= and_others p n) ((one_braced file depth).ends x h.head h.tail last
+    h.first (turn_ends file depth (takes_braces x) xs h.tail h.second.0 h.second.1))
     ∙ ap (λ (r : Reading (List Definition)). r >>= λ z. Ok (x ∷ z.0, z.1)) (in_turn file depth xs h.tail
     (ended last h.head) n fits h.second.0) ∙ ap (λ (m : ℕ). Ok (x ∷ xs, record { last = m; left = [] }))
     (sym (ended_append last h.head h.tail) ∙ ap (λ (l : List WordView). ended last l) (sym h.whole))
@@ -156,11 +150,9 @@ turns : (file : FileId) (depth n : ℕ) (s : State) (xs : List Definition) (afte
 turns file depth zero s xs after e none = no_turn file depth s xs after (ok_is ([], s) (xs, after) e) none
 turns file depth (suc n) s xs after e none =
     let p : Piece Definition = one file depth in
-    elim (chosen (begins any_kind s.left) (p.read s >>= λ y. many_at any_kind p.read n y.1 >>= λ z. Ok
-    (y.0 ∷ z.0, z.1)) (Ok ([], s)) (Ok (xs, after)) e) [
+    elim (chosen (begins any_kind s.left) (p.read s >>= and_others p n) (Ok ([], s)) (Ok (xs, after)) e) [
       | inl (hit, is) ↦
-          let b = bind_ok (p.read s) (λ y. many_at any_kind p.read n y.1 >>= λ z. Ok (y.0 ∷ z.0, z.1))
-          (xs, after) is in
+          let b = bind_ok (p.read s) (and_others p n) (xs, after) is in
           let y : Definition × State = b.0 in
           let d = bind_ok (many_at any_kind p.read n y.1) (λ z. Ok (y.0 ∷ z.0, z.1)) (xs, after) b.2 in
           let z : List Definition × State = d.0 in
@@ -211,13 +203,8 @@ documents_are_one file depth words xs ys h g = ok_is xs ys (sym (document_again 
 many_spelled : (file : FileId) (depth : ℕ) (xs : List Definition) (words : List WordView)
     → spells_in_turn file depth xs words → (many (one file depth)).spells xs words
 many_spelled file depth [] words h = h
-many_spelled file depth (x ∷ xs) words h = record {
-  head = h.head;
-  tail = h.tail;
-  whole = h.whole;
-  first = h.first;
-  second = many_spelled file depth xs h.tail h.second.0;
-}
+many_spelled file depth (x ∷ xs) words h =
+    rw h.whole (joined h.head h.tail h.first (many_spelled file depth xs h.tail h.second.0))
 
 -- words that spell a document spell it as its production says
 pub as_spelled : (file : FileId) (depth : ℕ) (xs : List Definition) (words : List WordView)
@@ -226,11 +213,6 @@ as_spelled file depth [] words h = absurd h
 as_spelled file depth (x ∷ xs) words h = (
   (x, xs),
   refl,
-  record {
-    head = h.head;
-    tail = h.tail;
-    whole = h.whole;
-    first = h.first;
-    second = many_spelled file depth xs h.tail h.second.0;
-  },
+  rw h.whole (joined h.head h.tail h.first
+      (many_spelled file depth xs h.tail h.second.0)),
 )

@@ -1,8 +1,7 @@
 -- Where words are refused, none that begin with those up to the refused one spell a document.
-use Rattle.std.proofs.Common.{refl, ◌≡◌, ℕ, List, [], ◌∷◌, ◌++◌, Err}
+use Rattle.std.proofs.Common.{refl, ℕ, List, [], ◌∷◌, ◌++◌}
 use Rattle.graphql_nodes.specs.declared.source.FileId.{FileId}
-use Rattle.graphql_grammar.specs.Pieces.{Refusal, read_all}
-use Rattle.graphql_grammar.specs.Refusals.{RefusedWith, Unspelled, reads}
+use Rattle.graphql_grammar.specs.Refusals.{RefusedWith, RulesOut, Unspelled, reads}
 use Rattle.graphql_grammar.specs.Words.{WordView}
 use Rattle.graphql_grammar.proofs.WholeBlind.{unread_law}
 use Rattle.graphql_productions.specs.Documents.{document, spells_document}
@@ -17,8 +16,8 @@ unspelled file depth front [] h = λ xs spelled. h xs (document_again file depth
 unspelled file depth front (w ∷ ws) h =
     λ xs others spelled. h xs others (document_again file depth xs (front ++ w ∷ others) spelled)
 
-pub document_refused : (file : FileId) (depth : ℕ) (words : List WordView) (e : Refusal)
-    → read_all (document file depth) words ≡ Err e → RefusedWith (spells_document file depth) words e
+pub document_refused : (file : FileId) (depth : ℕ)
+    → RulesOut (document file depth) (spells_document file depth)
 document_refused file depth words e h =
     let r : RefusedWith (reads (document file depth)) words e = unread_law (document file depth)
     (some_blind (one_tame file depth).law refl (one_tame file depth).blind) words e h in

@@ -12,7 +12,7 @@ use Rattle.graphql_grammar.specs.declared.fault.Item.TheVariants as i
 use Rattle.graphql_grammar.specs.declared.kind.Kind.TheVariants as k
 use Rattle.graphql_grammar.specs.Kinds.{only}
 use Rattle.graphql_grammar.specs.Pieces.{Piece, filtered, located, optional, separated, seq, sign}
-use Rattle.graphql_grammar.proofs.EndsLaws.{Limits, branch_bounded, choose_bounded, filtered_bounded}
+use Rattle.graphql_grammar.proofs.EndsLaws.{Bounded, Limits, branch_bounded, choose_bounded, filtered_bounded}
 use Rattle.graphql_grammar.proofs.EndsLaws.{located_bounded, mapped_bounded, nothing_bounded, seq_bounded}
 use Rattle.graphql_grammar.proofs.PieceLaws.{Lawful, optional_law, sign_law}
 use Rattle.graphql_productions.specs.Directives.{arguments, directive_node, directives}
@@ -36,8 +36,8 @@ use Rattle.graphql_productions.proofs.DirectiveLaws.{directives_tame}
 use Rattle.graphql_productions.proofs.TypeSystemLaws.{argument_definitions_tame, optional_description_tame}
 use Rattle.graphql_productions.proofs.TypeSystemLaws.{roots_led}
 use Rattle.graphql_productions.proofs.ExtensionParts.{schema_extension_parts}
-use Rattle.graphql_productions.proofs.DefinitionLaws.{fragment_node_tame, locations_tame, operation_node_tame}
-use Rattle.graphql_productions.proofs.DefinitionLaws.{shorthand_node_tame}
+use Rattle.graphql_productions.proofs.DefinitionLaws.{by_type_kind_each, fragment_node_tame, locations_tame}
+use Rattle.graphql_productions.proofs.DefinitionLaws.{operation_node_tame, shorthand_node_tame}
 use Rattle.graphql_productions.proofs.EndsTypeSystem.{Braced, limits, mapped_braced, parts_braced, plain}
 use Rattle.graphql_productions.proofs.EndsTypeSystem.{schema_parts_braced, seq_braced}
 
@@ -86,13 +86,9 @@ module _ (file : FileId) (depth : ℕ) (about : Option NameView) (at : Option So
       let e : Described → Limits = λ made. limits (made_takes made) in
       branch_bounded is_described goes_on_type (described_pick file depth) no_described e
       (λ kind. choose_bounded (only k.Schema kind) e schema_body_braced
-      (choose_bounded (only k.Scalar kind) e (type_body_braced t.Scalar)
-      (choose_bounded (only k.Type kind) e (type_body_braced t.Object)
-      (choose_bounded (only k.Interface kind) e (type_body_braced t.Interface)
-      (choose_bounded (only k.Union kind) e (type_body_braced t.Union) (choose_bounded (only k.Enum kind)
-      e (type_body_braced t.Enum) (choose_bounded (only k.Input kind) e (type_body_braced t.InputObject)
-      (choose_bounded (only k.Directive kind) e directive_body_braced (nothing_bounded no_described
-      e))))))))) refl refl refl
+      (by_type_kind_each (λ p. Bounded p e) kind (λ of. type_body file of depth) type_body_braced
+      (choose_bounded (only k.Directive kind) e directive_body_braced (nothing_bounded no_described e))))
+      refl refl refl
 
 system_definition_braced : (file : FileId) (depth : ℕ) → Braced (system_definition file depth) takes_braces
 unfolding system_definition
@@ -141,13 +137,8 @@ module _ (file : FileId) (depth : ℕ) (at : Option SourceSpan) where
       let e : (Option SourceSpan → Definition) → Limits = λ made. limits (extends_takes made) in
       branch_bounded is_extended goes_on_type (extended_pick file depth) (expecting i.Extended) e
       (λ kind. choose_bounded (only k.Schema kind) e schema_extension_body_braced
-      (choose_bounded (only k.Scalar kind) e (extension_body_braced t.Scalar)
-      (choose_bounded (only k.Type kind) e (extension_body_braced t.Object)
-      (choose_bounded (only k.Interface kind) e (extension_body_braced t.Interface)
-      (choose_bounded (only k.Union kind) e (extension_body_braced t.Union)
-      (choose_bounded (only k.Enum kind) e (extension_body_braced t.Enum)
-      (choose_bounded (only k.Input kind) e (extension_body_braced t.InputObject)
-      (nothing_bounded (expecting i.Extended) e)))))))) refl refl refl
+      (by_type_kind_each (λ p. Bounded p e) kind (λ of. extension_body file of depth) extension_body_braced
+      (nothing_bounded (expecting i.Extended) e))) refl refl refl
 
 extension_braced : (file : FileId) (depth : ℕ) → Braced (extension file depth) takes_braces
 unfolding extension

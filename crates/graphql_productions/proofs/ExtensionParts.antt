@@ -13,7 +13,7 @@ use Rattle.graphql_grammar.specs.Pieces.{Piece, Wrong, filtered, many, mapped, o
 use Rattle.graphql_grammar.specs.Words.{WordView}
 use Rattle.graphql_grammar.specs.Kinds.{none}
 use Rattle.graphql_grammar.proofs.ViableLaws.{Begins, GoesOn, filtered_begins, none_goes_on}
-use Rattle.graphql_grammar.proofs.PieceLaws.{filtered_law}
+use Rattle.graphql_grammar.proofs.PieceLaws.{filtered_law, joined}
 use Rattle.graphql_grammar.proofs.BlindLaws.{filtered_blind}
 use Rattle.graphql_grammar.proofs.CleanLaws.{filtered_clean}
 use Rattle.graphql_productions.specs.Directives.{arguments, directive, directive_node, directives}
@@ -24,7 +24,7 @@ use Rattle.graphql_productions.specs.TypeSystem.{field_definition, fielded, fiel
 use Rattle.graphql_productions.specs.TypeSystem.{input_parts, input_value, input_values, is_none}
 use Rattle.graphql_productions.specs.TypeSystem.{names_behind, names_body, no_enum_value, optional_roots}
 use Rattle.graphql_productions.specs.TypeSystem.{parts, root, roots, scalar_parts, schema_parts, union_parts}
-use Rattle.graphql_productions.proofs.TamePieces.{Nesting, Tame, joined, mapped_tame, optional_tame, seq_tame}
+use Rattle.graphql_productions.proofs.TamePieces.{Nesting, Tame, mapped_tame, optional_tame, seq_tame}
 use Rattle.graphql_productions.proofs.NodeLaws.{braced}
 use Rattle.graphql_productions.proofs.DirectiveLaws.{directive_tame, directives_tame}
 use Rattle.graphql_productions.proofs.TypeSystemLaws.{parts_tame, roots_led}

@@ -29,7 +29,7 @@ use Rattle.graphql_productions.specs.TypeSystem.{extension_body, has_part, is_de
 use Rattle.graphql_productions.specs.TypeSystem.{is_none, keyword, location, no_described, optional_roots}
 use Rattle.graphql_productions.specs.TypeSystem.{schema_body, schema_extension_body, schema_parts}
 use Rattle.graphql_productions.specs.TypeSystem.{system_definition, type_body}
-use Rattle.graphql_productions.proofs.DefinitionLaws.{system_definition_tame}
+use Rattle.graphql_productions.proofs.DefinitionLaws.{by_type_kind_each, system_definition_tame}
 use Rattle.graphql_productions.proofs.PartLaws.{Covered, Holds, Serves, Yields, anything, begun_front}
 use Rattle.graphql_productions.proofs.PartLaws.{branch_covered, branch_yields, choose_covered, choose_yields}
 use Rattle.graphql_productions.proofs.PartLaws.{filtered_yields, inside, item_covered, join, listed_covered}
@@ -89,12 +89,9 @@ module _ {asked : TreePart → Type 0} {file : FileId} {Known : List WordView �
 
   described_yields : (depth : ℕ) → Yields Known (described file depth) IsDescribed
   described_yields depth = branch_yields (described_pick file depth) no_described
-      (λ kind. choose_yields (only k.Schema kind) (schema_yields depth) (choose_yields (only k.Scalar kind)
-      (type_yields t.Scalar depth) (choose_yields (only k.Type kind) (type_yields t.Object depth)
-      (choose_yields (only k.Interface kind) (type_yields t.Interface depth)
-      (choose_yields (only k.Union kind) (type_yields t.Union depth) (choose_yields (only k.Enum kind)
-      (type_yields t.Enum depth) (choose_yields (only k.Input kind) (type_yields t.InputObject depth)
-      (choose_yields (only k.Directive kind) (directive_yields depth) (nothing_yields no_described)))))))))
+      (λ kind. choose_yields (only k.Schema kind) (schema_yields depth) (by_type_kind_each
+      (λ p. Yields Known p IsDescribed) kind (λ of. type_body file of depth) (λ of. type_yields of depth)
+      (choose_yields (only k.Directive kind) (directive_yields depth) (nothing_yields no_described))))
 
   system_covered : (depth : ℕ) → Covered serves (system_definition file depth) definition_parts
   unfolding system_definition
@@ -151,11 +148,8 @@ module _ {asked : TreePart → Type 0} {file : FileId} {Known : List WordView �
   extended_yields : (depth : ℕ) → Yields Known (extended file depth) IsExtension
   extended_yields depth = branch_yields (extended_pick file depth) (expecting i.Extended)
       (λ kind. choose_yields (only k.Schema kind) (schema_extension_yields depth)
-      (choose_yields (only k.Scalar kind) (extension_yields t.Scalar depth) (choose_yields (only k.Type kind)
-      (extension_yields t.Object depth) (choose_yields (only k.Interface kind) (extension_yields t.Interface
-      depth) (choose_yields (only k.Union kind) (extension_yields t.Union depth)
-      (choose_yields (only k.Enum kind) (extension_yields t.Enum depth) (choose_yields (only k.Input kind)
-      (extension_yields t.InputObject depth) (nothing_yields (expecting i.Extended)))))))))
+      (by_type_kind_each (λ p. Yields Known p IsExtension) kind (λ of. extension_body file of depth)
+      (λ of. extension_yields of depth) (nothing_yields (expecting i.Extended))))
 
   extension_covered : (depth : ℕ) → Covered serves (extension file depth) definition_parts
   unfolding extension

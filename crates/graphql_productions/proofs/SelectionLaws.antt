@@ -12,8 +12,9 @@ use Rattle.graphql_grammar.specs.declared.fault.FaultKind.TheVariants.{TooDeep}
 use Rattle.graphql_grammar.specs.declared.kind.Kind.TheVariants as k
 use Rattle.graphql_grammar.specs.declared.kind.Names.TheVariants as names
 use Rattle.graphql_grammar.specs.Kinds.{is_name, names_of, only}
-use Rattle.graphql_grammar.specs.Pieces.{Piece, headed, some}
+use Rattle.graphql_grammar.specs.Pieces.{Piece, headed}
 use Rattle.graphql_grammar.specs.Words.{WordView, ended, starting}
+use Rattle.graphql_grammar.proofs.PieceLaws.{joined}
 use Rattle.graphql_grammar.proofs.ViableLaws.{bare_word}
 use Rattle.graphql_productions.specs.Directives.{arguments, directive_node, directives}
 use Rattle.graphql_productions.specs.Documents.{any_kind, selections, selections_pick}
@@ -26,7 +27,7 @@ use Rattle.graphql_productions.specs.Selections.{no_fragment_name, no_selection,
 use Rattle.graphql_productions.specs.Selections.{selection_set, selections_of, spread_at, spread_body}
 use Rattle.graphql_productions.specs.Selections.{spread_of, type_condition}
 use Rattle.graphql_productions.proofs.TamePieces.{Nesting, Steady, Tame, begun, begun_at, branch_tame}
-use Rattle.graphql_productions.proofs.TamePieces.{choose_tame, headed_led, headed_tame, joined, led}
+use Rattle.graphql_productions.proofs.TamePieces.{choose_tame, headed_led, headed_tame, led}
 use Rattle.graphql_productions.proofs.TamePieces.{located_tame, mapped_tame, nothing_tame, optional_tame}
 use Rattle.graphql_productions.proofs.TamePieces.{seq_tame, sign_tame, some_tame, word_tame}
 use Rattle.graphql_productions.proofs.NodeLaws.{between_tame, name_tame, node_tame}

@@ -1,18 +1,17 @@
 -- Tame pieces: what is read is spelled so, and the other way round; reading looks at one word ahead only;
 -- what is spelled is tokens alone; and the words before a refused one begin what is spelled.
-use Rattle.std.proofs.Common.{◌≡◌, ℕ, suc, Bool, true, false, not, ◌&&◌, ◌++◌, List, refl}
+use Rattle.std.proofs.Common.{◌≡◌, ℕ, suc, Bool, true, false, not, ◌&&◌, List, refl}
 use Rattle.graphql_grammar.specs.declared.kind.Kind.{Kind}
 use Rattle.graphql_grammar.specs.Kinds.{Kinds, each_kind, either_of, is_token, none, only}
 use Rattle.graphql_grammar.specs.Pieces.{Piece, Wrong, branch, choose, headed, item, located, many, mapped}
 use Rattle.graphql_grammar.specs.Pieces.{nothing, optional, separated, seq, sign, sign_or, some, word}
-use Rattle.graphql_grammar.specs.Spelling.{Parts}
 use Rattle.graphql_grammar.specs.Words.{WordView}
-use Rattle.graphql_grammar.proofs.BlindLaws.{Blind, branch_blind, choose_blind, headed_blind, item_blind}
+use Rattle.graphql_grammar.proofs.BlindLaws.{Blind, branch_blind, headed_blind, item_blind}
 use Rattle.graphql_grammar.proofs.BlindLaws.{located_blind, many_blind, mapped_blind, nothing_blind}
 use Rattle.graphql_grammar.proofs.BlindLaws.{optional_blind, separated_blind, seq_blind, sign_or_blind}
 use Rattle.graphql_grammar.proofs.BlindLaws.{some_blind, word_blind}
-use Rattle.graphql_grammar.proofs.BranchLaws.{branch_law, either_law, goes_on_with}
-use Rattle.graphql_grammar.proofs.CleanLaws.{Spotless, all_tokens, branch_clean, choose_clean, headed_clean}
+use Rattle.graphql_grammar.proofs.BranchLaws.{branch_law, goes_on_with}
+use Rattle.graphql_grammar.proofs.CleanLaws.{Spotless, all_tokens, branch_clean, headed_clean}
 use Rattle.graphql_grammar.proofs.CleanLaws.{item_clean, located_clean, many_clean, mapped_clean}
 use Rattle.graphql_grammar.proofs.CleanLaws.{nothing_clean, optional_clean, separated_clean, seq_clean}
 use Rattle.graphql_grammar.proofs.CleanLaws.{sign_or_clean, some_clean, word_clean}
@@ -22,7 +21,7 @@ use Rattle.graphql_grammar.proofs.PieceLaws.{Apart, Begun, Lawful, headed_law, i
 use Rattle.graphql_grammar.proofs.PieceLaws.{mapped_law, nothing_law, optional_law, seq_law, sign_or_law}
 use Rattle.graphql_grammar.proofs.PieceLaws.{word_law}
 use Rattle.graphql_grammar.proofs.SeparatedLaws.{separated_law}
-use Rattle.graphql_grammar.proofs.ViableLaws.{Begins, Leads, begun_leads, branch_leads, choose_leads}
+use Rattle.graphql_grammar.proofs.ViableLaws.{Begins, Leads, begun_leads, branch_leads}
 use Rattle.graphql_grammar.proofs.ViableLaws.{headed_begins, headed_leads, item_begins, leads_begins}
 use Rattle.graphql_grammar.proofs.ViableLaws.{located_begins, many_begins, mapped_begins, nothing_leads}
 use Rattle.graphql_grammar.proofs.ViableLaws.{optional_begins, picked_by, separated_begins, seq_begins}
@@ -167,12 +166,8 @@ separated_tame kind {p} t token solid far before = record {
 
 pub choose_tame : {A : Type 0} (flag : Bool) {p p2 q q2 : Piece A} → Led p p2 → Led q q2
     → Led (choose flag p q) (choose flag p2 q2)
-choose_tame flag {p} {p2} {q} t u = record {
-  law = either_law flag p q t.law u.law;
-  blind = choose_blind flag t.blind u.blind;
-  clean = choose_clean flag t.clean u.clean;
-  goes = choose_leads flag t.goes u.goes;
-}
+choose_tame true t u = t
+choose_tame false t u = u
 
 pub branch_tame : {A : Type 0} (first more : Kinds) (pick pick2 : Kind → Piece A) (wrong : Wrong)
     → ((kind : Kind) → Led (pick kind) (pick2 kind)) → each_kind (λ kind. not (pick kind).may_be_empty) ≡ true
@@ -231,8 +226,3 @@ item_tame kinds wrong {p} t within solid = record {
   clean = item_clean wrong t.clean;
   goes = item_begins kinds wrong t.goes;
 }
-
--- words that spell one thing, and words that spell another
-pub joined : {P Q : List WordView → Type 0} (head tail : List WordView) → P head → Q tail
-    → Parts P Q (head ++ tail)
-joined head tail h g = record { head = head; tail = tail; whole = refl; first = h; second = g }

@@ -1,14 +1,17 @@
 -- Input values are tame.
-use Rattle.std.proofs.Common.{Bool, [], false, refl, suc, true, zero, ℕ, ◌∷◌}
+use Rattle.std.proofs.Common.{◌≡◌, Bool, [], false, refl, suc, true, zero, ℕ, ◌∷◌}
 use Rattle.graphql_nodes.specs.declared.source.FileId.{FileId}
 use Rattle.graphql_nodes.specs.NodeView.{NodeView}
 use Rattle.graphql_ast.specs.declared.value.Value.{Value, roll-Value}
 use Rattle.graphql_ast.specs.declared.value.Value.TheOpen.{Value-F}
 use Rattle.graphql_grammar.specs.declared.fault.FaultKind.TheVariants.{TooDeep, VariableInConstant}
+use Rattle.graphql_grammar.specs.declared.kind.Kind.{Kind}
 use Rattle.graphql_grammar.specs.declared.kind.Kind.TheVariants as k
 use Rattle.graphql_grammar.specs.Kinds.{is_name, none, only}
-use Rattle.graphql_grammar.specs.Pieces.{Piece, headed}
-use Rattle.graphql_grammar.proofs.ViableLaws.{bare_word}
+use Rattle.graphql_grammar.specs.Pieces.{Piece, headed, mapped, word}
+use Rattle.graphql_grammar.specs.Words.{WordView}
+use Rattle.graphql_grammar.proofs.CleanLaws.{all_tokens}
+use Rattle.graphql_grammar.proofs.ViableLaws.{bare_word, is_only}
 use Rattle.graphql_productions.specs.Nodes.{name, node}
 use Rattle.graphql_productions.specs.Values.{block_value, enum_value, false_value, float_value, group}
 use Rattle.graphql_productions.specs.Values.{group_pick, int_value, is_group, is_value, list_of, member}
@@ -20,33 +23,10 @@ use Rattle.graphql_productions.proofs.TamePieces.{headed_led, headed_tame, led, 
 use Rattle.graphql_productions.proofs.TamePieces.{nothing_tame, seq_tame, sign_tame, word_tame}
 use Rattle.graphql_productions.proofs.NodeLaws.{between_tame, name_tame, node_tame}
 
-int_tame : Steady int_value
-unfolding int_value
-int_tame = mapped_tame (word_tame (only k.Int) no_value k.Int refl refl)
-
-float_tame : Steady float_value
-unfolding float_value
-float_tame = mapped_tame (word_tame (only k.Float) no_value k.Float refl refl)
-
-quoted_tame : Steady quoted_value
-unfolding quoted_value
-quoted_tame = mapped_tame (word_tame (only k.String) no_value k.String refl refl)
-
-block_tame : Steady block_value
-unfolding block_value
-block_tame = mapped_tame (word_tame (only k.BlockString) no_value k.BlockString refl refl)
-
-true_tame : Steady true_value
-unfolding true_value
-true_tame = mapped_tame (sign_tame k.True refl)
-
-false_tame : Steady false_value
-unfolding false_value
-false_tame = mapped_tame (sign_tame k.False refl)
-
-null_tame : Steady null_value
-unfolding null_value
-null_tame = mapped_tame (sign_tame k.Null refl)
+-- a value that is one word of a kind
+worded : {f : WordView → Value} (kind : Kind) → all_tokens (only kind) ≡ true
+    → Steady (mapped f (word (only kind) no_value))
+worded kind tokens = mapped_tame (word_tame (only kind) no_value kind (is_only kind) tokens)
 
 enum_tame : (file : FileId) → Steady (enum_value file)
 unfolding enum_value
@@ -73,10 +53,13 @@ unfolding int_value float_value quoted_value block_value true_value false_value 
 value_by_tame file constant p q t =
     begun (branch_tame is_value none (value_pick file constant (headed is_group p))
     (value_pick file constant (headed is_group q)) no_value (λ kind. choose_tame (only k.Int kind)
-    (led int_tame) (choose_tame (only k.Float kind) (led float_tame) (choose_tame (only k.String kind)
-    (led quoted_tame) (choose_tame (only k.BlockString kind) (led block_tame) (choose_tame (only k.True kind)
-    (led true_tame) (choose_tame (only k.False kind) (led false_tame) (choose_tame (only k.Null kind)
-    (led null_tame) (choose_tame (only k.Dollar kind) (variable_value_tame file constant)
+    (led (worded k.Int refl)) (choose_tame (only k.Float kind) (led (worded k.Float refl))
+    (choose_tame (only k.String kind) (led (worded k.String refl)) (choose_tame (only k.BlockString kind)
+    (led (worded k.BlockString refl)) (choose_tame (only k.True kind)
+    (led (mapped_tame (sign_tame k.True refl))) (choose_tame (only k.False kind)
+    (led (mapped_tame (sign_tame k.False refl))) (choose_tame (only k.Null kind)
+    (led (mapped_tame (sign_tame k.Null refl))) (choose_tame (only k.Dollar kind)
+    (variable_value_tame file constant)
     (choose_tame (is_group kind) t (choose_tame (is_name kind) (led (enum_tame file))
     (nothing_tame no_value))))))))))) refl refl refl) (roll-Value (Value-F.Int [])) (bare_word k.Int
     ∷ []) (bare_word k.Int, refl, (refl, refl))

@@ -5,10 +5,11 @@ pub mod Locations
 pub mod Nodes
 pub mod Operations
 pub mod Places
+pub mod Refusing
 pub mod SelectionParts
 pub mod Selections
 pub mod TreeParts
-pub mod Types
 pub mod TypeSystem
+pub mod Types
 pub mod Values
 pub mod WellFormed

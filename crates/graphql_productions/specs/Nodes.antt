@@ -9,8 +9,8 @@ use Rattle.graphql_grammar.specs.declared.fault.FaultKind.TheVariants.{Expected}
 use Rattle.graphql_grammar.specs.declared.fault.Item.TheVariants as i
 use Rattle.graphql_grammar.specs.declared.kind.Kind.{Kind}
 use Rattle.graphql_grammar.specs.Kinds.{is_name, only}
-use Rattle.graphql_grammar.specs.Pieces.{Piece, Wrong, headed, located, mapped, nested, seq, sign, sign_or}
-use Rattle.graphql_grammar.specs.Pieces.{word}
+use Rattle.graphql_grammar.specs.Pieces.{Piece, Wrong, headed, located, mapped, nested, optional, seq, sign}
+use Rattle.graphql_grammar.specs.Pieces.{sign_or, some, word}
 use Rattle.graphql_grammar.specs.Words.{WordView}
 
 -- the bytes from the first of these up to the second
@@ -50,6 +50,11 @@ enclosed opening closing wrong depth p =
 abbrev pub or_none : {A : Type 0} → Option (List A) → List A
 or_none None = []
 or_none (Some xs) = xs
+
+-- one item or more between such signs, if the first is there
+abbrev pub optional_list : {A : Type 0} → Kind → Kind → Wrong → ℕ → (ℕ → Piece A) → Piece (List A)
+optional_list opening closing wrong depth item =
+    mapped or_none (optional (enclosed opening closing wrong depth (λ inside. some (item inside))))
 
 -- what stands behind a sign
 abbrev pub behind : {A : Type 0} → Unit {0} × A → A

@@ -18,9 +18,9 @@ use Rattle.graphql_grammar.specs.declared.kind.Kind.{Kind}
 use Rattle.graphql_grammar.specs.declared.kind.Kind.TheVariants as k
 use Rattle.graphql_grammar.specs.Kinds.{Kinds, is_name, none, only}
 use Rattle.graphql_grammar.specs.Pieces.{Piece, Wrong, branch, choose, headed, item, mapped, nothing}
-use Rattle.graphql_grammar.specs.Pieces.{optional, seq, sign, some}
+use Rattle.graphql_grammar.specs.Pieces.{optional, seq, sign}
 use Rattle.graphql_productions.specs.Directives.{directives}
-use Rattle.graphql_productions.specs.Nodes.{behind, enclosed, name, node, or_none}
+use Rattle.graphql_productions.specs.Nodes.{behind, name, node, optional_list}
 use Rattle.graphql_productions.specs.Selections.{fragment_name, selection_set, type_condition}
 use Rattle.graphql_productions.specs.Types.{type}
 use Rattle.graphql_productions.specs.Values.{value_node, variable}
@@ -81,9 +81,7 @@ variable_definition file depth = item (only k.Dollar) no_variable (variable_node
 -- VariablesDefinition, if there is one
 unfoldable pub variables : FileId → ℕ → Piece (List (NodeView VariableDefinition))
 variables file depth =
-    mapped or_none
-    (optional (enclosed k.LeftParen k.RightParen no_variable depth
-    (λ inside. some (variable_definition file inside))))
+    optional_list k.LeftParen k.RightParen no_variable depth (variable_definition file)
 
 -- an operation of its parts
 abbrev pub operation_of : OperationType

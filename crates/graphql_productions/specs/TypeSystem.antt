@@ -36,7 +36,8 @@ use Rattle.graphql_grammar.specs.Pieces.{mapped, nothing, optional, picked, sepa
 use Rattle.graphql_grammar.specs.Words.{WordView, begins}
 use Rattle.graphql_productions.specs.Directives.{directives}
 use Rattle.graphql_productions.specs.Locations.{location_of}
-use Rattle.graphql_productions.specs.Nodes.{behind, enclosed, name, name_of, node, or_none, span_at}
+use Rattle.graphql_productions.specs.Nodes.{behind, enclosed, name, name_of, node, optional_list, or_none}
+use Rattle.graphql_productions.specs.Nodes.{span_at}
 use Rattle.graphql_productions.specs.Operations.{is_operation_type, no_root, operation_type, typed}
 use Rattle.graphql_productions.specs.Types.{type}
 
@@ -96,9 +97,7 @@ input_value file depth = item is_described_name (expecting i.InputValue) (input_
 -- input values between these signs, if there are any: ArgumentsDefinition, InputFieldsDefinition
 unfoldable pub input_values : FileId → Kind → Kind → ℕ → Piece (List (NodeView InputValueDefinition))
 input_values file opening closing depth =
-    mapped or_none
-    (optional (enclosed opening closing (expecting i.InputValue) depth
-    (λ inside. some (input_value file inside))))
+    optional_list opening closing (expecting i.InputValue) depth (input_value file)
 
 -- ---- fields: section 3.6
 
@@ -131,9 +130,7 @@ field_definition file depth = item is_described_name (expecting i.FieldDefinitio
 -- FieldsDefinition, if there is one
 unfoldable pub fields : FileId → ℕ → Piece (List (NodeView FieldDefinition))
 fields file depth =
-    mapped or_none
-    (optional (enclosed k.LeftBrace k.RightBrace (expecting i.FieldDefinition) depth
-    (λ inside. some (field_definition file inside))))
+    optional_list k.LeftBrace k.RightBrace (expecting i.FieldDefinition) depth (field_definition file)
 
 -- ---- interfaces and members: sections 3.6 and 3.8
 
@@ -180,9 +177,7 @@ enum_value_definition file depth = item is_enum_value no_enum_value (enum_value_
 -- EnumValuesDefinition, if there is one
 unfoldable pub enum_values : FileId → ℕ → Piece (List (NodeView EnumValueDefinition))
 enum_values file depth =
-    mapped or_none
-    (optional (enclosed k.LeftBrace k.RightBrace no_enum_value depth
-    (λ inside. some (enum_value_definition file inside))))
+    optional_list k.LeftBrace k.RightBrace no_enum_value depth (enum_value_definition file)
 
 -- ---- roots: section 3.3
 
@@ -331,18 +326,22 @@ is_undescribed kind =
 abbrev pub no_described : Wrong
 no_described left = if begins is_undescribed left then DescriptionNotAllowed else Expected i.Definition
 
+-- the piece of the kind of types whose word this is, and where it is none another
+abbrev pub by_type_kind : {A : Type 0} → Kind → (TypeKind → Piece A) → Piece A → Piece A
+by_type_kind kind of_type other =
+    choose (only k.Scalar kind) (of_type t.Scalar) (
+    choose (only k.Type kind) (of_type t.Object) (
+    choose (only k.Interface kind) (of_type t.Interface) (
+    choose (only k.Union kind) (of_type t.Union) (
+    choose (only k.Enum kind) (of_type t.Enum) (
+    choose (only k.Input kind) (of_type t.InputObject) other)))))
+
 -- the definition behind a description that begins with a word of this kind
 abbrev pub described_pick : FileId → ℕ → Kind → Piece Described
 described_pick file depth kind =
     choose (only k.Schema kind) (schema_body file depth) (
-    choose (only k.Scalar kind) (type_body file t.Scalar depth) (
-    choose (only k.Type kind) (type_body file t.Object depth) (
-    choose (only k.Interface kind) (type_body file t.Interface depth) (
-    choose (only k.Union kind) (type_body file t.Union depth) (
-    choose (only k.Enum kind) (type_body file t.Enum depth) (
-    choose (only k.Input kind) (type_body file t.InputObject depth) (
-    choose (only k.Directive kind) (directive_body file depth) (
-    nothing no_described))))))))
+    by_type_kind kind (λ of. type_body file of depth) (
+    choose (only k.Directive kind) (directive_body file depth) (nothing no_described)))
 
 -- the words that definitions of the type system begin with, behind their descriptions
 abbrev pub is_described : Kinds
@@ -429,13 +428,7 @@ schema_extension_body file depth =
 abbrev pub extended_pick : FileId → ℕ → Kind → Piece (Option SourceSpan → Definition)
 extended_pick file depth kind =
     choose (only k.Schema kind) (schema_extension_body file depth) (
-    choose (only k.Scalar kind) (extension_body file t.Scalar depth) (
-    choose (only k.Type kind) (extension_body file t.Object depth) (
-    choose (only k.Interface kind) (extension_body file t.Interface depth) (
-    choose (only k.Union kind) (extension_body file t.Union depth) (
-    choose (only k.Enum kind) (extension_body file t.Enum depth) (
-    choose (only k.Input kind) (extension_body file t.InputObject depth) (
-    nothing (expecting i.Extended))))))))
+    by_type_kind kind (λ of. extension_body file of depth) (nothing (expecting i.Extended)))
 
 -- the words that say what is extended
 abbrev pub is_extended : Kinds

@@ -1,5 +1,5 @@
 //! Laws of productions.
-ghost use Rattle.std.specs.Prelude.{◌≡◌, ◌≤◌, ℕ, suc, Bool, List, length, map, Err, Ok};
+ghost use Rattle.std.specs.Prelude.{◌≡◌, ◌≤◌, ℕ, Bool, List, length, map, Ok};
 ghost use Rattle.graphql_nodes.specs.NodeView.{NodeView};
 ghost use Rattle.graphql_nodes.specs.declared.source.FileId.{FileId};
 ghost use Rattle.graphql_ast.specs.declared.definition.Definition.{Definition};
@@ -8,13 +8,13 @@ ghost use Rattle.graphql_ast.specs.declared.type_reference.Type.{«Type» as Typ
 ghost use Rattle.graphql_ast.specs.declared.value.Value.{Value};
 ghost use Rattle.graphql_tokens.specs.Tokens.{tokens_of};
 ghost use Rattle.graphql_tokens.specs.declared.token.Token.{Token};
-ghost use Rattle.graphql_grammar.specs.Pieces.{Refusal, read_all};
-ghost use Rattle.graphql_grammar.specs.Refusals.{RefusedWith, Viable};
+ghost use Rattle.graphql_grammar.specs.Refusals.{RulesOut};
 ghost use Rattle.graphql_grammar.specs.Words.{WordView};
 ghost use Rattle.graphql_grammar.specs.WordsAtTokens.{AreAtTokens, word_at};
 ghost use Rattle.graphql_grammar.specs.WordsOfText.{words_of};
 ghost use Rattle.graphql_productions.specs.Documents.{definition, document, selections, spells_document};
-ghost use Rattle.graphql_productions.specs.Selections.{bare_selections, selection_set};
+ghost use Rattle.graphql_productions.specs.Refusing.{GoesOnDeeper, OfEachProduction, RulesOutAll};
+ghost use Rattle.graphql_productions.specs.Selections.{selection_set};
 ghost use Rattle.graphql_productions.specs.Types.{type};
 ghost use Rattle.graphql_productions.specs.Values.{value, value_node};
 
@@ -36,25 +36,9 @@ pub fn words_spell_one_tree()
 /// They spell no definition, no document, no selections with braces or without, no type and no value. Words
 /// that are refused at their end spell none.
 pub fn refusals_are_of_all_words_so_far()
-    ensures definition { (file : FileId) (depth : ℕ) (words : List WordView) (e : Refusal)
-        → read_all (definition file depth) words ≡ Err e
-        → RefusedWith (definition file depth).spells words e }
-    ensures document { (file : FileId) (depth : ℕ) (words : List WordView) (e : Refusal)
-        → read_all (document file depth) words ≡ Err e → RefusedWith (spells_document file depth) words e }
-    ensures selections { (file : FileId) (depth : ℕ) (words : List WordView) (e : Refusal)
-        → read_all (selections file depth) words ≡ Err e
-        → RefusedWith (selections file depth).spells words e }
-    ensures selection_set { (file : FileId) (depth : ℕ) (words : List WordView) (e : Refusal)
-        → read_all (selection_set file depth) words ≡ Err e
-        → RefusedWith (selection_set file depth).spells words e }
-    ensures bare_selections { (file : FileId) (depth : ℕ) (words : List WordView) (e : Refusal)
-        → read_all (bare_selections file depth) words ≡ Err e
-        → RefusedWith (bare_selections file depth).spells words e }
-    ensures type_reference { (file : FileId) (depth : ℕ) (words : List WordView) (e : Refusal)
-        → read_all (type file depth) words ≡ Err e → RefusedWith (type file depth).spells words e }
-    ensures value { (file : FileId) (constant : Bool) (depth : ℕ) (words : List WordView) (e : Refusal)
-        → read_all (value file constant depth) words ≡ Err e
-        → RefusedWith (value file constant depth).spells words e }
+    ensures productions { OfEachProduction RulesOutAll }
+    ensures document { (file : FileId) (depth : ℕ)
+        → RulesOut (document file depth) (spells_document file depth) }
 {}
 
 /// Words are refused no later than they have to be. Those before the refused one begin some that spell a
@@ -62,26 +46,8 @@ pub fn refusals_are_of_all_words_so_far()
 /// those, since what is refused for its depth alone goes on where more may be open. Of a document the
 /// productions alone are meant: they leave open what a `{` behind `type T` begins.
 pub fn words_before_a_refusal_go_on()
-    ensures definition { (file : FileId) (depth : ℕ) (words : List WordView) (e : Refusal)
-        → read_all (definition file depth) words ≡ Err e
-        → Viable (definition file (suc depth)).spells words e.left }
-    ensures document { (file : FileId) (depth : ℕ) (words : List WordView) (e : Refusal)
-        → read_all (document file depth) words ≡ Err e
-        → Viable (document file (suc depth)).spells words e.left }
-    ensures selections { (file : FileId) (depth : ℕ) (words : List WordView) (e : Refusal)
-        → read_all (selections file depth) words ≡ Err e
-        → Viable (selections file (suc depth)).spells words e.left }
-    ensures selection_set { (file : FileId) (depth : ℕ) (words : List WordView) (e : Refusal)
-        → read_all (selection_set file depth) words ≡ Err e
-        → Viable (selection_set file (suc depth)).spells words e.left }
-    ensures bare_selections { (file : FileId) (depth : ℕ) (words : List WordView) (e : Refusal)
-        → read_all (bare_selections file depth) words ≡ Err e
-        → Viable (bare_selections file (suc depth)).spells words e.left }
-    ensures type_reference { (file : FileId) (depth : ℕ) (words : List WordView) (e : Refusal)
-        → read_all (type file depth) words ≡ Err e → Viable (type file (suc depth)).spells words e.left }
-    ensures value { (file : FileId) (constant : Bool) (depth : ℕ) (words : List WordView) (e : Refusal)
-        → read_all (value file constant depth) words ≡ Err e
-        → Viable (value file constant (suc depth)).spells words e.left }
+    ensures productions { OfEachProduction GoesOnDeeper }
+    ensures document { (file : FileId) → GoesOnDeeper (List Definition) (document file) }
 {}
 
 /// A text that has tokens, no more than are allowed, has the words at those.

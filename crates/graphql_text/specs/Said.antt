@@ -11,22 +11,23 @@ use Rattle.graphql_grammar.specs.Words.{WordView}
 use Rattle.graphql_text.specs.declared.parse_error.ParseErrorKind.{ParseErrorKind}
 use Rattle.graphql_text.specs.declared.parse_error.ParseErrorKind.TheVariants as e
 
+-- words that alone may stand somewhere, each with its kind
+abbrev pub lone_words : List (Kind × List ℕ)
+lone_words =
+    (k.On, codes "`on`") ∷ (k.Schema, codes "`schema`") ∷ (k.Implements, codes "`implements`") ∷
+    (k.LeftParen, codes "`(`") ∷ (k.RightParen, codes "`)`") ∷ (k.Colon, codes "`:`") ∷
+    (k.Equals, codes "`=`") ∷ (k.At, codes "`@`") ∷ (k.LeftBracket, codes "`[`") ∷
+    (k.RightBracket, codes "`]`") ∷ (k.LeftBrace, codes "`{`") ∷ (k.RightBrace, codes "`}`") ∷
+    (k.Dollar, codes "`$`") ∷ []
+
+-- what stands with a kind in a table
+abbrev pub text_among : List (Kind × List ℕ) → Kind → List ℕ
+text_among [] kind = codes "a keyword"
+text_among (x ∷ xs) kind = if only x.0 kind then x.1 else text_among xs kind
+
 -- a word of this kind where it alone may stand
 abbrev pub kind_text : Kind → List ℕ
-kind_text kind =
-    if only k.On kind then codes "`on`" else (
-    if only k.Schema kind then codes "`schema`" else (
-    if only k.Implements kind then codes "`implements`" else (
-    if only k.LeftParen kind then codes "`(`" else (
-    if only k.RightParen kind then codes "`)`" else (
-    if only k.Colon kind then codes "`:`" else (
-    if only k.Equals kind then codes "`=`" else (
-    if only k.At kind then codes "`@`" else (
-    if only k.LeftBracket kind then codes "`[`" else (
-    if only k.RightBracket kind then codes "`]`" else (
-    if only k.LeftBrace kind then codes "`{`" else (
-    if only k.RightBrace kind then codes "`}`" else (
-    if only k.Dollar kind then codes "`$`" else codes "a keyword"))))))))))))
+kind_text kind = text_among lone_words kind
 
 -- what alone may stand at a place, or the item that is being read there
 abbrev pub item_text : Item → List ℕ

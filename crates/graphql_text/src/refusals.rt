@@ -4,7 +4,7 @@ ghost use Rattle.graphql_grammar.specs.declared.fault.FaultKind.TheVariants.{Var
 ghost use Rattle.graphql_grammar.specs.Standing.{standing};
 ghost use Rattle.graphql_text.specs.Parses.{Parsed, Reports, span_of};
 ghost use Rattle.graphql_text.specs.Said.{IsUnexpectedCharacter, Says, SaysNoToken, fault_said, first_text};
-ghost use Rattle.graphql_text.specs.Said.{found_text, item_text, kind_text, unexpected};
+ghost use Rattle.graphql_text.specs.Said.{found_text, item_text, unexpected};
 
 use crate::parse_error::{ParseError, ParseErrorKind};
 use graphql_grammar::fault::{FaultKind, Item, ReadError};
@@ -35,29 +35,22 @@ fn item_text(item: Item) -> &'static str
         Item::Type => "a type",
         Item::Name => "a name",
         Item::End => "the end of the text",
-        Item::Word(kind) => kind_text(kind),
-    }
-}
-
-/// A word of this kind, in words.
-fn kind_text(kind: Kind) -> &'static str
-    ensures { result.now ≡ kind_text kind }
-{
-    match kind {
-        Kind::On => "`on`",
-        Kind::Schema => "`schema`",
-        Kind::Implements => "`implements`",
-        Kind::LeftParen => "`(`",
-        Kind::RightParen => "`)`",
-        Kind::Colon => "`:`",
-        Kind::Equals => "`=`",
-        Kind::At => "`@`",
-        Kind::LeftBracket => "`[`",
-        Kind::RightBracket => "`]`",
-        Kind::LeftBrace => "`{`",
-        Kind::RightBrace => "`}`",
-        Kind::Dollar => "`$`",
-        _ => "a keyword",
+        Item::Word(kind) => match kind {
+            Kind::On => "`on`",
+            Kind::Schema => "`schema`",
+            Kind::Implements => "`implements`",
+            Kind::LeftParen => "`(`",
+            Kind::RightParen => "`)`",
+            Kind::Colon => "`:`",
+            Kind::Equals => "`=`",
+            Kind::At => "`@`",
+            Kind::LeftBracket => "`[`",
+            Kind::RightBracket => "`]`",
+            Kind::LeftBrace => "`{`",
+            Kind::RightBrace => "`}`",
+            Kind::Dollar => "`$`",
+            _ => "a keyword",
+        },
     }
 }
 

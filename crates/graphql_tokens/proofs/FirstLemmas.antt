@@ -7,7 +7,7 @@ use Rattle.std.proofs.lemmas.List.{drop-drop, get_or-drop, get_or_default, lengt
 use Rattle.std.proofs.lemmas.Str.{IsCharBoundary-after_ascii, IsCharBoundary-before_ascii}
 use Rattle.graphql_tokens.specs.First.{First, FirstReading, first_behind, first_of, read_behind}
 use Rattle.graphql_tokens.specs.Ignored.{ignored, one_ignored}
-use Rattle.graphql_tokens.specs.Lexemes.{Reading, lexeme}
+use Rattle.graphql_tokens.specs.Lexemes.{Reading, lexeme, token}
 use Rattle.graphql_tokens.specs.Tokens.{Tokens, put_first, tokens_from}
 use Rattle.graphql_tokens.specs.declared.lexemes.Lexeme.{Lexeme}
 use Rattle.graphql_tokens.specs.declared.token.Token.{Token}
@@ -112,6 +112,8 @@ by_first at text = behind_ignored at text ∙ step at (ignored text) (drop (igno
 pub record Parts (text : List ℕ) (f : First) : Type 0 where
   pub passed : f.passed ≡ ignored text
   pub some : 0 < length f.text
+  pub read : lexeme (drop f.passed text) ≡ token f.kind (length f.text)
+  pub bytes : f.text ≡ take (length f.text) (drop f.passed text)
   pub behind : f.rest ≡ drop (f.passed + length f.text) text
   pub whole : f.passed + length f.text + length f.rest ≡ length text
 
@@ -142,6 +144,9 @@ parts text f is = by (drop (ignored text) text) refl is (length-drop (ignored te
             let lengths : Parts text made = record {
               passed = refl;
               some = omega (arith, some);
+              read = ap lexeme here ∙ stands ∙ ap (token l.kind) (sym front);
+              bytes = ap (λ (n : ℕ). take n (c ∷ cs)) (sym front)
+                  ∙ ap (take (length (take l.size (c ∷ cs)))) (sym here);
               behind = ap (drop l.size) (sym here) ∙ drop-drop l.size (ignored text) text
                   ∙ ap (λ (n : ℕ). drop (ignored text + n) text) (sym front);
               whole = omega arith;

@@ -60,9 +60,8 @@ pub said_more : (say : List ℕ → List ℕ) (text old new front rest : List �
 said_more say text old new front rest is more = rw (is, more, append_assoc)
 
 -- the same, of the first bytes of a text, which say themselves
-pub run_said : (say : List ℕ → List ℕ) (text old new front rest : List ℕ) (n m : ℕ)
-    → say text ≡ take m text ++ say (drop m text) → n ≡ m → front ≡ take (n - 0) text → rest ≡ drop n text
-    → new ≡ old ++ front → old ++ say text ≡ new ++ say rest
-run_said say text old new front rest n m is same here behind more =
-    let place : n - 0 ≡ m = omega arith in
-    said_more say text old new front rest (rw (here, behind, place, same) is) more
+pub run_said : (say : List ℕ → List ℕ) (text old new rest : List ℕ) (n m : ℕ)
+    → say text ≡ take m text ++ say (drop m text) → n ≡ m → new ≡ old ++ take n text → rest ≡ drop n text
+    → old ++ say text ≡ new ++ say rest
+run_said say text old new rest n m is same more behind =
+    said_more say text old new (take n text) rest (rw (behind, same) is) more

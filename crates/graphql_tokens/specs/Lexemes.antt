@@ -1,7 +1,7 @@
 -- What stands at the front of a text: GraphQL specification of October 2021, sections 2.1.6 to 2.1.9, 2.9.1,
 -- 2.9.2 and 2.9.4.
 use Rattle.std.specs.Prelude.{ℕ, Bool, false, ◌||◌, ◌&&◌, List, [], ◌∷◌, ◌+◌, drop, nat_eq, if◌then◌else◌}
-use Rattle.std.specs.Prelude.{Option, None, Some, Result, Ok, Err}
+use Rattle.std.specs.Prelude.{◌<◌, ◌≤◌, Option, None, Some, Result, Ok, Err, MatchResult}
 use Rattle.std.specs.List.{prefix_len}
 use Rattle.std.specs.Char.{is_ascii_digit}
 use Rattle.graphql_tokens.specs.Bytes.{begins, is_control, is_name_byte, is_name_start}
@@ -19,6 +19,10 @@ use Rattle.graphql_tokens.specs.declared.token.TokenErrorKind.TheVariants as e
 abbrev pub Reading : Type 0
 Reading = Result Lexeme TokenError
 
+-- a token has a byte at least, and it lies within so many bytes, or what is wrong does
+abbrev pub FitsIn : ℕ → Reading → Type 0
+FitsIn n reading = MatchResult reading (λ found. (0 < found.size) × (found.size ≤ n)) (λ wrong. wrong.at ≤ n)
+
 -- a token of this kind, of so many bytes
 abbrev pub token : TokenKind → ℕ → Reading
 token kind size = Ok (record { kind = kind; size = size })
@@ -27,22 +31,21 @@ token kind size = Ok (record { kind = kind; size = size })
 abbrev pub wrong : TokenErrorKind → ℕ → Reading
 wrong kind at = Err (record { kind = kind; at = at })
 
--- the punctuator that a byte is alone: section 2.1.8
+-- the punctuators of one byte, each with its kind: section 2.1.8
+abbrev pub signs : List (ℕ × TokenKind)
+signs =
+    (33, k.Bang) ∷ (36, k.Dollar) ∷ (38, k.Ampersand) ∷ (40, k.LeftParen) ∷ (41, k.RightParen) ∷
+    (58, k.Colon) ∷ (61, k.Equals) ∷ (64, k.At) ∷ (91, k.LeftBracket) ∷ (93, k.RightBracket) ∷
+    (123, k.LeftBrace) ∷ (124, k.Pipe) ∷ (125, k.RightBrace) ∷ []
+
+-- the kind that stands with a byte in a table
+abbrev pub kind_of_byte : List (ℕ × TokenKind) → ℕ → Option TokenKind
+kind_of_byte [] c = None
+kind_of_byte (x ∷ xs) c = if nat_eq c x.0 then Some x.1 else kind_of_byte xs c
+
+-- the punctuator that a byte is alone
 abbrev pub sign_kind : ℕ → Option TokenKind
-sign_kind c =
-    if nat_eq c 33 then Some k.Bang else (
-    if nat_eq c 36 then Some k.Dollar else (
-    if nat_eq c 38 then Some k.Ampersand else (
-    if nat_eq c 40 then Some k.LeftParen else (
-    if nat_eq c 41 then Some k.RightParen else (
-    if nat_eq c 58 then Some k.Colon else (
-    if nat_eq c 61 then Some k.Equals else (
-    if nat_eq c 64 then Some k.At else (
-    if nat_eq c 91 then Some k.LeftBracket else (
-    if nat_eq c 93 then Some k.RightBracket else (
-    if nat_eq c 123 then Some k.LeftBrace else (
-    if nat_eq c 124 then Some k.Pipe else (
-    if nat_eq c 125 then Some k.RightBrace else None))))))))))))
+sign_kind c = kind_of_byte signs c
 
 -- whether `...` stands at the front
 abbrev pub is_spread : List ℕ → Bool
@@ -60,19 +63,22 @@ string_fault text =
     if begins (nat_eq 92) text then e.InvalidEscape else (
     if begins is_control text then e.UnexpectedCharacter else e.UnterminatedString)
 
+-- a token of this kind with so many quotes on each side, whose characters take so many bytes, if the quotes
+-- behind them stand there; else what is wrong with what does
+abbrev pub quoted_token : TokenKind → ℕ → ℕ → Bool → List ℕ → Reading
+quoted_token kind quotes n is_closed rest =
+    if is_closed then token kind (n + (quotes + quotes)) else wrong (string_fault rest) (n + quotes)
+
 -- the string whose characters these are, behind its quote
 abbrev pub string_token : List ℕ → Reading
 string_token text =
-    let n = characters text in
-    if begins (nat_eq 34) (drop n text) then token k.String (n + 2) else wrong (string_fault (drop n text))
-    (n + 1)
+    let n = characters text in quoted_token k.String 1 n (begins (nat_eq 34) (drop n text)) (drop n text)
 
 -- the block string whose characters these are, behind its quotes
 abbrev pub block_string_token : List ℕ → Reading
 block_string_token text =
     let n = block_characters text in
-    if begins_with_quotes (drop n text) then token k.BlockString (n + 6) else wrong
-    (string_fault (drop n text)) (n + 3)
+    quoted_token k.BlockString 3 n (begins_with_quotes (drop n text)) (drop n text)
 
 -- the punctuator that the first byte is alone
 abbrev pub first_sign : List ℕ → Option TokenKind

@@ -1,9 +1,14 @@
 -- Numbers: GraphQL specification of October 2021, sections 2.9.1 and 2.9.2.
-use Rattle.std.specs.Prelude.{ℕ, Bool, true, false, ◌||◌, List, ◌+◌, drop, nat_eq, nat_lt, if◌then◌else◌}
+use Rattle.std.specs.Prelude.{ℕ, ◌<◌, ◌≤◌, Bool, true, false, ◌||◌, IsTrue, List, ◌+◌, drop, length, nat_eq}
+use Rattle.std.specs.Prelude.{nat_lt, if◌then◌else◌}
 use Rattle.std.specs.List.{prefix_len}
 use Rattle.std.specs.Char.{is_ascii_digit}
 use Rattle.graphql_tokens.specs.Bytes.{begins, is_name_byte}
 use Rattle.graphql_tokens.specs.declared.numbers.Part.{Part}
+
+-- a part lies within a text, and a whole one has a byte at least
+abbrev pub IsPartOf : List ℕ → Part → Type 0
+IsPartOf text part = (part.size ≤ length text) × (IsTrue part.is_whole → 0 < part.size)
 
 -- no part of a number, which is one too
 abbrev pub no_part : Part

@@ -1,18 +1,19 @@
 //! The token at the front of a text: GraphQL specification of October 2021, sections 2.1.6 to 2.1.9, 2.9.1,
 //! 2.9.2 and 2.9.4.
-ghost use Rattle.std.specs.Prelude.{◌≡◌, ◌<◌, ◌≤◌, ◌+◌, length, true, IfSome, MatchResult};
+ghost use Rattle.std.specs.Prelude.{◌≡◌, ◌<◌, ◌≤◌, ◌+◌, ◌^◌, length, true, IfSome};
 ghost use Rattle.graphql_tokens.specs.Bytes.{begins, is_name_byte, is_name_start};
 ghost use Rattle.std.specs.List.{prefix_len};
 ghost use Rattle.graphql_tokens.specs.declared.token.TokenKind.TheVariants as k;
-ghost use Rattle.graphql_tokens.specs.Lexemes.{block_string_token, first_sign, is_number_start, is_spread};
-ghost use Rattle.graphql_tokens.specs.Lexemes.{lexeme, number_token, sign_kind, sign_token, string_fault};
-ghost use Rattle.graphql_tokens.specs.Lexemes.{string_token};
+ghost use Rattle.graphql_tokens.specs.Lexemes.{FitsIn, block_string_token, first_sign, is_number_start};
+ghost use Rattle.graphql_tokens.specs.Lexemes.{is_spread, lexeme, number_token, quoted_token, sign_kind};
+ghost use Rattle.graphql_tokens.specs.Lexemes.{sign_token, string_fault, string_token};
 ghost use Rattle.graphql_tokens.specs.Numbers.{number};
 
 use crate::ignored::is_control;
 use crate::numbers::{begins, number};
+use crate::pieces::pieces;
 use crate::runs::{is_name_start, name_bytes};
-use crate::strings::{begins_with_quotes, block_character_bytes, character_bytes};
+use crate::strings::{BlockCharacters, Characters, begins_with_quotes};
 use crate::token::{TokenError, TokenErrorKind, TokenKind};
 
 /// What a token is, and how many bytes it has.
@@ -57,8 +58,7 @@ fn is_spread(text: &[u8]) -> bool
 /// The number at the front.
 fn number_token(text: &[u8]) -> Result<Lexeme, TokenError>
     ensures same { result ≡ number_token (number text.now) }
-    ensures within { MatchResult result (λ found. (0 < found.size)
-        × (found.size ≤ length text.now)) (λ wrong. wrong.at ≤ length text.now) }
+    ensures within { FitsIn (length text.now) result }
 {
     let part = number(text);
     if !part.is_whole {
@@ -88,44 +88,54 @@ fn string_fault(text: &[u8]) -> TokenErrorKind
     }
 }
 
-/// The string whose characters these are, behind its quote.
-fn string_token(text: &[u8]) -> Result<Lexeme, TokenError>
-    ensures same { result ≡ string_token text.now }
-    ensures within { MatchResult result (λ found. (0 < found.size)
-        × (found.size ≤ length text.now + 1)) (λ wrong. wrong.at ≤ length text.now + 1) }
+/// The token with so many quotes on each side, whose characters take so many bytes. It is closed where the
+/// quotes stand behind them.
+fn quoted_token(
+    kind: TokenKind,
+    quotes: usize,
+    count: usize,
+    is_closed: bool,
+    rest: &[u8],
+) -> Result<Lexeme, TokenError>
+    requires { count + (quotes + quotes) < 2 ^ 64 }
+    ensures { result ≡ quoted_token kind quotes count is_closed rest.now }
 {
-    let count = character_bytes(text);
-    let rest = &text[count..];
-    if !begins(rest, b'"') {
+    if !is_closed {
         return Err(TokenError {
             kind: string_fault(rest),
-            at: count + 1,
+            at: count + quotes,
         });
     }
     Ok(Lexeme {
-        kind: TokenKind::String,
-        size: count + 2,
+        kind,
+        size: count + (quotes + quotes),
     })
+}
+
+/// The string whose characters these are, behind its quote.
+fn string_token(text: &[u8]) -> Result<Lexeme, TokenError>
+    ensures same { result ≡ string_token text.now }
+    ensures within { FitsIn (length text.now + 1) result }
+{
+    let count = pieces::<Characters>(text);
+    let rest = &text[count..];
+    quoted_token(TokenKind::String, 1, count, begins(rest, b'"'), rest)
 }
 
 /// The block string whose characters these are, behind its quotes.
 fn block_string_token(text: &[u8]) -> Result<Lexeme, TokenError>
     ensures same { result ≡ block_string_token text.now }
-    ensures within { MatchResult result (λ found. (0 < found.size)
-        × (found.size ≤ length text.now + 3)) (λ wrong. wrong.at ≤ length text.now + 3) }
+    ensures within { FitsIn (length text.now + 3) result }
 {
-    let count = block_character_bytes(text);
+    let count = pieces::<BlockCharacters>(text);
     let rest = &text[count..];
-    if !begins_with_quotes(rest) {
-        return Err(TokenError {
-            kind: string_fault(rest),
-            at: count + 3,
-        });
-    }
-    Ok(Lexeme {
-        kind: TokenKind::BlockString,
-        size: count + 6,
-    })
+    quoted_token(
+        TokenKind::BlockString,
+        3,
+        count,
+        begins_with_quotes(rest),
+        rest,
+    )
 }
 
 /// The punctuator that the first byte is alone.
@@ -142,8 +152,7 @@ fn first_sign(text: &[u8]) -> Option<TokenKind>
 /// That punctuator.
 fn sign_token(text: &[u8]) -> Result<Lexeme, TokenError>
     ensures same { result ≡ sign_token (first_sign text.now) }
-    ensures within { MatchResult result (λ found. (0 < found.size)
-        × (found.size ≤ length text.now)) (λ wrong. wrong.at ≤ length text.now) }
+    ensures within { FitsIn (length text.now) result }
 {
     match first_sign(text) {
         Some(kind) => Ok(Lexeme { kind, size: 1 }),
@@ -189,8 +198,7 @@ fn begins_number(text: &[u8]) -> bool
 /// The token at the front of a text, or what is wrong there.
 pub(crate) fn first_token(text: &[u8]) -> Result<Lexeme, TokenError>
     ensures same { result ≡ lexeme text.now }
-    ensures within { MatchResult result (λ found. (0 < found.size)
-        × (found.size ≤ length text.now)) (λ wrong. wrong.at ≤ length text.now) }
+    ensures within { FitsIn (length text.now) result }
 {
     if begins_name(text) {
         Ok(name_token(text))

@@ -1,8 +1,8 @@
 //! Numbers: GraphQL specification of October 2021, sections 2.9.1 and 2.9.2.
-ghost use Rattle.std.specs.Prelude.{◌≡◌, ◌<◌, ◌≤◌, ◌+◌, ◌^◌, length, nat_eq, true, IsTrue};
+ghost use Rattle.std.specs.Prelude.{◌≡◌, ◌<◌, ◌≤◌, ◌+◌, ◌^◌, length, nat_eq};
 ghost use Rattle.graphql_tokens.specs.Bytes.{begins};
-ghost use Rattle.graphql_tokens.specs.Numbers.{decimal, exponent, fraction, goes_on, integer, number};
-ghost use Rattle.graphql_tokens.specs.Numbers.{scientific, then_part, with_digits};
+ghost use Rattle.graphql_tokens.specs.Numbers.{IsPartOf, decimal, exponent, fraction, goes_on, integer};
+ghost use Rattle.graphql_tokens.specs.Numbers.{number, scientific, then_part, with_digits};
 
 use crate::runs::{digits, is_name_byte};
 
@@ -33,8 +33,7 @@ pub(crate) fn begins(text: &[u8], byte: u8) -> bool
 fn with_digits(count: usize, text: &[u8]) -> Part
     requires { count ≤ length text.now }
     ensures same { result ≡ with_digits count text.now }
-    ensures within { result.size ≤ length text.now }
-    ensures some { IsTrue result.is_whole → 0 < result.size }
+    ensures within { IsPartOf text.now result }
 {
     let more = digits(&text[count..]);
     Part {
@@ -47,8 +46,7 @@ fn with_digits(count: usize, text: &[u8]) -> Part
 /// An integer.
 fn integer(text: &[u8]) -> Part
     ensures same { result ≡ integer text.now }
-    ensures within { result.size ≤ length text.now }
-    ensures some { IsTrue result.is_whole → 0 < result.size }
+    ensures within { IsPartOf text.now result }
 {
     let minus = usize::from(begins(text, b'-'));
     if begins(&text[minus..], b'0') {
@@ -86,12 +84,14 @@ fn exponent(text: &[u8]) -> Part
     with_digits(1 + sign, text)
 }
 
-/// A whole part, and the next one, which makes a float.
+/// A part, and, if it is whole, the next one, which makes a float.
 fn joined(first: Part, next: Part) -> Part
-    requires whole { first.is_whole ≡ true }
-    requires fits { first.size + next.size < 2 ^ 64 }
+    requires { first.size + next.size < 2 ^ 64 }
     ensures { result ≡ then_part first next }
 {
+    if !first.is_whole {
+        return first;
+    }
     Part {
         size: first.size + next.size,
         is_whole: next.is_whole,
@@ -102,26 +102,18 @@ fn joined(first: Part, next: Part) -> Part
 /// An integer, and a fraction behind it.
 fn decimal(text: &[u8]) -> Part
     ensures same { result ≡ decimal text.now }
-    ensures within { result.size ≤ length text.now }
-    ensures some { IsTrue result.is_whole → 0 < result.size }
+    ensures within { IsPartOf text.now result }
 {
     let integer = integer(text);
-    if !integer.is_whole {
-        return integer;
-    }
     joined(integer, fraction(&text[integer.size..]))
 }
 
 /// That, and an exponent behind it.
 fn scientific(text: &[u8]) -> Part
     ensures same { result ≡ scientific text.now }
-    ensures within { result.size ≤ length text.now }
-    ensures some { IsTrue result.is_whole → 0 < result.size }
+    ensures within { IsPartOf text.now result }
 {
     let decimal = decimal(text);
-    if !decimal.is_whole {
-        return decimal;
-    }
     joined(decimal, exponent(&text[decimal.size..]))
 }
 
@@ -138,8 +130,7 @@ fn goes_on(text: &[u8]) -> bool
 /// The number at the front, as far as there is one.
 pub(crate) fn number(text: &[u8]) -> Part
     ensures same { result ≡ number text.now }
-    ensures within { result.size ≤ length text.now }
-    ensures some { IsTrue result.is_whole → 0 < result.size }
+    ensures within { IsPartOf text.now result }
 {
     let scientific = scientific(text);
     if goes_on(&text[scientific.size..]) {

@@ -1,15 +1,14 @@
 //! Strings and block strings: GraphQL specification of October 2021, section 2.9.4.
 ghost use Rattle.std.specs.Prelude.{◌≡◌, ◌≤◌, ◌<◌, ◌+◌, drop, length, min, IfSome, IsTrue};
 ghost use Rattle.graphql_tokens.specs.Bytes.{begins};
-ghost use Rattle.graphql_tokens.specs.Strings.{begins_with_quotes, block_character_size, block_characters};
-ghost use Rattle.graphql_tokens.specs.Strings.{braced_size, character_size, characters, escape_size};
-ghost use Rattle.graphql_tokens.specs.Strings.{hex_digit, hex_number, in_braces, is_escaped, is_leading};
-ghost use Rattle.graphql_tokens.specs.Strings.{is_scalar, is_trailing, names_scalar, number_size, unit_at};
-ghost use Rattle.graphql_tokens.specs.Strings.{unit_size};
+ghost use Rattle.graphql_tokens.specs.Strings.{begins_with_quotes, block_character_size, braced_size};
+ghost use Rattle.graphql_tokens.specs.Strings.{character_size, escape_size, hex_digit, hex_number, in_braces};
+ghost use Rattle.graphql_tokens.specs.Strings.{is_escaped, is_leading, is_scalar, is_trailing, names_scalar};
+ghost use Rattle.graphql_tokens.specs.Strings.{number_size, unit_at, unit_size};
 
 use crate::ignored::{is_control, is_line_end};
 use crate::numbers::begins;
-use crate::pieces::{Piece, pieces};
+use crate::pieces::Piece;
 use crate::runs::{hex_digits, is_hex};
 
 /// The first number that is no Unicode scalar value, nor any behind it.
@@ -197,14 +196,6 @@ impl Piece for Characters {
     }
 }
 
-/// How many bytes at the front are of characters of a string.
-pub(crate) fn character_bytes(text: &[u8]) -> usize
-    ensures same { result ≡ characters text.now }
-    ensures within { result ≤ length text.now }
-{
-    pieces::<Characters>(text)
-}
-
 /// The characters of a block string.
 pub(crate) struct BlockCharacters;
 
@@ -220,12 +211,4 @@ impl Piece for BlockCharacters {
             _ => 1,
         }
     }
-}
-
-/// How many bytes at the front are of characters of a block string.
-pub(crate) fn block_character_bytes(text: &[u8]) -> usize
-    ensures same { result ≡ block_characters text.now }
-    ensures within { result ≤ length text.now }
-{
-    pieces::<BlockCharacters>(text)
 }

@@ -1,6 +1,7 @@
 //! The values of strings and block strings: GraphQL specification of October 2021, section 2.9.4.
-ghost use Rattle.std.specs.Prelude.{◌≡◌, ◌++◌, ◌≤◌, length, string_bytes, IfOk, OnOk};
+ghost use Rattle.std.specs.Prelude.{◌≡◌, ◌++◌, ◌≤◌, drop, length, string_bytes, take, IfOk, OnOk};
 ghost use Rattle.std.specs.List.{prefix_len};
+ghost use Rattle.std.specs.Str.{IsCharBoundary};
 ghost use Rattle.graphql_tokens.specs.BlockStringValues.{behind_quotes, block_characters_say, block_says};
 ghost use Rattle.graphql_tokens.specs.BlockStringValues.{block_string_value, is_plain_in_block};
 ghost use Rattle.graphql_tokens.specs.StringValues.{behind_quote, characters_say, is_plain, string_value};
@@ -30,14 +31,23 @@ fn plain_bytes(text: &[u8]) -> usize
     text.iter().take_while(|byte| is_plain(**byte)).count()
 }
 
+/// Adds so many bytes from the front of a text. Answers what stands behind them. The error is out of memory.
+fn push_front<'a>(value: &mut String, text: &'a str, count: usize) -> Result<&'a str, AllocError>
+    requires { IsCharBoundary text.now count }
+    ensures added { OnOk result (string_bytes value.new ≡ string_bytes value.old ++ take count text.now) }
+    ensures behind { IfOk result (λ rest. rest.now ≡ drop count text.now) }
+{
+    value.push_str(&text[..count])?;
+    Ok(&text[count..])
+}
+
 impl Says for Characters {
     ghost say = { characters_say };
 
     fn push<'a>(value: &mut String, text: &'a str) -> Result<Option<&'a str>, AllocError> {
         let plain = plain_bytes(text.as_bytes());
         if plain > 0 {
-            value.push_str(&text[..plain])?;
-            return Ok(Some(&text[plain..]));
+            return Ok(Some(push_front(value, text, plain)?));
         }
         let size = Characters::size(text.as_bytes());
         if size == 0 {
@@ -82,8 +92,7 @@ impl Says for BlockCharacters {
     fn push<'a>(value: &mut String, text: &'a str) -> Result<Option<&'a str>, AllocError> {
         let plain = plain_block_bytes(text.as_bytes());
         if plain > 0 {
-            value.push_str(&text[..plain])?;
-            return Ok(Some(&text[plain..]));
+            return Ok(Some(push_front(value, text, plain)?));
         }
         let size = BlockCharacters::size(text.as_bytes());
         if size == 0 {

@@ -7,10 +7,10 @@ ghost use Rattle.graphql_grammar.specs.Standing.{standing};
 ghost use Rattle.graphql_productions.specs.TypeSystem.{described, directive_body, extended, extension_body};
 ghost use Rattle.graphql_productions.specs.TypeSystem.{no_described, optional_roots, schema_body};
 ghost use Rattle.graphql_productions.specs.TypeSystem.{schema_extension_body, schema_parts, type_body};
-ghost use Rattle.graphql_text.specs.Seen.{seen_body, seen_extension};
+ghost use Rattle.graphql_text.specs.Seen.{seen_body, seen_declared, seen_extension};
 
 use crate::reading::directives::directives;
-use crate::reading::kinds::{has_part, keyword, parts};
+use crate::reading::kinds::{directed, has_part, keyword, parts};
 use crate::reading::parts::{input_values, roots};
 use crate::reading::separated::{optional_sign, separated};
 use crate::reading::target::{Target, sign};
@@ -31,11 +31,53 @@ use graphql_nodes::source::SourceSpan;
 use graphql_nodes::type_kind::TypeKind;
 use std::alloc::{AllocError, Global};
 
+/// What a definition or an extension declares, but its description and its location: the schema or a type.
+#[derive(Drop)]
+pub(crate) enum Declared {
+    Schema(Parts),
+    Type(TypeKind, Name, Parts),
+}
+
+impl Declared {
+    /// The definition with this description, at this location, or the extension there.
+    pub(crate) fn into_definition(
+        self,
+        alloc: Global,
+        is_extension: bool,
+        description: Option<NodeStr>,
+        location: Option<SourceSpan>,
+    ) -> Result<Definition, AllocError>
+        ensures { IfOk result (λ made. made ≡ seen_declared self is_extension description location) }
+    {
+        match self {
+            Declared::Schema(parts) => {
+                let declaration = SchemaDeclaration {
+                    is_extension,
+                    description,
+                    location,
+                    parts,
+                };
+                declaration.into_definition(alloc)
+            }
+            Declared::Type(kind, name, parts) => {
+                let declaration = TypeDeclaration {
+                    kind,
+                    name,
+                    is_extension,
+                    description,
+                    location,
+                    parts,
+                };
+                declaration.into_definition(alloc)
+            }
+        }
+    }
+}
+
 /// A definition of the type system, but its description and its location.
 #[derive(Drop)]
 pub(crate) enum Body {
-    Schema(Parts),
-    Type(TypeKind, Name, Parts),
+    Declared(Declared),
     Directive(Name, Items<Node<InputValueDefinition>>, bool, Items<DirectiveLocation>),
 }
 
@@ -50,25 +92,8 @@ impl Body {
         ensures { IfOk result (λ made. made ≡ seen_body self description location) }
     {
         match self {
-            Body::Schema(parts) => {
-                let declaration = SchemaDeclaration {
-                    is_extension: false,
-                    description,
-                    location,
-                    parts,
-                };
-                declaration.into_definition(alloc)
-            }
-            Body::Type(kind, name, parts) => {
-                let declaration = TypeDeclaration {
-                    kind,
-                    name,
-                    is_extension: false,
-                    description,
-                    location,
-                    parts,
-                };
-                declaration.into_definition(alloc)
+            Body::Declared(declared) => {
+                declared.into_definition(alloc, false, description, location)
             }
             Body::Directive(name, arguments, repeatable, locations) => {
                 let definition = DirectiveDefinition {
@@ -86,47 +111,6 @@ impl Body {
     }
 }
 
-/// An extension, but its location.
-#[derive(Drop)]
-pub(crate) enum Extension {
-    Schema(Parts),
-    Type(TypeKind, Name, Parts),
-}
-
-impl Extension {
-    /// The extension at this location.
-    pub(crate) fn into_definition(
-        self,
-        alloc: Global,
-        location: Option<SourceSpan>,
-    ) -> Result<Definition, AllocError>
-        ensures { IfOk result (λ made. made ≡ seen_extension self location) }
-    {
-        match self {
-            Extension::Schema(parts) => {
-                let declaration = SchemaDeclaration {
-                    is_extension: true,
-                    description: None,
-                    location,
-                    parts,
-                };
-                declaration.into_definition(alloc)
-            }
-            Extension::Type(kind, name, parts) => {
-                let declaration = TypeDeclaration {
-                    kind,
-                    name,
-                    is_extension: true,
-                    description: None,
-                    location,
-                    parts,
-                };
-                declaration.into_definition(alloc)
-            }
-        }
-    }
-}
-
 #[tactic(auto, unfolding(graphql_productions::specs::TypeSystem::type_body))]
 fn type_body(target: Target, words: &mut Words<'_>, kind: TypeKind) -> Result<Body, ReadError>
     ensures { GivesSeen seen_body result (standing words.new)
@@ -135,7 +119,7 @@ fn type_body(target: Target, words: &mut Words<'_>, kind: TypeKind) -> Result<Bo
     sign(words, keyword(kind))?;
     let name = target.name(words)?;
     let parts = parts(target, words, kind)?;
-    Ok(Body::Type(kind, name, parts))
+    Ok(Body::Declared(Declared::Type(kind, name, parts)))
 }
 
 #[tactic(auto, unfolding(graphql_productions::specs::TypeSystem::schema_body))]
@@ -144,10 +128,10 @@ fn schema_body(target: Target, words: &mut Words<'_>) -> Result<Body, ReadError>
         ((schema_body target.file target.depth).read (standing words.old)) }
 {
     sign(words, Kind::Schema)?;
-    let mut parts = Parts::new(target.alloc);
-    parts.directives = directives(target.constant(), words)?.into_items();
+    let directives = directives(target.constant(), words)?;
+    let mut parts = directed(target.alloc, directives);
     parts.roots = roots(target, words)?;
-    Ok(Body::Schema(parts))
+    Ok(Body::Declared(Declared::Schema(parts)))
 }
 
 #[tactic(auto, unfolding(graphql_productions::specs::TypeSystem::directive_body))]
@@ -205,7 +189,7 @@ fn extension_body(
     target: Target,
     words: &mut Words<'_>,
     kind: TypeKind,
-) -> Result<Extension, ReadError>
+) -> Result<Declared, ReadError>
     ensures { GivesSeen seen_extension result (standing words.new)
         ((extension_body target.file kind target.depth).read (standing words.old)) }
 {
@@ -215,7 +199,7 @@ fn extension_body(
     if !has_part(&parts) {
         return Err(ReadError::Fault(FaultKind::Expected(Item::ExtensionPart)));
     }
-    Ok(Extension::Type(kind, name, parts))
+    Ok(Declared::Type(kind, name, parts))
 }
 
 fn optional_roots(
@@ -225,11 +209,7 @@ fn optional_roots(
     ensures { Gives result (standing words.new)
         ((optional_roots target.file target.depth).read (standing words.old)) }
 {
-    if words.next_is(Kind::LeftBrace) {
-        roots(target, words)
-    } else {
-        Ok(Items::new(target.alloc))
-    }
+    optional_list!(target, words.next_is(Kind::LeftBrace), roots(target, words))
 }
 
 fn schema_parts(target: Target, words: &mut Words<'_>) -> Result<Parts, ReadError>
@@ -238,14 +218,14 @@ fn schema_parts(target: Target, words: &mut Words<'_>) -> Result<Parts, ReadErro
         (seq (directives target.file true target.depth) (optional_roots target.file target.depth))).read
         (standing words.old)) }
 {
-    let mut parts = Parts::new(target.alloc);
-    parts.directives = directives(target.constant(), words)?.into_items();
+    let directives = directives(target.constant(), words)?;
+    let mut parts = directed(target.alloc, directives);
     parts.roots = optional_roots(target, words)?;
     Ok(parts)
 }
 
 #[tactic(auto, unfolding(graphql_productions::specs::TypeSystem::schema_extension_body))]
-fn schema_extension_body(target: Target, words: &mut Words<'_>) -> Result<Extension, ReadError>
+fn schema_extension_body(target: Target, words: &mut Words<'_>) -> Result<Declared, ReadError>
     ensures { GivesSeen seen_extension result (standing words.new)
         ((schema_extension_body target.file target.depth).read (standing words.old)) }
 {
@@ -254,11 +234,11 @@ fn schema_extension_body(target: Target, words: &mut Words<'_>) -> Result<Extens
     if !has_part(&parts) {
         return Err(ReadError::Fault(FaultKind::Expected(Item::ExtensionPart)));
     }
-    Ok(Extension::Schema(parts))
+    Ok(Declared::Schema(parts))
 }
 
 /// Reads an extension behind `extend`.
-pub(crate) fn extended(target: Target, words: &mut Words<'_>) -> Result<Extension, ReadError>
+pub(crate) fn extended(target: Target, words: &mut Words<'_>) -> Result<Declared, ReadError>
     ensures { GivesSeen seen_extension result (standing words.new)
         ((extended target.file target.depth).read (standing words.old)) }
 {

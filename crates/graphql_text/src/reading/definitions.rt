@@ -68,7 +68,12 @@ fn extension(target: Target, words: &mut Words<'_>) -> Result<Definition, ReadEr
     let start = words.start();
     sign(words, Kind::Extend)?;
     let extension = extended(target, words)?;
-    Ok(extension.into_definition(target.alloc, Some(target.span(start, words.last)))?)
+    Ok(extension.into_definition(
+        target.alloc,
+        true,
+        None,
+        Some(target.span(start, words.last)),
+    )?)
 }
 
 /// Reads a definition, by its first word.

@@ -1,23 +1,26 @@
 //! Reading what stands behind the name of a type, by its kind: GraphQL specification of October 2021,
 //! sections 3.5 to 3.10.
 ghost use Rattle.std.specs.Prelude.{◌≡◌, true};
-ghost use Rattle.graphql_grammar.specs.Pieces.{Gives, mapped, seq};
+ghost use Rattle.graphql_grammar.specs.Pieces.{Gives};
 ghost use Rattle.graphql_grammar.specs.Standing.{standing};
-ghost use Rattle.graphql_grammar.specs.declared.kind.Kind.TheVariants.{Equals, LeftBrace, Pipe, RightBrace};
-ghost use Rattle.graphql_productions.specs.Directives.{directives};
-ghost use Rattle.graphql_productions.specs.TypeSystem.{enum_parts, enum_values, fielded, has_part};
-ghost use Rattle.graphql_productions.specs.TypeSystem.{input_parts, input_values, keyword, names_behind};
-ghost use Rattle.graphql_productions.specs.TypeSystem.{parts, scalar_parts, union_parts};
+ghost use Rattle.graphql_productions.specs.Nodes.{name};
+ghost use Rattle.graphql_productions.specs.TypeSystem.{fielded, has_part, keyword, names_behind, parts};
+ghost use Rattle.graphql_productions.specs.TypeSystem.{scalar_parts};
+ghost use Rattle.graphql_productions.proofs.NodeLaws.{name_tame};
 
 use crate::reading::directives::directives;
 use crate::reading::parts::{enum_values, fields, input_values};
-use crate::reading::separated::names_behind;
-use crate::reading::target::Target;
+use crate::reading::separated::{Single, separated};
+use crate::reading::target::{Target, sign};
+use graphql_ast::directive::DirectiveList;
 use graphql_ast::parts::Parts;
 use graphql_grammar::fault::ReadError;
 use graphql_grammar::kind::Kind;
 use graphql_grammar::words::Words;
+use graphql_nodes::collections::items::Items;
+use graphql_nodes::name::Name;
 use graphql_nodes::type_kind::TypeKind;
+use std::alloc::Global;
 
 /// The word of a kind of types.
 pub(crate) fn keyword(kind: TypeKind) -> Kind
@@ -33,6 +36,37 @@ pub(crate) fn keyword(kind: TypeKind) -> Kind
     }
 }
 
+impl Single for Name {
+    ghost piece = { name };
+
+    ghost law = { λ file. (name_tame file).law };
+
+    fn read(target: Target, words: &mut Words<'_>) -> Result<Name, ReadError> {
+        target.name(words)
+    }
+}
+
+/// Reads names behind a word, if it is there.
+#[tactic(auto, unfolding(graphql_productions::specs::TypeSystem::names_behind))]
+fn names_behind(
+    target: Target,
+    words: &mut Words<'_>,
+    opening: Kind,
+    separator: Kind,
+) -> Result<Items<Name>, ReadError>
+    ensures { Gives result (standing words.new)
+        ((names_behind target.file opening separator).read (standing words.old)) }
+{
+    optional_list!(
+        target,
+        words.next_is(opening),
+        {
+            sign(words, opening)?;
+            separated(target, words, separator)
+        }
+    )
+}
+
 /// Whether there is any part.
 pub(crate) fn has_part(parts: &Parts) -> bool
     ensures { result ≡ has_part parts.now }
@@ -43,6 +77,15 @@ pub(crate) fn has_part(parts: &Parts) -> bool
         && parts.values.is_empty()
         && parts.input_fields.is_empty()
         && parts.roots.is_empty())
+}
+
+/// Parts with these directives, and nothing else.
+pub(crate) fn directed(alloc: Global, directives: DirectiveList) -> Parts
+    ensures { result ≡ scalar_parts directives }
+{
+    let mut parts = Parts::new(alloc);
+    parts.directives = directives.into_items();
+    parts
 }
 
 #[tactic(auto, unfolding(graphql_productions::specs::TypeSystem::fielded))]
@@ -57,51 +100,6 @@ fn fielded(target: Target, words: &mut Words<'_>) -> Result<Parts, ReadError>
     Ok(parts)
 }
 
-fn union_parts(target: Target, words: &mut Words<'_>) -> Result<Parts, ReadError>
-    ensures { Gives result (standing words.new)
-        ((mapped union_parts
-        (seq (directives target.file true target.depth) (names_behind target.file Equals Pipe))).read
-        (standing words.old)) }
-{
-    let mut parts = Parts::new(target.alloc);
-    parts.directives = directives(target.constant(), words)?.into_items();
-    parts.names = names_behind(target, words, Kind::Equals, Kind::Pipe)?;
-    Ok(parts)
-}
-
-fn enum_parts(target: Target, words: &mut Words<'_>) -> Result<Parts, ReadError>
-    ensures { Gives result (standing words.new)
-        ((mapped enum_parts
-        (seq (directives target.file true target.depth) (enum_values target.file target.depth))).read
-        (standing words.old)) }
-{
-    let mut parts = Parts::new(target.alloc);
-    parts.directives = directives(target.constant(), words)?.into_items();
-    parts.values = enum_values(target, words)?;
-    Ok(parts)
-}
-
-fn input_parts(target: Target, words: &mut Words<'_>) -> Result<Parts, ReadError>
-    ensures { Gives result (standing words.new)
-        ((mapped input_parts
-        (seq (directives target.file true target.depth)
-        (input_values target.file LeftBrace RightBrace target.depth))).read (standing words.old)) }
-{
-    let mut parts = Parts::new(target.alloc);
-    parts.directives = directives(target.constant(), words)?.into_items();
-    parts.input_fields = input_values(target, words, Kind::LeftBrace, Kind::RightBrace)?;
-    Ok(parts)
-}
-
-fn scalar_parts(target: Target, words: &mut Words<'_>) -> Result<Parts, ReadError>
-    ensures { Gives result (standing words.new)
-        ((mapped scalar_parts (directives target.file true target.depth)).read (standing words.old)) }
-{
-    let mut parts = Parts::new(target.alloc);
-    parts.directives = directives(target.constant(), words)?.into_items();
-    Ok(parts)
-}
-
 /// Reads what stands behind the name of a type of this kind.
 #[tactic(auto, unfolding(graphql_productions::specs::TypeSystem::parts))]
 pub(crate) fn parts(
@@ -113,10 +111,28 @@ pub(crate) fn parts(
         ((parts target.file kind target.depth).read (standing words.old)) }
 {
     match kind {
-        TypeKind::Scalar => scalar_parts(target, words),
+        TypeKind::Scalar => {
+            let directives = directives(target.constant(), words)?;
+            Ok(directed(target.alloc, directives))
+        }
         TypeKind::Object | TypeKind::Interface => fielded(target, words),
-        TypeKind::Union => union_parts(target, words),
-        TypeKind::Enum => enum_parts(target, words),
-        TypeKind::InputObject => input_parts(target, words),
+        TypeKind::Union => {
+            let directives = directives(target.constant(), words)?;
+            let mut parts = directed(target.alloc, directives);
+            parts.names = names_behind(target, words, Kind::Equals, Kind::Pipe)?;
+            Ok(parts)
+        }
+        TypeKind::Enum => {
+            let directives = directives(target.constant(), words)?;
+            let mut parts = directed(target.alloc, directives);
+            parts.values = enum_values(target, words)?;
+            Ok(parts)
+        }
+        TypeKind::InputObject => {
+            let directives = directives(target.constant(), words)?;
+            let mut parts = directed(target.alloc, directives);
+            parts.input_fields = input_values(target, words, Kind::LeftBrace, Kind::RightBrace)?;
+            Ok(parts)
+        }
     }
 }

@@ -2,11 +2,11 @@
 ghost use Rattle.std.specs.Prelude.{◌≡◌, ℕ, Bool};
 ghost use Rattle.graphql_nodes.specs.declared.source.FileId.{FileId as File};
 ghost use Rattle.graphql_grammar.specs.Kinds.{Kinds};
-ghost use Rattle.graphql_grammar.specs.Pieces.{Adds, Gives, Piece, Wrong, item, many, mapped, optional, some};
+ghost use Rattle.graphql_grammar.specs.Pieces.{Adds, Gives, Piece, Wrong, item, many, some};
 ghost use Rattle.graphql_grammar.specs.Standing.{standing};
 ghost use Rattle.graphql_grammar.specs.Words.{begins};
 ghost use Rattle.graphql_grammar.proofs.PieceLaws.{Lawful};
-ghost use Rattle.graphql_productions.specs.Nodes.{between, enclosed, or_none};
+ghost use Rattle.graphql_productions.specs.Nodes.{between, enclosed, optional_list};
 
 use crate::reading::target::{Target, sign};
 use graphql_grammar::fault::{FaultKind, ReadError};
@@ -91,11 +91,12 @@ pub(crate) fn some_items<R: Read>(
         ((some (item R.first R.wrong (R.piece target.file target.constant target.depth))).read
         (standing words.old)) }
 {
-    let first = read_item::<R>(target, words)?;
-    let mut items = Items::new(target.alloc);
-    items.push(first)?;
-    push_items(target, words, &mut items)?;
-    Ok(items)
+    one_or_more!(
+        target,
+        read_item::<R>(target, words),
+        items,
+        push_items(target, words, &mut items)
+    )
 }
 
 /// Reads one item or more between two signs, which may be open.
@@ -147,14 +148,12 @@ pub(crate) fn optional_items<R: Read>(
     closing: Kind,
 ) -> Result<Items<R>, ReadError>
     ensures { Gives result (standing words.new)
-        ((mapped or_none
-        (optional (enclosed opening closing R.wrong target.depth (λ inside.
-        some (item R.first R.wrong (R.piece target.file target.constant inside)))))).read
-        (standing words.old)) }
+        ((optional_list opening closing R.wrong target.depth (λ inside.
+        item R.first R.wrong (R.piece target.file target.constant inside))).read (standing words.old)) }
 {
-    if words.next_is(opening) {
+    optional_list!(
+        target,
+        words.next_is(opening),
         enclosed_items(target, words, opening, closing)
-    } else {
-        Ok(Items::new(target.alloc))
-    }
+    )
 }

@@ -62,11 +62,7 @@ fn optional_default(target: Target, words: &mut Words<'_>) -> Result<Option<Node
     ensures { Gives result (standing words.new)
         ((optional (default_value target.file target.depth)).read (standing words.old)) }
 {
-    if words.next_is(Kind::Equals) {
-        Ok(Some(default_value(target, words)?))
-    } else {
-        Ok(None)
-    }
+    optional!(words.next_is(Kind::Equals), default_value(target, words))
 }
 
 /// What stands behind the name of a variable or an input value.
@@ -145,11 +141,7 @@ fn optional_name(target: Target, words: &mut Words<'_>) -> Result<Option<Name>, 
     ensures { Gives result (standing words.new)
         ((optional (operation_name target.file)).read (standing words.old)) }
 {
-    if words.next_is_name(Names::Any) {
-        Ok(Some(target.name(words)?))
-    } else {
-        Ok(None)
-    }
+    optional!(words.next_is_name(Names::Any), target.name(words))
 }
 
 /// Reads an operation.

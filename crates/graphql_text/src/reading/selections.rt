@@ -34,11 +34,7 @@ fn alias(target: Target, words: &mut Words<'_>) -> Result<Name, ReadError>
 fn optional_alias(target: Target, words: &mut Words<'_>) -> Result<Option<Name>, ReadError>
     ensures { Gives result (standing words.new) ((optional (alias target.file)).read (standing words.old)) }
 {
-    if words.next_is(Kind::Colon) {
-        Ok(Some(alias(target, words)?))
-    } else {
-        Ok(None)
-    }
+    optional!(words.next_is(Kind::Colon), alias(target, words))
 }
 
 /// The field of these parts: its own name comes second where it has an alias.
@@ -114,11 +110,7 @@ fn optional_condition(target: Target, words: &mut Words<'_>) -> Result<Option<Na
     ensures { Gives result (standing words.new)
         ((optional (type_condition target.file)).read (standing words.old)) }
 {
-    if words.next_is(Kind::On) {
-        Ok(Some(type_condition(target, words)?))
-    } else {
-        Ok(None)
-    }
+    optional!(words.next_is(Kind::On), type_condition(target, words))
 }
 
 /// Whether a selection comes next.
@@ -174,11 +166,12 @@ pub(crate) fn some_selections(
         ((some (selection target.file target.depth (selection_set target.file target.depth))).read
         (standing words.old)) }
 {
-    let first = selection(target, words)?;
-    let mut selections = Items::new(target.alloc);
-    selections.push(first)?;
-    push_selections(target, words, &mut selections)?;
-    Ok(selections)
+    one_or_more!(
+        target,
+        selection(target, words),
+        selections,
+        push_selections(target, words, &mut selections)
+    )
 }
 
 /// Reads selections, and adds them.
@@ -254,11 +247,7 @@ fn optional_set(
     ensures { Gives result (standing words.new)
         ((optional (selection_set target.file target.depth)).read (standing words.old)) }
 {
-    if words.next_is(Kind::LeftBrace) {
-        Ok(Some(selection_set(target, words)?))
-    } else {
-        Ok(None)
-    }
+    optional!(words.next_is(Kind::LeftBrace), selection_set(target, words))
 }
 
 #[cycle(selections)]

@@ -5,9 +5,6 @@ ghost use Rattle.graphql_grammar.specs.Pieces.{Adds, Gives, GivesSeen, Piece, be
 ghost use Rattle.graphql_grammar.specs.Pieces.{optional, separated, seq, sign};
 ghost use Rattle.graphql_grammar.specs.Standing.{standing};
 ghost use Rattle.graphql_grammar.proofs.PieceLaws.{Lawful};
-ghost use Rattle.graphql_productions.specs.Nodes.{name};
-ghost use Rattle.graphql_productions.specs.TypeSystem.{names_behind, names_body};
-ghost use Rattle.graphql_productions.proofs.NodeLaws.{name_tame};
 ghost use Rattle.graphql_text.specs.Seen.{seen_flag};
 
 use crate::reading::target::{Target, sign};
@@ -15,7 +12,6 @@ use graphql_grammar::fault::ReadError;
 use graphql_grammar::kind::Kind;
 use graphql_grammar::words::Words;
 use graphql_nodes::collections::items::Items;
-use graphql_nodes::name::Name;
 
 /// What stands between signs.
 pub(crate) trait Single: Drop {
@@ -28,16 +24,6 @@ pub(crate) trait Single: Drop {
 
     /// What is read is spelled so, and the other way round.
     ghost law: { (file : File) → Lawful (piece file) };
-}
-
-impl Single for Name {
-    ghost piece = { name };
-
-    ghost law = { λ file. (name_tame file).law };
-
-    fn read(target: Target, words: &mut Words<'_>) -> Result<Name, ReadError> {
-        target.name(words)
-    }
 }
 
 /// Takes a sign, if it is there; whether it was.
@@ -89,40 +75,10 @@ pub(crate) fn separated<S: Single>(
         ((separated separator (S.piece target.file)).read (standing words.old)) }
 {
     optional_sign(words, separator)?;
-    let first = S::read(target, words)?;
-    let mut items = Items::new(target.alloc);
-    items.push(first)?;
-    push_separated(target, words, separator, &mut items)?;
-    Ok(items)
-}
-
-fn names_body(
-    target: Target,
-    words: &mut Words<'_>,
-    opening: Kind,
-    separator: Kind,
-) -> Result<Items<Name>, ReadError>
-    ensures { Gives result (standing words.new)
-        ((names_body target.file opening separator).read (standing words.old)) }
-{
-    sign(words, opening)?;
-    separated(target, words, separator)
-}
-
-/// Reads names behind a word, if it is there.
-#[tactic(auto, unfolding(graphql_productions::specs::TypeSystem::names_behind))]
-pub(crate) fn names_behind(
-    target: Target,
-    words: &mut Words<'_>,
-    opening: Kind,
-    separator: Kind,
-) -> Result<Items<Name>, ReadError>
-    ensures { Gives result (standing words.new)
-        ((names_behind target.file opening separator).read (standing words.old)) }
-{
-    if words.next_is(opening) {
-        names_body(target, words, opening, separator)
-    } else {
-        Ok(Items::new(target.alloc))
-    }
+    one_or_more!(
+        target,
+        S::read(target, words),
+        items,
+        push_separated(target, words, separator, &mut items)
+    )
 }

@@ -8,20 +8,13 @@ use Rattle.graphql_tokens.proofs.StringLemmas.{block_character_cut, block_charac
 use Rattle.graphql_tokens.proofs.StringLemmas.{plain_block_run}
 use Rattle.graphql_tokens.proofs.values.BlockCharactersSays.push.Goals as goal
 
-pub range-requires-clause-end_boundary : goal.range-requires-clause-end_boundary
-range-requires-clause-end_boundary c = plain_block_cut c.args.text.now c.plain_block_bytes-plain.result cc
-
-pub range_from-requires : goal.range_from-requires
-range_from-requires c = λ _. plain_block_cut c.args.text.now c.plain_block_bytes-plain.result cc
+pub push_front-requires : goal.push_front-requires
+push_front-requires c = plain_block_cut c.args.text.now c.plain_block_bytes-plain.result cc
 
 pub returns-then-plain-gt0-clause-said : goal.returns-then-plain-gt0-clause-said
-returns-then-plain-gt0-clause-said c =
-    let text = c.args.text.now in
-    let is : c.plain_block_bytes-plain.result ≡ prefix_len is_plain_in_block text = cc in
-    run_said block_characters_say text (string_bytes c.args.value.now) (string_bytes c.push_str.new.self)
-    c.range.result.now c.range_from.result.now c.plain_block_bytes-plain.result
-    (prefix_len is_plain_in_block text) (plain_block_run text) is c.range.ensures.value
-    c.range_from.ensures.value c.in_ok-push_str.ensures.bytes
+returns-then-plain-gt0-clause-said c = run_said block_characters_say c.args.text.now _ _ _
+    c.plain_block_bytes-plain.result _ (plain_block_run c.args.text.now) (cc) c.in_ok-push_front.ensures.added
+    c.in_ok-push_front.ensures.behind
 
 pub split_at-requires : goal.split_at-requires
 split_at-requires c =

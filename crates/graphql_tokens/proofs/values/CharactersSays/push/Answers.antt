@@ -7,22 +7,16 @@ use Rattle.graphql_tokens.proofs.SaidLemmas.{run_said, said_more}
 use Rattle.graphql_tokens.proofs.StringLemmas.{escape_cut, escape_said, plain_cut, plain_run}
 use Rattle.graphql_tokens.proofs.values.CharactersSays.push.Goals as goal
 
-pub range-requires-clause-end_boundary : goal.range-requires-clause-end_boundary
-range-requires-clause-end_boundary c = plain_cut c.args.text.now c.plain_bytes-plain.result cc
-
-pub range_from-requires : goal.range_from-requires
-range_from-requires c = λ _. plain_cut c.args.text.now c.plain_bytes-plain.result cc
+pub push_front-requires : goal.push_front-requires
+push_front-requires c = plain_cut c.args.text.now c.plain_bytes-plain.result cc
 
 pub returns-then-plain-gt0-clause-said : goal.returns-then-plain-gt0-clause-said
-returns-then-plain-gt0-clause-said c =
-    let text = c.args.text.now in
-    let is : c.plain_bytes-plain.result ≡ prefix_len is_plain text = cc in
-    run_said characters_say text (string_bytes c.args.value.now) (string_bytes c.push_str.new.self)
-    c.range.result.now c.range_from.result.now c.plain_bytes-plain.result (prefix_len is_plain text)
-    (plain_run text) is c.range.ensures.value c.range_from.ensures.value c.in_ok-push_str.ensures.bytes
+returns-then-plain-gt0-clause-said c = run_said characters_say c.args.text.now _ _ _
+    c.plain_bytes-plain.result _ (plain_run c.args.text.now) (cc)
+    c.in_ok-push_front.ensures.added c.in_ok-push_front.ensures.behind
 
-pub range_from-requires-2 : goal.range_from-requires-2
-range_from-requires-2 c =
+pub range_from-requires : goal.range_from-requires
+range_from-requires c =
     let text = c.args.text.now in
     let is : c.plain_bytes-plain.result ≡ prefix_len is_plain text = cc in
     let size : c.size-size.result ≡ character_size text = cc in
@@ -38,6 +32,6 @@ returns-clause-said c =
     let within : c.size-size.result ≤ length text =
     omega (arith, c.size-size.ensures.within, c.as_bytes-2.ensures.len) in
     said_more characters_say text (string_bytes c.args.value.now) (string_bytes c.push_escaped.new.value)
-    (bytes_of (escaped text)) c.range_from-2.result.now (escape_said text c.range_from-2.result.now
-    c.size-size.result none size (omega (arith, c.if-size-eq0.false)) within c.range_from-2.ensures.value)
+    (bytes_of (escaped text)) c.range_from.result.now (escape_said text c.range_from.result.now
+    c.size-size.result none size (omega (arith, c.if-size-eq0.false)) within c.range_from.ensures.value)
     (cc (c.in_ok-push_escaped.ensures, c.as_bytes-3.ensures.value))
