@@ -8,7 +8,6 @@ use Rattle.graphql_ast.specs.declared.parts.Part.TheVariants as p
 use Rattle.graphql_ast.specs.declared.parts.Parts.{Parts}
 use Rattle.graphql_nodes.specs.NameView.{NameView}
 use Rattle.graphql_nodes.specs.NodeView.{NodeView}
-use Rattle.graphql_nodes.specs.declared.operation_type.OperationType.{OperationType}
 use Rattle.graphql_nodes.specs.declared.source.SourceSpan.{SourceSpan}
 use Rattle.graphql_nodes.specs.declared.type_kind.TypeKind.TheVariants as k
 use Rattle.graphql_ast.specs.declared.type_reference.Type.{«Type» as TypeReference}
@@ -40,8 +39,8 @@ abbrev pub node_at : {A : Type 0} → SourceSpan → A → NodeView A
 node_at location value = record { value = value; location = Some location }
 
 -- a directive without arguments
-abbrev pub applied_directive : NameView → SourceSpan → NodeView Directive
-applied_directive name location = node_at location record { name = name; arguments = [] }
+abbrev pub applied_directive : NameView → Directive
+applied_directive name = record { name = name; arguments = [] }
 
 -- an argument's definition, or that of a field of an input object
 abbrev pub input_value : NameView → TypeReference → DirectiveList → SourceSpan → NodeView InputValueDefinition
@@ -54,13 +53,8 @@ input_value name ty directives location = node_at location record {
 }
 
 -- a value of an enum
-abbrev pub enum_value : NameView → SourceSpan → NodeView EnumValueDefinition
-enum_value name location =
-    node_at location record { description = None; value = name; directives = record { 0 = [] } }
-
--- a root of the schema
-abbrev pub root_operation : OperationType → NameView → SourceSpan → NodeView (OperationType × NameView)
-root_operation operation name location = node_at location (operation, name)
+abbrev pub enum_value : NameView → EnumValueDefinition
+enum_value name = record { description = None; value = name; directives = record { 0 = [] } }
 
 -- a field alone
 abbrev pub field_alone : NameView → TypeReference → SourceSpan → OpenField
@@ -136,6 +130,10 @@ field_closed item = record item {
   last_field = None;
 }
 
+-- an item and one field more, which is the last
+abbrev pub with_field : OpenField → OpenItem → OpenItem
+with_field field item = record (field_closed item) { last_field = Some field }
+
 -- an item and one directive more of its last field
 abbrev pub with_field_directive : NodeView Directive → OpenItem → OpenItem
 with_field_directive directive item =
@@ -171,16 +169,16 @@ with_own_part part item = record item { parts = with_part part item.parts }
 -- an item and one component more
 abbrev pub with_component : Component → SourceSpan → OpenItem → OpenItem
 with_component (c.Directive name) location item =
-    with_own_part (p.Directive (applied_directive name location)) item
+    with_own_part (p.Directive (node_at location (applied_directive name))) item
 with_component (c.Implements name) location item = with_own_part (p.Name name) item
-with_component (c.Field name ty) location item =
-    record (field_closed item) { last_field = Some (field_alone name ty location) }
+with_component (c.Field name ty) location item = with_field (field_alone name ty location) item
 with_component (c.FieldDirective name) location item =
-    with_field_directive (applied_directive name location) item
+    with_field_directive (node_at location (applied_directive name)) item
 with_component (c.Argument name ty) location item =
     with_argument (input_value name ty (record { 0 = [] }) location) item
 with_component (c.Member name) location item = with_own_part (p.Name name) item
-with_component (c.Value name) location item = with_own_part (p.EnumValue (enum_value name location)) item
+with_component (c.Value name) location item =
+    with_own_part (p.EnumValue (node_at location (enum_value name))) item
 with_component (c.On directive_location) location item =
     record item {
       directive = record item.directive {
@@ -191,7 +189,7 @@ with_component (c.On directive_location) location item =
 with_component c.Repeatable location item =
     record item { directive = record item.directive { is_repeatable = true } }
 with_component (c.Root operation name) location item =
-    with_own_part (p.Root (root_operation operation name location)) item
+    with_own_part (p.Root (node_at location (operation, name))) item
 with_component (c.Selection depth selected) location item =
     record item {
       selections = item.selections ++ record {

@@ -8,6 +8,7 @@ use graphql_nodes::directive_location::DirectiveLocation;
 use graphql_nodes::name::Name;
 use graphql_nodes::node::Node;
 use graphql_nodes::source::SourceSpan;
+use graphql_nodes::take_apart;
 use std::alloc::{AllocError, Global};
 
 /// What the definition of a directive has, and no other.
@@ -21,11 +22,7 @@ pub struct DirectiveParts {
 
 impl Drop for DirectiveParts {
     fn drop(self) {
-        let Self {
-            arguments: _,
-            is_repeatable: _,
-            locations: _,
-        } = self;
+        take_apart!(self: arguments, is_repeatable, locations);
     }
 }
 

@@ -15,6 +15,7 @@ use crate::words::take_words;
 use graphql_ast::document::Document;
 use graphql_nodes::collections::items::Items;
 use graphql_nodes::source::{FileId, SourceSpan};
+use graphql_nodes::take_apart;
 use std::alloc::{AllocError, Global};
 use std::mem;
 
@@ -56,12 +57,7 @@ struct DocumentReader {
 
 impl Drop for DocumentReader {
     fn drop(self) {
-        let Self {
-            division: _,
-            documents: _,
-            document: _,
-            item: _,
-        } = self;
+        take_apart!(self: division, documents, document, item);
     }
 }
 
@@ -245,10 +241,7 @@ pub struct DividedDocuments {
 
 impl Drop for DividedDocuments {
     fn drop(self) {
-        let Self {
-            schema: _,
-            executable: _,
-        } = self;
+        take_apart!(self: schema, executable);
     }
 }
 

@@ -6,18 +6,18 @@ use crate::above::Above;
 use crate::directive_parts::DirectiveParts;
 use crate::line::{Component, Header};
 use crate::nesting::nested;
-use crate::nodes::{applied_directive, enum_value, input_value, root_operation};
+use crate::nodes::{applied_directive, enum_value, input_value};
 use crate::open_field::OpenField;
 use crate::selection_line::SelectionLine;
 use graphql_ast::declaration::{SchemaDeclaration, TypeDeclaration};
 use graphql_ast::definition::Definition;
 use graphql_ast::directive::{Directive, DirectiveList};
 use graphql_ast::parts::{Part, Parts};
-use graphql_ast::type_reference::Type;
+use graphql_ast::type_system::InputValueDefinition;
 use graphql_nodes::collections::items::Items;
-use graphql_nodes::name::Name;
 use graphql_nodes::node::Node;
 use graphql_nodes::source::SourceSpan;
+use graphql_nodes::take_apart;
 use graphql_nodes::type_kind::TypeKind;
 use std::alloc::{AllocError, Global};
 use std::mem;
@@ -36,21 +36,14 @@ pub struct OpenItem {
 
 impl Drop for OpenItem {
     fn drop(self) {
-        let Self {
-            location: _,
-            header: _,
-            parts: _,
-            directive: _,
-            last_field: _,
-            selections: _,
-        } = self;
+        take_apart!(self: location, header, parts, directive, last_field, selections);
     }
 }
 
 impl OpenItem {
-    ghost use Rattle.bench_notation.specs.Components.{header_alone, above_below, levels_after};
-    ghost use Rattle.bench_notation.specs.Components.{with_component, with_field_directive, whole_item};
-    ghost use Rattle.bench_notation.specs.declared.line.Component.TheVariants.{Argument, Field};
+    ghost use Rattle.bench_notation.specs.Components.{header_alone, above_below, levels_after, whole_item};
+    ghost use Rattle.bench_notation.specs.Components.{with_argument, with_component, with_field};
+    ghost use Rattle.bench_notation.specs.Components.{with_field_directive};
 
     /// The item of a header, without components.
     pub fn new(alloc: Global, header: Header, location: SourceSpan) -> OpenItem
@@ -101,20 +94,30 @@ impl OpenItem {
     {
         match component {
             Component::Directive(name) => {
-                let directive = applied_directive(alloc, name, location)?;
+                let directive = applied_directive(alloc, name);
+                let directive = Node::new_opt_location(alloc, directive, Some(location))?;
                 self.parts.push(Part::Directive(directive))
             }
             Component::Implements(name) | Component::Member(name) => {
                 self.parts.push(Part::Name(name))
             }
-            Component::Field(name, ty) => self.open_field(alloc, name, ty, location),
+            Component::Field(name, ty) => {
+                let field = OpenField::new(alloc, name, ty, location);
+                self.open_field(alloc, field)
+            }
             Component::FieldDirective(name) => {
-                let directive = applied_directive(alloc, name, location)?;
+                let directive = applied_directive(alloc, name);
+                let directive = Node::new_opt_location(alloc, directive, Some(location))?;
                 self.add_field_directive(directive)
             }
-            Component::Argument(name, ty) => self.add_argument(alloc, name, ty, location),
+            Component::Argument(name, ty) => {
+                let directives = DirectiveList::new(alloc);
+                let argument = input_value(alloc, name, ty, directives, location)?;
+                self.add_argument(argument)
+            }
             Component::Value(name) => {
-                let value = enum_value(alloc, name, location)?;
+                let value = enum_value(alloc, name);
+                let value = Node::new_opt_location(alloc, value, Some(location))?;
                 self.parts.push(Part::EnumValue(value))
             }
             Component::On(location) => self.directive.locations.push(location),
@@ -123,7 +126,7 @@ impl OpenItem {
                 Ok(())
             }
             Component::Root(operation, name) => {
-                let root = root_operation(alloc, operation, name, location)?;
+                let root = Node::new_opt_location(alloc, (operation, name), Some(location))?;
                 self.parts.push(Part::Root(root))
             }
             Component::Selection(depth, selected) => self.selections.push(SelectionLine {
@@ -145,16 +148,9 @@ impl OpenItem {
     }
 
     /// Adds an argument to the last field, and where there is none, to the directive that is being read.
-    fn add_argument(
-        &mut self,
-        alloc: Global,
-        name: Name,
-        ty: Type,
-        location: SourceSpan,
-    ) -> Result<(), AllocError>
-        ensures { OnOk result (self.new ≡ with_component (Argument name ty) location self.old) }
+    fn add_argument(&mut self, argument: Node<InputValueDefinition>) -> Result<(), AllocError>
+        ensures { OnOk result (self.new ≡ with_argument argument self.old) }
     {
-        let argument = input_value(alloc, name, ty, DirectiveList::new(alloc), location)?;
         match &mut self.last_field {
             Some(field) => field.arguments.push(argument),
             None => self.directive.arguments.push(argument),
@@ -162,16 +158,9 @@ impl OpenItem {
     }
 
     /// Closes the last field, if there is one, after which the next is open.
-    fn open_field(
-        &mut self,
-        alloc: Global,
-        name: Name,
-        ty: Type,
-        location: SourceSpan,
-    ) -> Result<(), AllocError>
-        ensures { OnOk result (self.new ≡ with_component (Field name ty) location self.old) }
+    fn open_field(&mut self, alloc: Global, next: OpenField) -> Result<(), AllocError>
+        ensures { OnOk result (self.new ≡ with_field next self.old) }
     {
-        let next = OpenField::new(alloc, name, ty, location);
         let last = mem::replace(&mut self.last_field, Some(next));
         add_last(alloc, &self.header, last, &mut self.parts)
     }

@@ -7,6 +7,7 @@ ghost use Rattle.bench_notation.specs.Refusals.{WhenRefused};
 use crate::refusal::{LineError, Reason};
 use graphql_nodes::name::Name;
 use graphql_nodes::source::SourceSpan;
+use graphql_nodes::take_apart;
 use std::alloc::{AllocError, Global};
 
 /// How many names are kept at most: so few that they stay near in memory.
@@ -21,7 +22,7 @@ struct Kept {
 
 impl Drop for Kept {
     fn drop(self) {
-        let Self { hash: _, name: _ } = self;
+        take_apart!(self: hash, name);
     }
 }
 
@@ -33,7 +34,7 @@ pub struct Names {
 
 impl Drop for Names {
     fn drop(self) {
-        let Self { places: _ } = self;
+        take_apart!(self: places);
     }
 }
 

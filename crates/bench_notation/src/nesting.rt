@@ -7,6 +7,7 @@ ghost use Rattle.bench_notation.specs.declared.selection_line.SelectionLine.{Sel
 use crate::selection_line::SelectionLine;
 use graphql_ast::selection::Selection;
 use graphql_nodes::collections::items::Items;
+use graphql_nodes::take_apart;
 use std::alloc::{AllocError, Global};
 use std::mem;
 
@@ -19,7 +20,7 @@ struct OpenSelection {
 
 impl Drop for OpenSelection {
     fn drop(self) {
-        let Self { before: _, line: _ } = self;
+        take_apart!(self: before, line);
     }
 }
 
@@ -51,10 +52,7 @@ struct Nesting {
 
 impl Drop for Nesting {
     fn drop(self) {
-        let Self {
-            path: _,
-            selections: _,
-        } = self;
+        take_apart!(self: path, selections);
     }
 }
 

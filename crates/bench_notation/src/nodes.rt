@@ -1,33 +1,27 @@
-//! Nodes of what one line says, all at the location that is given. Each error is out of memory.
+//! What one line says. Each error is out of memory.
 ghost use Rattle.std.specs.Prelude.{◌≡◌, IfOk};
-ghost use Rattle.bench_notation.specs.Components.{applied_directive, enum_value, input_value, root_operation};
+ghost use Rattle.bench_notation.specs.Components.{applied_directive, enum_value, input_value};
 
 use graphql_ast::directive::{Directive, DirectiveList};
 use graphql_ast::type_reference::Type;
 use graphql_ast::type_system::{EnumValueDefinition, InputValueDefinition};
 use graphql_nodes::collections::items::Items;
-use graphql_nodes::name::{Name, NamedType};
+use graphql_nodes::name::Name;
 use graphql_nodes::node::Node;
-use graphql_nodes::operation_type::OperationType;
 use graphql_nodes::source::SourceSpan;
 use std::alloc::{AllocError, Global};
 
 /// A directive without arguments.
-pub fn applied_directive(
-    alloc: Global,
-    name: Name,
-    location: SourceSpan,
-) -> Result<Node<Directive>, AllocError>
-    ensures { IfOk result (λ node. node ≡ applied_directive name location) }
+pub fn applied_directive(alloc: Global, name: Name) -> Directive
+    ensures { result ≡ applied_directive name }
 {
-    let directive = Directive {
+    Directive {
         name,
         arguments: Items::new(alloc),
-    };
-    Node::new_opt_location(alloc, directive, Some(location))
+    }
 }
 
-/// An argument, or a field of an input object type.
+/// An argument, or a field of an input object type, at this location.
 pub fn input_value(
     alloc: Global,
     name: Name,
@@ -48,29 +42,12 @@ pub fn input_value(
 }
 
 /// A value of an enum.
-pub fn enum_value(
-    alloc: Global,
-    value: Name,
-    location: SourceSpan,
-) -> Result<Node<EnumValueDefinition>, AllocError>
-    ensures { IfOk result (λ node. node ≡ enum_value value location) }
+pub fn enum_value(alloc: Global, value: Name) -> EnumValueDefinition
+    ensures { result ≡ enum_value value }
 {
-    let value = EnumValueDefinition {
+    EnumValueDefinition {
         description: None,
         value,
         directives: DirectiveList::new(alloc),
-    };
-    Node::new_opt_location(alloc, value, Some(location))
-}
-
-/// A root of the schema.
-pub fn root_operation(
-    alloc: Global,
-    operation: OperationType,
-    name: NamedType,
-    location: SourceSpan,
-) -> Result<Node<(OperationType, NamedType)>, AllocError>
-    ensures { IfOk result (λ node. node ≡ root_operation operation name location) }
-{
-    Node::new_opt_location(alloc, (operation, name), Some(location))
+    }
 }

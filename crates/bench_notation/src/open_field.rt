@@ -10,6 +10,7 @@ use graphql_nodes::collections::items::Items;
 use graphql_nodes::name::Name;
 use graphql_nodes::node::Node;
 use graphql_nodes::source::SourceSpan;
+use graphql_nodes::take_apart;
 use std::alloc::{AllocError, Global};
 
 /// A field whose directives and arguments may still come.
@@ -23,18 +24,12 @@ pub struct OpenField {
 
 impl Drop for OpenField {
     fn drop(self) {
-        let Self {
-            location: _,
-            name: _,
-            ty: _,
-            arguments: _,
-            directives: _,
-        } = self;
+        take_apart!(self: location, name, ty, arguments, directives);
     }
 }
 
 impl OpenField {
-    ghost use Rattle.bench_notation.specs.Components.{field_alone, field_node, input_field_node, field_part};
+    ghost use Rattle.bench_notation.specs.Components.{field_alone, field_part};
 
     /// A field without arguments and directives.
     pub fn new(alloc: Global, name: Name, ty: Type, location: SourceSpan) -> OpenField
@@ -49,9 +44,10 @@ impl OpenField {
         }
     }
 
-    /// The field as one of an object or interface type.
-    fn close(self, alloc: Global) -> Result<Node<FieldDefinition>, AllocError>
-        ensures { IfOk result (λ node. node ≡ field_node self) }
+    /// The field as a part of an input object type, where it has no arguments, or of another. The error is
+    /// out of memory.
+    pub fn close_as_part(self, alloc: Global, is_input: bool) -> Result<Part, AllocError>
+        ensures { IfOk result (λ part. part ≡ field_part is_input self) }
     {
         let OpenField {
             location,
@@ -60,6 +56,10 @@ impl OpenField {
             arguments,
             directives,
         } = self;
+        if is_input {
+            let field = input_value(alloc, name, ty, directives, location)?;
+            return Ok(Part::InputField(field));
+        }
         let definition = FieldDefinition {
             description: None,
             name,
@@ -67,31 +67,7 @@ impl OpenField {
             ty,
             directives,
         };
-        Node::new_opt_location(alloc, definition, Some(location))
-    }
-
-    /// The field as one of an input object type, where it has no arguments.
-    fn close_as_input(self, alloc: Global) -> Result<Node<InputValueDefinition>, AllocError>
-        ensures { IfOk result (λ node. node ≡ input_field_node self) }
-    {
-        let OpenField {
-            location,
-            name,
-            ty,
-            arguments: _,
-            directives,
-        } = self;
-        input_value(alloc, name, ty, directives, location)
-    }
-
-    /// The field as a part of an input object type, or of another. The error is out of memory.
-    pub fn close_as_part(self, alloc: Global, is_input: bool) -> Result<Part, AllocError>
-        ensures { IfOk result (λ part. part ≡ field_part is_input self) }
-    {
-        Ok(if is_input {
-            Part::InputField(self.close_as_input(alloc)?)
-        } else {
-            Part::Field(self.close(alloc)?)
-        })
+        let field = Node::new_opt_location(alloc, definition, Some(location))?;
+        Ok(Part::Field(field))
     }
 }

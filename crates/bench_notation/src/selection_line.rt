@@ -8,6 +8,7 @@ use graphql_nodes::collections::items::Items;
 use graphql_nodes::name::{Name, NamedType};
 use graphql_nodes::node::Node;
 use graphql_nodes::source::SourceSpan;
+use graphql_nodes::take_apart;
 use std::alloc::{AllocError, Global};
 
 /// How deep a selection stands at most.
@@ -47,11 +48,7 @@ pub struct SelectionLine {
 
 impl Drop for SelectionLine {
     fn drop(self) {
-        let Self {
-            depth: _,
-            location: _,
-            selected: _,
-        } = self;
+        take_apart!(self: depth, location, selected);
     }
 }
 

@@ -21,6 +21,7 @@ use Rattle.graphql_printing.specs.Operations.{variables_text}
 use Rattle.graphql_round_trip.proofs.BareLists.{each, enclosed_stays, on_lines_stay, none_seen}
 use Rattle.graphql_round_trip.proofs.BareTexts.{selections_say_no_location, directives_say_no_location}
 use Rattle.graphql_round_trip.proofs.BareTexts.{type_says_no_location, value_says_no_location, one_of_bare}
+use Rattle.graphql_round_trip.proofs.BareTexts.{one_selections_text, one_type_text, one_value_text}
 use Rattle.std.specs.List.{list_any}
 use Rattle.graphql_nodes.specs.LocationTexts.{location_text}
 use Rattle.graphql_nodes.specs.declared.type_kind.TypeKind.{TypeKind}
@@ -325,3 +326,6 @@ definitions_say_no_location (x ∷ xs) =
 pub one_text : (xs ys : List Definition) → map bare_definition xs ≡ map bare_definition ys
     → definitions_text xs ≡ definitions_text ys
 one_text = one_of_bare (map bare_definition) definitions_text definitions_say_no_location
+
+-- whatever tree differs in locations alone
+pub ruleset one_text_each = (one_text, one_selections_text, one_type_text, one_value_text)

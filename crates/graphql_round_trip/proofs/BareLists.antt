@@ -9,6 +9,10 @@ pub each : {A : Type 0} {P : A → Type 0} → ((x : A) → P x) → (xs : List 
 each holds [] = tt
 each {P = P} holds (x ∷ xs) = (holds x, each {P = P} holds xs)
 
+-- something with what holds of it
+abbrev pub Shown : {A : Type 0} → (A → Type 0) → Type 0
+Shown {A} P = (x : A) × P x
+
 -- what holds of each item that is given so
 pub each_given : {A B : Type 0} (P : A → Type 0) (given : B → A) → ((b : B) → P (given b)) → (bs : List B)
     → AllByRecursion P (map given bs)

@@ -20,7 +20,7 @@ use Rattle.graphql_printing.specs.Layout.{separated, braces}
 use Rattle.graphql_printing.specs.Texts.{argument_text, arguments_text, directive_text, directives_text}
 use Rattle.graphql_printing.specs.Texts.{item_text, label_text, member_step, member_text, type_step}
 use Rattle.graphql_printing.specs.Texts.{type_text, value_step, value_text}
-use Rattle.graphql_round_trip.proofs.BareLists.{each, each_behind_stays, each_given, enclosed_stays}
+use Rattle.graphql_round_trip.proofs.BareLists.{Shown, each, each_behind_stays, each_given, enclosed_stays}
 use Rattle.graphql_round_trip.proofs.BareLists.{separated_stays, on_lines_stay}
 use Rattle.graphql_round_trip.proofs.Levels.{of_selection}
 use Rattle.graphql_ast.specs.BareSelections.{bare_field, bare_fragment_spread, bare_inline_fragment}
@@ -45,6 +45,13 @@ pub one_of_bare : {A B : Type 0} (bare : A → A) (text : A → B) → ((x : A) 
     → (x y : A) → bare x ≡ bare y → text x ≡ text y
 one_of_bare bare text says x y same = sym (says x) ∙ ap text same ∙ says y
 
+-- so it has the text of its bare tree, where each level's text is that of the bare level
+stays_by_level : {A L B : Type 0} (bare : A → A) (text : A → B) (roll : L → A) (level : L → B)
+    → ((z : L) → text (roll z) ≡ level z) → (z bared : L) → bare (roll z) ≡ roll bared
+    → level bared ≡ level z → text (bare (roll z)) ≡ text (roll z)
+stays_by_level bare text roll level says z bared is same =
+    ap text is ∙ says bared ∙ same ∙ sym (says z)
+
 -- a node of what f gives of its value
 abbrev along : {A B : Type 0} → (A → B) → NodeView A → NodeView B
 along f n = record { value = f n.value; location = n.location }
@@ -54,25 +61,23 @@ along f n = record { value = f n.value; location = n.location }
 abbrev TypeStays : TypeReference → Type 0
 TypeStays x = type_text (bare_type x) ≡ type_text x
 
--- a type with what is to be shown of it
-abbrev ShownType : Type 0
-ShownType = (x : TypeReference) × TypeStays x
-
 -- a type whose bare type and text are such, from one level to the next
-type_stays : (z bared : Type-F TypeReference)
-    → bare.type_step (map-Type TypeReference TypeReference bare_type z) ≡ roll-Type bared
+type_stays : (z bared : Type-F TypeReference) → bare_type (roll-Type z) ≡ roll-Type bared
     → type_step (map-Type TypeReference (List ℕ) type_text bared)
     ≡ type_step (map-Type TypeReference (List ℕ) type_text z) → TypeStays (roll-Type z)
-type_stays z bared is same = ap type_text (fold-roll-Type TypeReference bare.type_step z ∙ is)
-    ∙ fold-roll-Type (List ℕ) type_step bared ∙ same ∙ sym (fold-roll-Type (List ℕ) type_step z)
+type_stays = stays_by_level bare_type type_text roll-Type (λ z. type_step (map-Type TypeReference (List ℕ)
+    type_text z)) (fold-roll-Type (List ℕ) type_step)
 
-type_level : (y : Type-F ShownType) → TypeStays (roll-Type (map-Type ShownType TypeReference (λ e. e.0) y))
-type_level (Type-F.Named n) = type_stays _ _ refl refl
-type_level (Type-F.NonNullNamed n) = type_stays _ _ refl refl
+type_level : (y : Type-F (Shown TypeStays))
+    → TypeStays (roll-Type (map-Type (Shown TypeStays) TypeReference (λ e. e.0) y))
+type_level (Type-F.Named n) = type_stays _ (Type-F.Named _) (fold-roll-Type _ bare.type_step _) refl
+type_level (Type-F.NonNullNamed n) = type_stays _ (Type-F.NonNullNamed _) (fold-roll-Type _ bare.type_step _)
+    refl
 type_level (Type-F.List x) = let inner = x.1 in type_stays (Type-F.List x.0) (Type-F.List (bare_type x.0))
-    refl (λ i. codes "[" ++ inner i ++ codes "]")
+    (fold-roll-Type _ bare.type_step _) (λ i. codes "[" ++ inner i ++ codes "]")
 type_level (Type-F.NonNullList x) = let inner = x.1 in type_stays (Type-F.NonNullList x.0)
-    (Type-F.NonNullList (bare_type x.0)) refl (λ i. codes "[" ++ inner i ++ codes "]!")
+    (Type-F.NonNullList (bare_type x.0)) (fold-roll-Type _ bare.type_step _)
+    (λ i. codes "[" ++ inner i ++ codes "]!")
 
 -- a type
 pub type_says_no_location : (x : TypeReference) → type_text (bare_type x) ≡ type_text x
@@ -87,17 +92,14 @@ one_type_text = one_of_bare bare_type type_text type_says_no_location
 abbrev ValueStays : Value → Type 0
 ValueStays x = value_text (bare_value x) ≡ value_text x
 
--- a value with what is to be shown of it
-abbrev ShownValue : Type 0
-ShownValue = (x : Value) × ValueStays x
-
--- a value whose bare value and text are such, from one level to the next
-value_stays : (z bared : Value-F Value)
+-- a value in which none stands, and whose text is that of its bare level
+word_stays : (z bared : Value-F Value)
     → bare.value_step (map-Value Value Value bare_value z) ≡ roll-Value bared
     → value_step (map-Value Value (List ℕ) value_text bared)
     ≡ value_step (map-Value Value (List ℕ) value_text z) → ValueStays (roll-Value z)
-value_stays z bared is same = ap value_text (fold-roll-Value Value bare.value_step z ∙ is)
-    ∙ fold-roll-Value (List ℕ) value_step bared ∙ same ∙ sym (fold-roll-Value (List ℕ) value_step z)
+word_stays z bared is = stays_by_level bare_value value_text roll-Value (λ z. value_step (map-Value Value
+    (List ℕ) value_text z)) (fold-roll-Value (List ℕ) value_step) z bared (fold-roll-Value Value
+    bare.value_step z ∙ is)
 
 -- the text of a list, from one level to the next
 pub list_says : (items : List (NodeView Value))
@@ -134,9 +136,9 @@ pub object_says : (members : List (Member Value))
 object_says members = fold-roll-Value (List ℕ) value_step _ ∙ ap (λ (t : List ℕ). codes "{" ++ t ++ codes "}")
     (separated_stays _ member_text member_step (codes ", ") members (each (λ x. refl) members))
 
-member_stays : (m : Member ShownValue)
-    → member_text (along_member bare_value (along_member (λ (e : ShownValue). e.0) m))
-    ≡ member_text (along_member (λ (e : ShownValue). e.0) m)
+member_stays : (m : Member (Shown ValueStays))
+    → member_text (along_member bare_value (along_member (λ (e : Shown ValueStays). e.0) m))
+    ≡ member_text (along_member (λ (e : Shown ValueStays). e.0) m)
 member_stays m = let value = m.1.value.1 in λ i. label_text m.0 ++ value i
 
 object_stays : (members : List (Member Value))
@@ -150,20 +152,21 @@ object_stays members all =
     ∙ separated_stays (along_member bare_value) member_text member_text (codes ", ") members all)
     ∙ sym (object_says members)
 
-value_level : (y : Value-F ShownValue) → ValueStays (roll-Value (map-Value ShownValue Value (λ e. e.0) y))
-value_level Value-F.Null = value_stays Value-F.Null Value-F.Null refl refl
-value_level (Value-F.Enum n) = value_stays _ _ refl refl
-value_level (Value-F.Variable n) = value_stays _ _ refl refl
-value_level (Value-F.String t) = value_stays _ _ refl refl
-value_level (Value-F.Float t) = value_stays _ (Value-F.Float t) refl refl
-value_level (Value-F.Int t) = value_stays (Value-F.Int t) (Value-F.Int t) refl refl
-value_level (Value-F.Boolean b) = value_stays (Value-F.Boolean b) (Value-F.Boolean b) refl refl
+value_level : (y : Value-F (Shown ValueStays))
+    → ValueStays (roll-Value (map-Value (Shown ValueStays) Value (λ e. e.0) y))
+value_level Value-F.Null = word_stays Value-F.Null Value-F.Null refl refl
+value_level (Value-F.Enum n) = word_stays _ _ refl refl
+value_level (Value-F.Variable n) = word_stays _ _ refl refl
+value_level (Value-F.String t) = word_stays _ _ refl refl
+value_level (Value-F.Float t) = word_stays _ (Value-F.Float t) refl refl
+value_level (Value-F.Int t) = word_stays (Value-F.Int t) (Value-F.Int t) refl refl
+value_level (Value-F.Boolean b) = word_stays (Value-F.Boolean b) (Value-F.Boolean b) refl refl
 value_level (Value-F.List ys) =
-    let shown : NodeView ShownValue → NodeView Value = along (λ (e : ShownValue). e.0) in
+    let shown : NodeView (Shown ValueStays) → NodeView Value = along (λ (e : Shown ValueStays). e.0) in
     list_stays (map shown ys) (each_given (λ (item : NodeView Value). ValueStays item.value) shown
     (λ y. y.value.1) ys)
 value_level (Value-F.Object ys) =
-    let shown : Member ShownValue → Member Value = along_member (λ (e : ShownValue). e.0) in
+    let shown : Member (Shown ValueStays) → Member Value = along_member (λ (e : Shown ValueStays). e.0) in
     object_stays (map shown ys) (each_given (λ (m : Member Value). member_text (along_member bare_value m)
     ≡ member_text m) shown member_stays ys)
 
@@ -279,11 +282,9 @@ field_stays f all indent =
       directives = bare_directive_list f.directives;
       selection_set = map bare_selection f.selection_set;
     } in
-    ap (λ (x : Field). field_text x indent) (fold-roll-Field Selection Field InlineFragment
-    b.selection_step b.field_step b.inline_step f)
-    ∙ field_says bared indent
-    ∙ (λ i. head i ++ directives i ++ inside i)
-    ∙ sym (field_says f indent)
+    stays_by_level bare_field (λ (x : Field). field_text x indent) roll-Field _ (λ z. field_says z indent) f
+    bared (fold-roll-Field Selection Field InlineFragment b.selection_step b.field_step b.inline_step f)
+    (λ i. head i ++ directives i ++ inside i)
 
 -- the text of an inline fragment, from one level to the next
 pub inline_says : (f : InlineFragment-F Selection Field InlineFragment) (indent : ℕ)
@@ -304,11 +305,10 @@ inline_stays f all indent =
       directives = bare_directive_list f.directives;
       selection_set = map bare_selection f.selection_set;
     } in
-    ap (λ (x : InlineFragment). inline_text x indent) (fold-roll-InlineFragment Selection Field InlineFragment
-    b.selection_step b.field_step b.inline_step f)
-    ∙ inline_says bared indent
-    ∙ (λ i. codes "..." ++ condition i ++ directives i ++ inside i)
-    ∙ sym (inline_says f indent)
+    stays_by_level bare_inline_fragment (λ (x : InlineFragment). inline_text x indent) roll-InlineFragment _
+    (λ z. inline_says z indent) f bared (fold-roll-InlineFragment Selection Field InlineFragment
+    b.selection_step b.field_step b.inline_step f) (λ i. codes "..." ++ condition i ++ directives i
+    ++ inside i)
 
 -- one level of the text of a selection
 abbrev pub selection_layer : Selection-F Selection Field InlineFragment → Text
@@ -327,9 +327,9 @@ selection_stays : (z bared : Selection-F Selection Field InlineFragment) (indent
     bare_selection bare_field bare_inline_fragment z) ≡ roll-Selection bared
     → selection_layer bared indent ≡ selection_layer z indent
     → selection_text (bare_selection (roll-Selection z)) indent ≡ selection_text (roll-Selection z) indent
-selection_stays z bared indent is same = ap (λ (x : Selection). selection_text x indent)
-    (fold-roll-Selection Selection Field InlineFragment b.selection_step b.field_step b.inline_step z ∙ is)
-    ∙ selection_says bared indent ∙ same ∙ sym (selection_says z indent)
+selection_stays z bared indent is = stays_by_level bare_selection (λ x. selection_text x indent)
+    roll-Selection (λ z. selection_layer z indent) (λ z. selection_says z indent) z bared (fold-roll-Selection
+    Selection Field InlineFragment b.selection_step b.field_step b.inline_step z ∙ is)
 
 -- a selection, however far in it stands
 pub selection_says_no_location : (x : Selection) (indent : ℕ)

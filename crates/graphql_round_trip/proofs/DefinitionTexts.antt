@@ -40,6 +40,7 @@ use Rattle.graphql_round_trip.proofs.TypeDefinitionTexts.{type_definition_prints
 use Rattle.graphql_round_trip.proofs.TypeDefinitionTexts.{schema_heads, keyword_is_described}
 use Rattle.graphql_round_trip.proofs.TypeDefinitionTexts.{type_extension_prints, type_heads}
 use Rattle.graphql_round_trip.proofs.TypeDefinitionTexts.{bare_schema_extension_of, bare_extension_of}
+use Rattle.graphql_round_trip.proofs.PieceTexts.{same_heads}
 use Rattle.graphql_round_trip.proofs.PieceTexts.{grouped6, regrouped, keyword_prints, sign_before}
 use Rattle.graphql_round_trip.proofs.PieceTexts.{sign_prints, loosely, node_prints, behind_blank, branch_at}
 use Rattle.graphql_round_trip.proofs.PieceTexts.{heads_on, mapped_text, none_text, one_text, seq_text, there}
@@ -183,9 +184,8 @@ shape_grouped directive = grouped6 (codes "directive @") directive.name.text _ _
 -- the definition of a directive begins with its keyword
 pub directive_heads : (directive : DirectiveDefinition)
     → Heads (only k.Directive) (directive_shape directive) ends_token
-directive_heads directive = subst (λ (text : List ℕ). Heads (only k.Directive) text ends_token)
-    (shape_grouped directive) (heads_on _ ends_token (keyword_heads k.Directive (codes "directive") refl refl)
-    (λ rest _. refl))
+directive_heads directive = same_heads (shape_grouped directive) (heads_on _ ends_token
+    (keyword_heads k.Directive (codes "directive") refl refl) (λ rest _. refl))
 
 module _ (file : FileId) (depth : ℕ) where
   -- where there is a location
@@ -275,11 +275,15 @@ module _ (file : FileId) (depth : ℕ) where
   abbrev pub fronted : Bool → Piece Definition
   fronted is_extension = choose is_extension (extension file depth) (system_definition file depth)
 
+  -- what says this is read as itself, defined or extended
+  abbrev FrontPrints : Bool → Bool → Declaration → Type 0
+  FrontPrints braces is_extension x = IsWellFormed (declaration_parts x) → declaration_nesting x ≤ depth
+      → Prints (fronted is_extension) bare_definition (made (bare_declaration x)) (declaration_text braces x)
+      ends_token
+
   -- the definition of a directive
   pub directive_prints : (braces : Bool) (n : NodeView DirectiveDefinition)
-      → IsWellFormed (declaration_parts (OfDirective n)) → declaration_nesting (OfDirective n) ≤ depth
-      → Prints (fronted false) bare_definition (made (bare_declaration (OfDirective n)))
-      (declaration_text braces (OfDirective n)) ends_token
+      → FrontPrints braces false (OfDirective n)
   directive_prints braces n well fits =
       let behind = (part_of_front (description_parts n.value.description) (Name n.value.name
       ∷ (input_values_parts n.value.arguments ++ (Wanted (not (is_none n.value.locations)) ∷ [])))
@@ -288,11 +292,8 @@ module _ (file : FileId) (depth : ℕ) where
       (directive_definition_prints file depth n.value behind fits)
 
   -- the definition or an extension of the schema
-  pub schema_prints : (braces is_extension : Bool) (s : SchemaDeclaration) →
-      let x : SchemaDeclaration = record s { is_extension = is_extension } in
-      IsWellFormed (declaration_parts (OfSchema x)) → declaration_nesting (OfSchema x) ≤ depth
-      → Prints (fronted is_extension) bare_definition (made (bare_declaration (OfSchema x)))
-      (declaration_text braces (OfSchema x)) ends_token
+  pub schema_prints : (braces is_extension : Bool) (s : SchemaDeclaration)
+      → FrontPrints braces is_extension (OfSchema (record s { is_extension = is_extension }))
   schema_prints braces true s well fits =
       extended_extension file depth (bare_schema_extension_of (directive_list s.parts) s.parts.roots)
       (schema_extension_prints file depth (directive_list s.parts) s.parts.roots well.1.1 fits well.1.0)
@@ -303,11 +304,8 @@ module _ (file : FileId) (depth : ℕ) where
       (schema_definition_prints file depth (directive_list s.parts) s.parts.roots behind fits)
 
   -- the definition or an extension of a type
-  pub type_prints : (braces is_extension : Bool) (t : TypeDeclaration) →
-      let x : TypeDeclaration = record t { is_extension = is_extension } in
-      IsWellFormed (declaration_parts (OfType x)) → declaration_nesting (OfType x) ≤ depth
-      → Prints (fronted is_extension) bare_definition (made (bare_declaration (OfType x)))
-      (declaration_text braces (OfType x)) ends_token
+  pub type_prints : (braces is_extension : Bool) (t : TypeDeclaration)
+      → FrontPrints braces is_extension (OfType (record t { is_extension = is_extension }))
   type_prints braces true t well fits = extended_extension file depth (bare_extension_of t.kind t.name
       t.parts) (type_extension_prints file depth t.kind t.name t.parts well.1.1.0 well.1.1.1 fits well.1.0)
   type_prints braces false t well fits =
@@ -370,9 +368,8 @@ module _ (file : FileId) (depth : ℕ) where
   unfolding operation_definition
   long_prints n well fits = branch_at (definition_pick file depth) (expecting i.Definition)
       (keyword_kind n.value.operation_type) (long_head n.value well.1)
-      (subst (λ (p : Piece Definition). Prints p bare_definition (bare_definition (d.OperationDefinition n))
-      (long_text n.value) anything) (sym (operation_picked n.value.operation_type))
-      (mapped_text (λ x. d.OperationDefinition x) bare_definition (bare_definition (d.OperationDefinition n))
+      (rw (operation_picked n.value.operation_type) (mapped_text (λ x. d.OperationDefinition x)
+      bare_definition (bare_definition (d.OperationDefinition n))
       (λ x same. ap (λ (y : NodeView OperationDefinition). d.OperationDefinition y) same)
       (node_prints file (operation_prints file depth n.value well.1 fits))))
 

@@ -26,7 +26,8 @@ use Rattle.graphql_round_trip.specs.Nesting.{directives_nesting}
 use Rattle.graphql_round_trip.specs.Printed.{Prints, ends_token}
 use Rattle.graphql_round_trip.proofs.PieceTexts.{regrouped, node_prints, sign_prints, item_text, many_text}
 use Rattle.graphql_round_trip.proofs.PieceTexts.{mapped_text, seq_text, sign_or_text, grouped3, name_prints}
-use Rattle.graphql_round_trip.proofs.ListTexts.{items_print, labelled_prints, lines_print, list_prints}
+use Rattle.graphql_round_trip.proofs.ListTexts.{ReadAsItself, items_print, labelled_prints, lines_print}
+use Rattle.graphql_round_trip.proofs.ListTexts.{list_prints}
 use Rattle.graphql_round_trip.proofs.TokenTexts.{at_is_token, left_paren_is_token, right_paren_is_token}
 use Rattle.graphql_round_trip.proofs.ValueTexts.{value_node_prints}
 
@@ -34,10 +35,8 @@ module _ (file : FileId) (constant : Bool) where
   -- ---- arguments
 
   -- an argument is read as itself
-  argument_prints : (depth : ℕ) (a : NodeView Argument)
-      → IsWellFormed (node_parts (argument_parts constant) a) → argument_nesting a ≤ depth
-      → Prints (argument file constant depth) (bare_node bare_argument) (bare_node bare_argument a)
-      (argument_text a) ends_token
+  argument_prints : (depth : ℕ) → ReadAsItself (node_parts (argument_parts constant)) argument_nesting depth
+      (argument file constant depth) (bare_node bare_argument) argument_text
   unfolding argument_node
   argument_prints depth a fine fits =
       item_text is_name no_argument (node_prints file (mapped_text argument_of bare_argument
@@ -77,10 +76,8 @@ module _ (file : FileId) (constant : Bool) where
   arguments_end (x ∷ xs) rest end = refl
 
   -- a directive is read as itself
-  directive_prints : (depth : ℕ) (d : NodeView Directive)
-      → IsWellFormed (node_parts (directive_parts constant) d) → directive_nesting d ≤ depth
-      → Prints (directive file constant depth) (bare_node bare_directive) (bare_node bare_directive d)
-      (directive_text d) ends_token
+  directive_prints : (depth : ℕ) → ReadAsItself (node_parts (directive_parts constant)) directive_nesting
+      depth (directive file constant depth) (bare_node bare_directive) directive_text
   unfolding directive_node
   directive_prints depth d fine fits =
       item_text (only k.At) no_directive (node_prints file (mapped_text directive_of bare_directive

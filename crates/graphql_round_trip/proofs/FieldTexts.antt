@@ -15,6 +15,7 @@ use Rattle.graphql_ast.specs.declared.directive.Argument.{Argument}
 use Rattle.graphql_ast.specs.declared.directive.DirectiveList.{DirectiveList}
 use Rattle.graphql_ast.specs.declared.selection.Field.{Field, roll-Field}
 use Rattle.graphql_ast.specs.declared.selection.Selection.{Selection}
+use Rattle.graphql_ast.specs.declared.selection.Selection.TheOpen.{Selection-F}
 use Rattle.graphql_grammar.specs.Kinds.{is_name, only, Kinds, names_of}
 use Rattle.graphql_grammar.specs.Pieces.{Piece, choose, nothing, optional, seq, mapped}
 use Rattle.graphql_productions.specs.Directives.{arguments, directives}
@@ -44,8 +45,7 @@ use Rattle.graphql_round_trip.proofs.PieceTexts.{seq_text, behind_blank, branch_
 use Rattle.graphql_round_trip.proofs.PieceTexts.{word_text, IsApart, apart_joined, directives_apart}
 use Rattle.graphql_round_trip.proofs.PieceTexts.{apart_before}
 use Rattle.graphql_round_trip.proofs.ListTexts.{left_out, left_out_none, seen_or_none, part_of_front}
-use Rattle.graphql_round_trip.proofs.Levels.{FieldLevel, field_bare, field_selection_bare, InlineLevel}
-use Rattle.graphql_round_trip.proofs.Levels.{inline_bare, inline_selection_bare, spread_selection_bare}
+use Rattle.graphql_round_trip.proofs.Levels.{FieldLevel, InlineLevel, field_bare, inline_bare, selection_bare}
 use Rattle.graphql_round_trip.proofs.TokenTexts.{colon_is_token, at_is_token, left_brace_is_token}
 use Rattle.graphql_round_trip.proofs.TokenTexts.{name_is_token, name_unblank, spread_is_token}
 use Rattle.std.proofs.lemmas.Bool.{and_parts}
@@ -150,7 +150,8 @@ module _ (file : FileId) (depth : ℕ) (p : Piece (List Selection)) where
       (nothing no_selection)) (is_none_of is_name (only k.Spread) refl kind is)
       (first_text (is_name kind) (field_selection file depth p) (nothing no_selection) is
       (mapped_text (λ x. s.Field x) bare_selection (s.Field (record { value = y; location = None }))
-      (λ n same. field_selection_bare n ∙ ap (λ (n : NodeView Field). s.Field n) same) (node_prints file t))))
+      (λ n same. selection_bare (Selection-F.Field n) ∙ ap (λ (n : NodeView Field). s.Field n) same)
+      (node_prints file t))))
 
   -- by its alias and name, and what stands behind them
   selected_prints : {v : Behind} {text : List ℕ}
@@ -307,8 +308,11 @@ module _ (file : FileId) (depth : ℕ) (p : Piece (List Selection)) where
       (first_text (is_name kind) (mapped (spread_at file) (spread_body file depth)) (nothing no_selection)
       (and_parts (is_name kind) (not (only k.On kind)) is).0 (mapped_text (spread_at file) place_seen
       (λ at. s.FragmentSpread (record { value = y; location = None }))
-      (λ x same i at. (spread_selection_bare (record { value = x; location = span_at file at })
-      ∙ ap (λ (v : FragmentSpread). s.FragmentSpread (record { value = v; location = None })) same) i) body)))
+      (λ x same i at. (selection_bare (Selection-F.FragmentSpread (record {
+        value = x;
+        location = span_at file at;
+      })) ∙ ap (λ (v : FragmentSpread). s.FragmentSpread (record { value = v; location = None })) same) i)
+      body)))
     where
       begins_inline : Kinds
       begins_inline kind = only k.On kind || (only k.At kind || only k.LeftBrace kind)
@@ -326,8 +330,10 @@ module _ (file : FileId) (depth : ℕ) (p : Piece (List Selection)) where
           (λ at. s.InlineFragment (record { value = y; location = None })) (condition_text c
           ++ (directives_text ds ++ (codes " {" ++ more))) anything
       placed = mapped_text _ place_seen _
-          (λ x same i at. (inline_selection_bare (record { value = x; location = span_at file at })
-          ∙ ap (λ (v : InlineFragment). s.InlineFragment (record { value = v; location = None })) same) i)
+          (λ x same i at. (selection_bare (Selection-F.InlineFragment (record {
+            value = x;
+            location = span_at file at;
+          })) ∙ ap (λ (v : InlineFragment). s.InlineFragment (record { value = v; location = None })) same) i)
           body
 
       by : (c : Option NameView) (ds : List (NodeView Directive))

@@ -3,9 +3,9 @@ use Rattle.std.proofs.Common.{◌≤◌, ℕ, true, None, arith, ◌||◌, List,
 use Rattle.graphql_nodes.specs.declared.source.FileId.{FileId}
 use Rattle.graphql_nodes.specs.declared.type_kind.TypeKind.{TypeKind}
 use Rattle.graphql_grammar.specs.declared.kind.Kind.{Kind}
-use Rattle.graphql_grammar.specs.Pieces.{mapped, optional, seq, sign, separated}
+use Rattle.graphql_grammar.specs.Pieces.{Piece, Wrong, item, mapped, optional, separated, seq, sign}
 use Rattle.graphql_productions.specs.Directives.{directives}
-use Rattle.graphql_productions.specs.Nodes.{name, span_at}
+use Rattle.graphql_productions.specs.Nodes.{name, node, span_at}
 use Rattle.graphql_productions.specs.Operations.{no_root, is_operation_type}
 use Rattle.graphql_productions.specs.TypeSystem.{description, enum_value_definition, enum_value_name}
 use Rattle.graphql_productions.specs.TypeSystem.{enum_value_node, enum_values, expecting, field_definition}
@@ -30,7 +30,7 @@ use Rattle.graphql_nodes.specs.declared.source.SourceSpan.{SourceSpan}
 use Rattle.graphql_ast.specs.Declarations.{type_definition, type_extension}
 use Rattle.graphql_ast.specs.declared.definition.Definition.{Definition}
 use Rattle.graphql_ast.specs.declared.parts.Parts.{Parts}
-use Rattle.graphql_grammar.specs.Kinds.{only}
+use Rattle.graphql_grammar.specs.Kinds.{Kinds, only}
 use Rattle.graphql_grammar.specs.Words.{WordView}
 use Rattle.graphql_productions.specs.Documents.{definition, fragment, operation_definition}
 use Rattle.graphql_productions.specs.Documents.{shorthand_definition, spells_document, spells_in_turn}
@@ -38,15 +38,25 @@ use Rattle.graphql_nodes.specs.declared.type_kind.TypeKind.TheVariants as t
 use Rattle.graphql_grammar.specs.declared.fault.Item.TheVariants as i
 use Rattle.graphql_grammar.specs.declared.kind.Kind.TheVariants as k
 
+-- ---- what is described and named
+
+-- an item with a description and a name nests as deep as what stands behind its name
+described_item_fits : {A B N : Type 0} (kinds : Kinds) (wrong : Wrong) (file : FileId) (named : Piece N)
+    {p : Piece B} (f : Option NameView × (N × B) → A) (nesting : A → ℕ) {depth : ℕ} {P : B → Type 0}
+    → Keeps p P → ((x : Option NameView × (N × B)) → P x.1.1 → nesting (f x) ≤ depth)
+    → Fits (item kinds wrong (node file (mapped f (seq (optional (description file)) (seq named p)))))
+    (λ n. nesting n.value) depth
+described_item_fits kinds wrong file named f nesting {depth} pf so =
+    item_keeps wrong (node_keeps {P = λ v. nesting v ≤ depth}
+    (mapped_keeps (seq_keeps (unasked (optional (description file))) (seq_keeps (unasked named) pf))
+    (λ x fits. so x fits.1.1)))
+
 -- ---- input values
 
 input_fits : (file : FileId) (depth : ℕ) → Fits (input_value file depth) input_nesting depth
 unfolding input_node
-input_fits file depth =
-    item_keeps (expecting i.InputValue)
-    (node_keeps {P = λ v. input_nesting (record { value = v; location = None }) ≤ depth} (mapped_keeps
-    (seq_keeps (unasked (optional (description file))) (seq_keeps (unasked (name file))
-    (typed_fits file depth))) (λ x fits. fits.1.1)))
+input_fits file depth = described_item_fits _ (expecting i.InputValue) file (name file) _
+    (λ v. input_nesting (record { value = v; location = None })) (typed_fits file depth) (λ x fits. fits)
 
 -- input values between signs, if there are any
 pub input_values_fit : (file : FileId) (opening closing : Kind) (depth : ℕ)
@@ -59,13 +69,11 @@ input_values_fit file opening closing depth = list_fits input_nesting (enclosed_
 
 field_fits : (file : FileId) (depth : ℕ) → Fits (field_definition file depth) field_nesting depth
 unfolding field_node
-field_fits file depth =
-    item_keeps (expecting i.FieldDefinition)
-    (node_keeps {P = λ f. field_nesting (record { value = f; location = None }) ≤ depth} (mapped_keeps
-    (seq_keeps (unasked (optional (description file))) (seq_keeps (unasked (name file))
+field_fits file depth = described_item_fits _ (expecting i.FieldDefinition) file (name file) _
+    (λ f. field_nesting (record { value = f; location = None }))
     (seq_keeps (input_values_fit file k.LeftParen k.RightParen depth) (seq_keeps (unasked (sign k.Colon))
-    (seq_keeps (type_fits file depth) (directives_fit file true depth))))))
-    (λ x fits. omega (arith, fits.1.1.0, fits.1.1.1.1.0, fits.1.1.1.1.1))))
+    (seq_keeps (type_fits file depth) (directives_fit file true depth))))
+    (λ x fits. omega (arith, fits.0, fits.1.1.0, fits.1.1.1))
 
 fields_fit : (file : FileId) (depth : ℕ) → Fits (fields file depth) (between field_nesting) depth
 unfolding fields
@@ -77,10 +85,8 @@ fields_fit file depth = list_fits field_nesting (enclosed_fits k.LeftBrace k.Rig
 enum_value_fits : (file : FileId) (depth : ℕ)
     → Fits (enum_value_definition file depth) enum_value_nesting depth
 unfolding enum_value_node
-enum_value_fits file depth =
-    item_keeps no_enum_value (node_keeps {P = λ v. directives_nesting v.directives ≤ depth} (mapped_keeps
-    (seq_keeps (unasked (optional (description file))) (seq_keeps (unasked (enum_value_name file))
-    (directives_fit file true depth))) (λ x fits. fits.1.1)))
+enum_value_fits file depth = described_item_fits _ no_enum_value file (enum_value_name file) _
+    (λ v. directives_nesting v.directives) (directives_fit file true depth) (λ x fits. fits)
 
 enum_values_fit : (file : FileId) (depth : ℕ)
     → Fits (enum_values file depth) (between enum_value_nesting) depth

@@ -33,14 +33,15 @@ use Rattle.graphql_round_trip.proofs.FitLaws.{unasked, Keeps, between_fits, impl
 use Rattle.graphql_round_trip.proofs.FitLaws.{left_out_fits, located_keeps, optional_fits, some_fits}
 use Rattle.graphql_round_trip.proofs.FitLaws.{one_more_fits}
 use Rattle.graphql_round_trip.proofs.Levels.{item_nesting, member_nesting, named_nested, required_nested}
-use Rattle.graphql_round_trip.proofs.Levels.{field_nested, inline_nesting, inline_selection_nested}
-use Rattle.graphql_round_trip.proofs.Levels.{selected_nesting, spread_nested, inline_nested, list_nested}
-use Rattle.graphql_round_trip.proofs.Levels.{list_type_nested, object_nested, field_selection_nested}
+use Rattle.graphql_round_trip.proofs.Levels.{field_nested, inline_nested, inline_nesting, list_nested}
+use Rattle.graphql_round_trip.proofs.Levels.{list_type_nested, object_nested, selected_nesting}
+use Rattle.graphql_round_trip.proofs.Levels.{selection_nested}
 use Rattle.graphql_nodes.specs.NameView.{NameView}
 use Rattle.graphql_ast.specs.declared.directive.Argument.{Argument}
 use Rattle.graphql_ast.specs.declared.directive.DirectiveList.{DirectiveList}
 use Rattle.graphql_ast.specs.declared.selection.FragmentSpread.{FragmentSpread}
 use Rattle.graphql_ast.specs.declared.selection.Selection.{Selection}
+use Rattle.graphql_ast.specs.declared.selection.Selection.TheOpen.{Selection-F}
 use Rattle.graphql_productions.specs.Documents.{selections}
 use Rattle.graphql_productions.specs.Selections.{alias, bare_selections, field, field_of, field_selection}
 use Rattle.graphql_productions.specs.Selections.{fragment, fragment_body, fragment_name, inline_body}
@@ -254,10 +255,10 @@ module _ (file : FileId) (depth : ℕ) {p : Piece (List Selection)} (pf : Fits p
   body_keeps = branch_keeps no_selection
       (λ kind. choose_keeps (only k.On kind || (only k.At kind || only k.LeftBrace kind))
       (mapped_keeps inline_fits
-      (λ x fits at. same_fits (inline_selection_nested (record { value = x; location = span_at file at }))
-      fits)) (choose_keeps (is_name kind)
-      (mapped_keeps spread_fits (λ x fits at. same_fits (spread_nested
-      (record { value = x; location = span_at file at })) fits)) (nothing_keeps no_selection)))
+      (λ x fits at. same_fits (selection_nested (Selection-F.InlineFragment
+      (record { value = x; location = span_at file at }))) fits)) (choose_keeps (is_name kind)
+      (mapped_keeps spread_fits (λ x fits at. same_fits (selection_nested (Selection-F.FragmentSpread
+      (record { value = x; location = span_at file at }))) fits)) (nothing_keeps no_selection)))
 
   fragment_selection_fits : Fits (fragment file depth p) selection_nesting depth
   unfolding fragment
@@ -266,8 +267,8 @@ module _ (file : FileId) (depth : ℕ) {p : Piece (List Selection)} (pf : Fits p
 
   field_selection_fits : Fits (field_selection file depth p) selection_nesting depth
   unfolding field_selection
-  field_selection_fits = mapped_keeps (node_keeps field_fits) (λ n fits. same_fits (field_selection_nested n)
-      fits)
+  field_selection_fits = mapped_keeps (node_keeps field_fits)
+      (λ n fits. same_fits (selection_nested (Selection-F.Field n)) fits)
 
   selection_fits : Fits (selection file depth p) selection_nesting depth
   selection_fits = branch_keeps no_selection (λ kind. choose_keeps (only k.Spread kind)

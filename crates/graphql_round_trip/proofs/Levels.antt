@@ -1,7 +1,7 @@
 -- What is seen of selections without their locations, from one level to the next.
 use Rattle.std.proofs.Common.{List, subst, ◌≡◌, map, option_map, ℕ, suc, [], ◌∷◌, refl, sym, ap, ◌∙◌}
 use Rattle.std.specs.List.{AllByRecursion}
-use Rattle.graphql_round_trip.proofs.BareLists.{each_given}
+use Rattle.graphql_round_trip.proofs.BareLists.{Shown, each_given}
 use Rattle.graphql_nodes.specs.Comparing.{bare_name, bare_node}
 use Rattle.graphql_nodes.specs.NodeView.{NodeView}
 use Rattle.graphql_ast.specs.Bare.{bare_argument, bare_directive_list}
@@ -33,33 +33,35 @@ use Rattle.graphql_round_trip.specs.Nesting.{value_level, value_nesting}
 use Rattle.graphql_ast.specs.BareSelections as b
 use Rattle.graphql_ast.specs.declared.selection.Selection as s
 
--- a level of a field, and of an inline fragment, with the selections that stand inside
+-- a level of a selection, of a field, and of an inline fragment, with the selections that stand inside
+abbrev pub SelectionLevel : Type 0
+SelectionLevel = Selection-F Selection Field InlineFragment
+
 abbrev pub FieldLevel : Type 0
 FieldLevel = Field-F Selection Field InlineFragment
 
 abbrev pub InlineLevel : Type 0
 InlineLevel = InlineFragment-F Selection Field InlineFragment
 
--- a selection that is a field
-pub field_selection_bare : (n : NodeView Field)
-    → bare_selection (s.Field n) ≡ s.Field (bare_node bare_field n)
-unfolding roll-Selection denote.Hole.Carrier.roll
-field_selection_bare n = fold-roll-Selection Selection Field InlineFragment b.selection_step b.field_step
-    b.inline_step (Selection-F.Field n)
+-- a selection of this level
+abbrev pub selection_at : SelectionLevel → Selection
+selection_at (Selection-F.Field n) = s.Field n
+selection_at (Selection-F.FragmentSpread n) = s.FragmentSpread n
+selection_at (Selection-F.InlineFragment n) = s.InlineFragment n
 
--- one that is a fragment spread
-pub spread_selection_bare : (n : NodeView FragmentSpread)
-    → bare_selection (s.FragmentSpread n) ≡ s.FragmentSpread (bare_node bare_fragment_spread n)
-unfolding roll-Selection denote.Hole.Carrier.roll
-spread_selection_bare n = fold-roll-Selection Selection Field InlineFragment b.selection_step b.field_step
-    b.inline_step (Selection-F.FragmentSpread n)
+-- the level without locations
+abbrev pub bare_level : SelectionLevel → SelectionLevel
+bare_level (Selection-F.Field n) = Selection-F.Field (bare_node bare_field n)
+bare_level (Selection-F.FragmentSpread n) = Selection-F.FragmentSpread (bare_node bare_fragment_spread n)
+bare_level (Selection-F.InlineFragment n) = Selection-F.InlineFragment (bare_node bare_inline_fragment n)
 
--- one that is an inline fragment
-pub inline_selection_bare : (n : NodeView InlineFragment)
-    → bare_selection (s.InlineFragment n) ≡ s.InlineFragment (bare_node bare_inline_fragment n)
+-- a selection
+pub selection_bare : (z : SelectionLevel) → bare_selection (selection_at z) ≡ selection_at (bare_level z)
 unfolding roll-Selection denote.Hole.Carrier.roll
-inline_selection_bare n = fold-roll-Selection Selection Field InlineFragment b.selection_step b.field_step
-    b.inline_step (Selection-F.InlineFragment n)
+selection_bare (Selection-F.Field n) = fold-roll-Selection Selection Field InlineFragment b.selection_step
+    b.field_step b.inline_step (Selection-F.Field n)
+selection_bare z = fold-roll-Selection Selection Field InlineFragment b.selection_step b.field_step
+    b.inline_step z
 
 -- a field
 pub field_bare : (x : FieldLevel) → bare_field (roll-Field x) ≡ roll-Field (record {
@@ -89,34 +91,24 @@ module _ (P : Selection → Type 0) (F : Field → Type 0) (I : InlineFragment
     → P (roll-Selection (Selection-F.InlineFragment n))) (field : (x : FieldLevel)
     → AllByRecursion P x.selection_set → F (roll-Field x)) (inline : (x : InlineLevel)
     → AllByRecursion P x.selection_set → I (roll-InlineFragment x)) where
-  -- each with what holds of it
-  abbrev S : Type 0
-  S = (x : Selection) × P x
-
-  abbrev A : Type 0
-  A = (x : Field) × F x
-
-  abbrev B : Type 0
-  B = (x : InlineFragment) × I x
-
-  first : (y : Selection-F S A B)
-      → P (roll-Selection (map-Selection S A B Selection Field InlineFragment (λ e. e.0) (λ e. e.0) (λ e. e.0)
-      y))
+  first : (y : Selection-F (Shown P) (Shown F) (Shown I))
+      → P (roll-Selection (map-Selection (Shown P) (Shown F) (Shown I) Selection Field InlineFragment
+      (λ e. e.0) (λ e. e.0) (λ e. e.0) y))
   first (Selection-F.Field n) = of_field (record { value = n.value.0; location = n.location }) n.value.1
   first (Selection-F.FragmentSpread n) = of_spread n
   first (Selection-F.InlineFragment n) = of_inline (record { value = n.value.0; location = n.location })
       n.value.1
 
-  inside : (ys : List S) → AllByRecursion P (map (λ (e : S). e.0) ys)
-  inside ys = each_given P (λ (e : S). e.0) (λ y. y.1) ys
+  inside : (ys : List (Shown P)) → AllByRecursion P (map (λ (e : Shown P). e.0) ys)
+  inside ys = each_given P (λ (e : Shown P). e.0) (λ y. y.1) ys
 
   pub of_selection : (x : Selection) → P x
   of_selection = ind-Selection P F I (λ x y is. subst (λ z. P (roll-Selection z)) is (first y))
-      (λ x y is. subst (λ z. F (roll-Field z)) is
-      (field (map-Field S A B Selection Field InlineFragment (λ e. e.0) (λ e. e.0) (λ e. e.0) y)
+      (λ x y is. subst (λ z. F (roll-Field z)) is (field (map-Field (Shown P) (Shown F) (Shown I) Selection
+      Field InlineFragment (λ e. e.0) (λ e. e.0) (λ e. e.0) y)
       (inside y.selection_set))) (λ x y is. subst (λ z. I (roll-InlineFragment z)) is
-      (inline (map-InlineFragment S A B Selection Field InlineFragment (λ e. e.0) (λ e. e.0) (λ e. e.0) y)
-      (inside y.selection_set)))
+      (inline (map-InlineFragment (Shown P) (Shown F) (Shown I) Selection Field InlineFragment (λ e. e.0)
+      (λ e. e.0) (λ e. e.0) y) (inside y.selection_set)))
 
 -- ---- how deep values, types and selections nest, from one level to the next
 
@@ -177,25 +169,14 @@ selected_nesting = fold-Field ℕ ℕ ℕ selection_level field_level inline_lev
 abbrev pub inline_nesting : InlineFragment → ℕ
 inline_nesting = fold-InlineFragment ℕ ℕ ℕ selection_level field_level inline_level
 
--- a selection that is a field nests as deep as the field
-pub field_selection_nested : (n : NodeView Field) → selection_nesting (s.Field n) ≡ selected_nesting n.value
+-- a selection nests as deep as what its level says
+pub selection_nested : (z : SelectionLevel)
+    → selection_nesting (selection_at z) ≡ selection_level (map-Selection Selection Field InlineFragment ℕ ℕ ℕ
+    selection_nesting selected_nesting inline_nesting z)
 unfolding roll-Selection denote.Hole.Carrier.roll
-field_selection_nested n = fold-roll-Selection ℕ ℕ ℕ selection_level field_level inline_level
+selection_nested (Selection-F.Field n) = fold-roll-Selection ℕ ℕ ℕ selection_level field_level inline_level
     (Selection-F.Field n)
-
--- one that is a fragment spread, as its directives
-pub spread_nested : (n : NodeView FragmentSpread)
-    → selection_nesting (s.FragmentSpread n) ≡ directives_nesting n.value.directives
-unfolding roll-Selection denote.Hole.Carrier.roll
-spread_nested n = fold-roll-Selection ℕ ℕ ℕ selection_level field_level inline_level
-    (Selection-F.FragmentSpread n)
-
--- one that is an inline fragment, as the fragment
-pub inline_selection_nested : (n : NodeView InlineFragment)
-    → selection_nesting (s.InlineFragment n) ≡ inline_nesting n.value
-unfolding roll-Selection denote.Hole.Carrier.roll
-inline_selection_nested n = fold-roll-Selection ℕ ℕ ℕ selection_level field_level inline_level
-    (Selection-F.InlineFragment n)
+selection_nested z = fold-roll-Selection ℕ ℕ ℕ selection_level field_level inline_level z
 
 -- selections in braces, of each of which it is known how deep it nests
 set_nested : (xs : List Selection) → between (λ (n : ℕ). n) (map selection_nesting xs) ≡ selections_nesting xs

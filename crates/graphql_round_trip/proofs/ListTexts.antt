@@ -165,11 +165,16 @@ module _ {A B : Type 0} (p : Piece (List A)) (see : A → B) where
 
 -- ---- items of which each is read as itself
 
+-- where its parts are well-formed, and so many signs may be open, each item is read as itself
+abbrev pub ReadAsItself : {A B : Type 0} → (A → List TreePart) → (A → ℕ) → ℕ → Piece A → (A → B)
+    → (A → List ℕ) → Type 0
+ReadAsItself {A} parts nesting depth p see text = (x : A) → IsWellFormed (parts x) → nesting x ≤ depth
+    → Prints p see (see x) (text x) ends_token
+
 -- each of these items is read as itself, where it may open so many signs
 pub items_print : {A B : Type 0} (p : Piece A) (see : A → B) (text : A → List ℕ) (parts : A → List TreePart)
-    (nesting : A → ℕ) (depth : ℕ)
-    → ((x : A) → IsWellFormed (parts x) → nesting x ≤ depth → Prints p see (see x) (text x) ends_token)
-    → (xs : List A) → IsWellFormed (flat_map parts xs) → deepest nesting xs ≤ depth
+    (nesting : A → ℕ) (depth : ℕ) → ReadAsItself parts nesting depth p see text → (xs : List A)
+    → IsWellFormed (flat_map parts xs) → deepest nesting xs ≤ depth
     → AllByRecursion (λ x. Prints p see (see x) (text x) ends_token) xs
 items_print p see text parts nesting depth item xs fine fits =
     each_of_both (λ x. IsWellFormed (parts x)) (λ x. nesting x ≤ depth) (λ x. Prints p see (see x) (text x)
@@ -178,8 +183,8 @@ items_print p see text parts nesting depth item xs fine fits =
 -- ---- a list of items between signs
 
 module _ {A B : Type 0} (opening closing : Kind) (wrong : Wrong) (p : ℕ → Piece A) (see : A → B) (text : A
-    → List ℕ) (parts : A → List TreePart) (nesting : A → ℕ) (item : (depth : ℕ) (x : A)
-    → IsWellFormed (parts x) → nesting x ≤ depth → Prints (p depth) see (see x) (text x) ends_token) where
+    → List ℕ) (parts : A → List TreePart) (nesting : A → ℕ) (item : (depth : ℕ)
+    → ReadAsItself parts nesting depth (p depth) see text) where
   -- a list of such items
   abbrev pub list_at : ℕ → Piece (List A)
   list_at depth = mapped or_none (optional (enclosed opening closing wrong depth (λ inside. some (p inside))))
@@ -197,9 +202,7 @@ module _ {A B : Type 0} (opening closing : Kind) (wrong : Wrong) (p : ℕ → Pi
   list_prints depth open_text separator close_text o c blank ends stops (x ∷ xs) fine fits =
       let room = inside_fits nesting x xs depth fits in
       let list : Piece (List A) = enclosed opening closing wrong (suc room.0) (λ inside. some (p inside)) in
-      subst (λ (depth : ℕ). Prints (list_at depth) (map see) (map see (x ∷ xs)) (enclosed_text open_text
-      separator close_text text (x ∷ xs)) ends_token) (sym room.1)
-      (put_prints list see (headed_text (only opening)
+      rw room.1 (put_prints list see (headed_text (only opening)
       (loosely ends_token (listed_prints opening closing wrong (p room.0) see text open_text separator
       close_text o c blank ends stops x xs (items_print (p room.0) see text parts nesting room.0
       (item room.0) (x ∷ xs) fine room.2)))))
@@ -277,8 +280,8 @@ braces_print wrong p see text opening indent opens x xs all = listed_prints k.Le
 -- ---- texts of items on lines between braces, and of lists that stand apart from what is before them
 
 module _ {A B : Type 0} (wrong : Wrong) (p : ℕ → Piece A) (see : A → B) (text : ℕ → A → List ℕ) (parts : A
-    → List TreePart) (nesting : A → ℕ) (item : (depth : ℕ) (x : A) → IsWellFormed (parts x)
-    → nesting x ≤ depth → Prints (p depth) see (see x) (text 2 x) ends_token) (depth : ℕ) where
+    → List TreePart) (nesting : A → ℕ) (item : (depth : ℕ)
+    → ReadAsItself parts nesting depth (p depth) see (text 2)) (depth : ℕ) where
   -- one item at least is read between braces
   pub braced_print : (x : A) (xs : List A) → IsWellFormed (flat_map parts (x ∷ xs))
       → between nesting (x ∷ xs) ≤ depth
@@ -286,9 +289,7 @@ module _ {A B : Type 0} (wrong : Wrong) (p : ℕ → Piece A) (see : A → B) (t
       (map see (x ∷ xs)) (braces (codes " {") 0 text (x ∷ xs)) ends_token
   braced_print x xs well fits =
       let room = inside_fits nesting x xs depth fits in
-      subst (λ (d : ℕ). Prints (enclosed k.LeftBrace k.RightBrace wrong d (λ inside. some (p inside)))
-      (map see) (map see (x ∷ xs)) (braces (codes " {") 0 text (x ∷ xs)) ends_token) (sym room.1)
-      (headed_text (only k.LeftBrace) (loosely ends_token (braces_print wrong (p room.0) see text
+      rw room.1 (headed_text (only k.LeftBrace) (loosely ends_token (braces_print wrong (p room.0) see text
       (codes " {") 0 (sign_behind k.LeftBrace (λ _. Expected (i.Word k.LeftBrace)) t.LeftBrace (codes " ")
       (codes "{") refl left_brace_is_token refl) x xs (items_print (p room.0) see (text 2) parts nesting
       room.0 (item room.0) (x ∷ xs) well room.2))))

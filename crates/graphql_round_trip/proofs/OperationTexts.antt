@@ -41,11 +41,9 @@ use Rattle.graphql_round_trip.proofs.PieceTexts.{heads_on, mapped_text, seq_text
 use Rattle.graphql_round_trip.proofs.PieceTexts.{apart_before, directives_apart, apart_joined}
 use Rattle.graphql_round_trip.proofs.ListTexts.{left_out, braces_print, inside_fits, part_of_front, each_fits}
 use Rattle.graphql_round_trip.proofs.ListTexts.{part_of_each}
-use Rattle.graphql_round_trip.proofs.Levels.{field_nested, field_selection_nested, inline_nested}
-use Rattle.graphql_round_trip.proofs.Levels.{inline_nesting, inline_selection_nested, selected_nesting}
-use Rattle.graphql_round_trip.proofs.Levels.{spread_nested, of_selection, FieldLevel, InlineLevel}
-use Rattle.graphql_round_trip.proofs.Levels.{field_selection_bare, inline_selection_bare}
-use Rattle.graphql_round_trip.proofs.Levels.{spread_selection_bare}
+use Rattle.graphql_round_trip.proofs.Levels.{FieldLevel, InlineLevel, SelectionLevel, field_nested}
+use Rattle.graphql_round_trip.proofs.Levels.{inline_nested, inline_nesting, of_selection, selected_nesting}
+use Rattle.graphql_round_trip.proofs.Levels.{selection_bare, selection_nested}
 use Rattle.graphql_round_trip.proofs.TokenTexts.{left_brace_is_token, left_paren_is_token}
 use Rattle.graphql_ast.specs.BareDocuments.{bare_fragment_definition, bare_operation_definition}
 use Rattle.graphql_ast.specs.declared.operation.FragmentDefinition.{FragmentDefinition}
@@ -178,34 +176,36 @@ SelectedAs file depth y text = Prints (selection file depth (selection_set file 
 -- and so has what is the same the same text
 same_selected : (file : FileId) (depth : ℕ) (y z : Selection) (text same : List ℕ) → z ≡ y → same ≡ text
     → SelectedAs file depth y text → SelectedAs file depth z same
-same_selected file depth y z text same seen told t = subst (λ (x : Selection). SelectedAs file depth x same)
-    (sym seen) (subst (λ (bytes : List ℕ). SelectedAs file depth y bytes) (sym told) t)
+same_selected file depth y z text same seen told t = rw (seen, told) t
 
 field_shows : (n : NodeView Field) → FieldPrints n.value
     → SelectionPrints (roll-Selection (Selection-F.Field n))
 unfolding roll-Selection denote.Hole.Carrier.roll
-field_shows n shown = λ file depth indent well fits. same_selected file depth
-    (s.Field (bare_node bare_field n)) (bare_selection (s.Field n)) (field_text n.value indent)
-    (selection_text (s.Field n) indent) (field_selection_bare n) (selection_says (Selection-F.Field n) indent)
-    (shown file depth indent (rw (field_selection_rolled n) at well).1
-    (rw (field_selection_nested n) at fits))
+field_shows n shown = λ file depth indent well fits.
+    let z : SelectionLevel = Selection-F.Field n in
+    same_selected file depth (s.Field (bare_node bare_field n)) (bare_selection (s.Field n))
+    (field_text n.value indent) (selection_text (s.Field n) indent) (selection_bare z)
+    (selection_says z indent) (shown file depth indent (rw (field_selection_rolled n) at well).1
+    (rw (selection_nested z) at fits))
 
 spread_shows : (n : NodeView FragmentSpread) → SelectionPrints (roll-Selection (Selection-F.FragmentSpread n))
 unfolding roll-Selection denote.Hole.Carrier.roll
-spread_shows n = λ file depth indent well fits. same_selected file depth
-    (s.FragmentSpread (bare_node bare_fragment_spread n)) (bare_selection (s.FragmentSpread n))
-    (spread_text n.value) (selection_text (s.FragmentSpread n) indent) (spread_selection_bare n)
-    (selection_says (Selection-F.FragmentSpread n) indent) (spread_prints file depth
-    (selection_set file depth) n.value (rw (spread_rolled n) at well).1 (rw (spread_nested n) at fits))
+spread_shows n = λ file depth indent well fits.
+    let z : SelectionLevel = Selection-F.FragmentSpread n in
+    same_selected file depth (s.FragmentSpread (bare_node bare_fragment_spread n))
+    (bare_selection (s.FragmentSpread n)) (spread_text n.value) (selection_text (s.FragmentSpread n) indent)
+    (selection_bare z) (selection_says z indent) (spread_prints file depth (selection_set file depth) n.value
+    (rw (spread_rolled n) at well).1 (rw (selection_nested z) at fits))
 
 inline_shows : (n : NodeView InlineFragment) → InlinePrints n.value
     → SelectionPrints (roll-Selection (Selection-F.InlineFragment n))
 unfolding roll-Selection denote.Hole.Carrier.roll
-inline_shows n shown = λ file depth indent well fits. same_selected file depth
-    (s.InlineFragment (bare_node bare_inline_fragment n)) (bare_selection (s.InlineFragment n))
-    (inline_text n.value indent) (selection_text (s.InlineFragment n) indent) (inline_selection_bare n)
-    (selection_says (Selection-F.InlineFragment n) indent) (shown file depth indent
-    (rw (inline_selection_rolled n) at well).1 (rw (inline_selection_nested n) at fits))
+inline_shows n shown = λ file depth indent well fits.
+    let z : SelectionLevel = Selection-F.InlineFragment n in
+    same_selected file depth (s.InlineFragment (bare_node bare_inline_fragment n))
+    (bare_selection (s.InlineFragment n)) (inline_text n.value indent)
+    (selection_text (s.InlineFragment n) indent) (selection_bare z) (selection_says z indent)
+    (shown file depth indent (rw (inline_selection_rolled n) at well).1 (rw (selection_nested z) at fits))
 
 field_level : (x : FieldLevel) → AllByRecursion SelectionPrints x.selection_set → FieldPrints (roll-Field x)
 field_level x all = λ file depth indent well fits.
@@ -218,9 +218,7 @@ field_level x all = λ file depth indent well fits.
     let inner = part_of_front (directives_parts false x.directives) (flat_map selection_parts x.selection_set)
     argued.1 in
     let deep = rw (field_nested x) at fits in
-    subst (λ (bytes : List ℕ). SelectedAs file depth
-    (s.Field (record { value = bare_field (roll-Field x); location = None })) bytes)
-    (sym (field_says x indent)) (field_prints file depth (selection_set file depth) x indent parts
+    rw (field_says x indent) (field_prints file depth (selection_set file depth) x indent parts
     (omega arith) (omega arith) (selections_behind (codes " {") indent x.selection_set)
     (set_or_none_prints file depth indent x.selection_set all inner.1 (omega arith))
     (selections_apart indent x.selection_set))

@@ -37,7 +37,7 @@ use Rattle.graphql_round_trip.specs.Nesting.{directives_nesting, input_nesting, 
 use Rattle.graphql_round_trip.specs.Printed.{Prints, ends_token}
 use Rattle.graphql_round_trip.proofs.ListTexts.{braced_or_none_print, braced_print, braces_apart}
 use Rattle.graphql_round_trip.proofs.ListTexts.{enclosed_apart, part_of_front, left_out_prints, put_prints}
-use Rattle.graphql_round_trip.proofs.ListTexts.{separated_prints}
+use Rattle.graphql_round_trip.proofs.ListTexts.{ReadAsItself, separated_prints}
 use Rattle.graphql_round_trip.proofs.HeadTexts.{enum_kind, keyword_before, operation_type_prints}
 use Rattle.graphql_round_trip.proofs.DescriptionTexts.{described_prints}
 use Rattle.graphql_round_trip.proofs.DirectiveTexts.{directives_print}
@@ -65,10 +65,9 @@ use Rattle.graphql_grammar.specs.declared.fault.Item.TheVariants as i
 
 module _ (file : FileId) where
   -- a field that is defined
-  pub field_definition_prints : (indent depth : ℕ) (field : NodeView FieldDefinition)
-      → IsWellFormed (node_parts field_parts field) → field_nesting field ≤ depth
-      → Prints (field_definition file depth) (bare_node bare_field_definition)
-      (bare_node bare_field_definition field) (field_definition_text indent field) ends_token
+  pub field_definition_prints : (indent depth : ℕ)
+      → ReadAsItself (node_parts field_parts) field_nesting depth (field_definition file depth)
+      (bare_node bare_field_definition) (field_definition_text indent)
   unfolding field_node
   field_definition_prints indent depth field well fits =
       let f = field.value in
@@ -113,10 +112,9 @@ module _ (file : FileId) where
       (enum_kind n.text well.1 well.2 well.3))
 
   -- an enum value that is defined
-  pub enum_value_prints : (indent depth : ℕ) (value : NodeView EnumValueDefinition)
-      → IsWellFormed (node_parts enum_value_parts value) → enum_value_nesting value ≤ depth
-      → Prints (enum_value_definition file depth) (bare_node bare_enum_value_definition)
-      (bare_node bare_enum_value_definition value) (enum_value_text indent value) ends_token
+  pub enum_value_prints : (indent depth : ℕ)
+      → ReadAsItself (node_parts enum_value_parts) enum_value_nesting depth (enum_value_definition file depth)
+      (bare_node bare_enum_value_definition) (enum_value_text indent)
   unfolding enum_value_node
   enum_value_prints indent depth value well fits =
       let v = value.value in

@@ -91,8 +91,7 @@ behind_blank {text} gap blank t = record {
         value = r.value;
         words = r.words;
         same = r.same;
-        leads = subst (λ (all : List ℕ). Leads total all r.words rest) (sym (append_assoc gap text rest))
-            (behind_blanks total gap _ r.words rest blank r.leads);
+        leads = rw (append_assoc gap text rest) (behind_blanks total gap _ r.words rest blank r.leads);
         spelled = r.spelled;
       };
 }
@@ -109,8 +108,7 @@ before_blank {text} gap blank t stops = record {
         value = r.value;
         words = r.words;
         same = r.same;
-        leads = subst (λ (all : List ℕ). Leads total all r.words rest) (sym (append_assoc text gap rest))
-            (passed_blanks total _ r.words gap rest blank r.leads);
+        leads = rw (append_assoc text gap rest) (passed_blanks total _ r.words gap rest blank r.leads);
         spelled = r.spelled;
       };
 }
@@ -132,8 +130,7 @@ seq_text {a} {b} s t ends = record {
         value = (l.value, r.value);
         words = l.words ++ r.words;
         same = cc (l.same, r.same);
-        leads = subst (λ (all : List ℕ). Leads total all (l.words ++ r.words) rest)
-            (sym (append_assoc a b rest)) (leads_on total _ l.words _ r.words rest l.leads r.leads);
+        leads = rw (append_assoc a b rest) (leads_on total _ l.words _ r.words rest l.leads r.leads);
         spelled = record {
           head = l.words;
           tail = r.words;
@@ -228,28 +225,10 @@ many_text p see text ends before blank stops [] all = record {
     spelled = refl;
   };
 }
-many_text {A} {B} p see text ends before blank stops (x ∷ xs) all = record {
-  read = λ total rest end.
-      let first = behind_blank before blank all.0 in
-      let others = many_text p see text ends before blank stops xs all.1 in
-      let l = first.read total (each_behind before text xs ++ rest) (items_end text ends before stops rest end
-      xs) in
-      let r = others.read total rest end in
-      record {
-        value = l.value ∷ r.value;
-        words = l.words ++ r.words;
-        same = cc (l.same, r.same);
-        leads = subst (λ (whole : List ℕ). Leads total whole (l.words ++ r.words) rest)
-            (sym (append_assoc _ _ rest)) (leads_on total _ l.words _ r.words rest l.leads r.leads);
-        spelled = record {
-          head = l.words;
-          tail = r.words;
-          whole = refl;
-          first = l.spelled;
-          second = r.spelled;
-        };
-      };
-}
+many_text {B = B} p see text ends before blank stops (x ∷ xs) all = same_words
+    (λ _ _ _ r. (listed r.value, ap (λ (q : B × List B). q.0 ∷ q.1) r.same, r.spelled))
+    (seq_text (behind_blank before blank all.0) (many_text p see text ends before blank stops xs all.1)
+    (λ rest end. items_end text ends before stops rest end xs))
 
 -- one item or more, with bytes between each two that end what stands before
 pub some_text : {A B : Type 0} (p : Piece A) (see : A → B) (text : A → List ℕ) (ends : List ℕ
@@ -348,6 +327,11 @@ heads_on {kinds} {a} {ends} b follows head stops = record {
 pub regrouped : {A B : Type 0} {p : Piece A} {see : A → B} {y : B} {ends : List ℕ → Bool} (text same : List ℕ)
     → text ≡ same → Prints p see y text ends → Prints p see y same ends
 regrouped {p} {see} {y} {ends} text same e t = subst (λ (bytes : List ℕ). Prints p see y bytes ends) e t
+
+-- and they begin with the same
+pub same_heads : {kinds : Kinds} {ends : List ℕ → Bool} {text same : List ℕ} → text ≡ same
+    → Heads kinds text ends → Heads kinds same ends
+same_heads {kinds} {ends} e h = subst (λ (bytes : List ℕ). Heads kinds bytes ends) e h
 
 pub grouped3 : (a b c : List ℕ) → a ++ (b ++ c) ≡ a ++ b ++ c
 grouped3 a b c = sym (append_assoc a b c)

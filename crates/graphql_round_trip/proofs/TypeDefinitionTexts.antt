@@ -1,7 +1,7 @@
 -- Texts of definitions of the type system behind their descriptions, and of extensions behind `extend`:
 -- GraphQL specification of October 2021, sections 3.2 and 3.4.
 use Rattle.std.proofs.Common.{◌≡◌, ℕ, Bool, true, false, ◌||◌, List, ◌++◌, option_map, Option, None, Some}
-use Rattle.std.proofs.Common.{refl, ap, ◌∙◌, ◌≤◌, not, ◌&&◌, [], ◌∷◌, sym, subst}
+use Rattle.std.proofs.Common.{refl, ap, ◌∙◌, ◌≤◌, not, ◌&&◌, [], ◌∷◌, sym}
 use Rattle.std.specs.Prelude.{codes, if◌then◌else◌}
 use Rattle.graphql_nodes.specs.Comparing.{bare_name}
 use Rattle.graphql_nodes.specs.NameView.{NameView}
@@ -27,6 +27,7 @@ use Rattle.graphql_printing.specs.TypeSystem.{root_text, schema_shape, behind_na
 use Rattle.graphql_round_trip.specs.Printed.{Heads, Prints, anything, ends_token}
 use Rattle.graphql_round_trip.proofs.DescriptionTexts.{described_prints, description_heads}
 use Rattle.graphql_round_trip.proofs.HeadTexts.{keyword_before, keyword_heads}
+use Rattle.graphql_round_trip.proofs.PieceTexts.{same_heads}
 use Rattle.graphql_round_trip.proofs.PieceTexts.{heads_on, located_text, mapped_text, seq_text, branch_at}
 use Rattle.graphql_round_trip.proofs.PieceTexts.{filtered_text, grouped3, grouped4, regrouped, name_prints}
 use Rattle.graphql_round_trip.proofs.PieceTexts.{keyword_prints, IsApart, apart_joined, directives_apart}
@@ -39,7 +40,6 @@ use Rattle.graphql_ast.specs.Declarations.{type_definition, type_extension, sche
 use Rattle.graphql_ast.specs.Declarations.{schema_extension}
 use Rattle.graphql_ast.specs.Parts.{of_type}
 use Rattle.graphql_ast.specs.declared.parts.Parts.{Parts}
-use Rattle.graphql_grammar.specs.Pieces.{Piece}
 use Rattle.graphql_productions.specs.DefinitionTreeParts.{body_parts, is_directives, root_parts}
 use Rattle.graphql_productions.specs.WellFormed.{IsWellFormed}
 use Rattle.graphql_round_trip.specs.Nesting.{parts_nesting, body_nesting}
@@ -164,8 +164,7 @@ keyword_is_described kind = refl
 -- a type begins with the keyword of its kind
 pub type_heads : (kind : TypeKind) (name : NameView) (p : Parts)
     → Heads (only (keyword kind)) (type_shape kind name p) ends_token
-type_heads kind name p = subst (λ (text : List ℕ). Heads (only (keyword kind)) text ends_token)
-    (grouped4 (keyword_text kind) (codes " ") name.text (behind_name kind p))
+type_heads kind name p = same_heads (grouped4 (keyword_text kind) (codes " ") name.text (behind_name kind p))
     (heads_on (codes " " ++ (name.text ++ behind_name kind p)) ends_token (keyword_heads (keyword kind)
     (keyword_text kind) (keyword_is_name kind) (keyword_is_own kind)) (λ rest _. refl))
 
@@ -216,9 +215,7 @@ module _ (file : FileId) (depth : ℕ) (kind : TypeKind) (name : NameView) (p : 
   pub type_definition_prints : Prints (described file depth) described_seen
       (bare_described (bare_type_of kind name p)) (type_shape kind name p) ends_token
   type_definition_prints = branch_at (described_pick file depth) no_described (keyword kind)
-      (type_heads kind name p) (subst (λ (q : Piece Described). Prints q described_seen
-      (bare_described (bare_type_of kind name p)) (type_shape kind name p) ends_token)
-      (sym (type_picked file depth kind)) type_body_prints)
+      (type_heads kind name p) (rw (type_picked file depth kind) type_body_prints)
 
 -- ---- extensions
 
@@ -289,9 +286,7 @@ module _ (file : FileId) (depth : ℕ) (kind : TypeKind) (name : NameView) (p : 
   pub type_extension_prints : Prints (extended file depth) extended_seen
       (bare_extended (bare_extension_of kind name p)) (type_shape kind name p) ends_token
   type_extension_prints = branch_at (extended_pick file depth) (expecting i.Extended) (keyword kind)
-      (type_heads kind name p) (subst (λ (q : Piece (Option SourceSpan → Definition)). Prints q extended_seen
-      (bare_extended (bare_extension_of kind name p)) (type_shape kind name p) ends_token)
-      (sym (extension_picked file depth kind)) extension_body_prints)
+      (type_heads kind name p) (rw (extension_picked file depth kind) extension_body_prints)
 
 -- ---- texts of definitions and extensions of the schema: GraphQL specification of October 2021, section 3.3
 
@@ -308,9 +303,8 @@ shape_apart directives roots = apart_joined (directives_text directives.0) (root
 -- the schema begins with its keyword
 pub schema_heads : (directives : DirectiveList) (roots : List (NodeView (OperationType × NameView)))
     → Heads (only k.Schema) (schema_shape (schema_parts (directives, roots))) ends_token
-schema_heads directives roots = subst (λ (text : List ℕ). Heads (only k.Schema) text ends_token)
-    (grouped3 (codes "schema") (directives_text directives.0) (roots_text roots))
-    (heads_on (directives_text directives.0 ++ roots_text roots) ends_token
+schema_heads directives roots = same_heads (grouped3 (codes "schema") (directives_text directives.0)
+    (roots_text roots)) (heads_on (directives_text directives.0 ++ roots_text roots) ends_token
     (keyword_heads k.Schema (codes "schema") refl refl) (shape_apart directives roots))
 
 -- the definition of the schema without locations, for its description

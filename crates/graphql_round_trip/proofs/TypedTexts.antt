@@ -46,7 +46,7 @@ use Rattle.graphql_productions.specs.Operations.{variable_definition, variable_n
 use Rattle.graphql_printing.specs.Operations.{default_text, variable_text, variables_text}
 use Rattle.graphql_round_trip.proofs.DirectiveTexts.{directives_print}
 use Rattle.graphql_round_trip.proofs.ListTexts.{part_of_front, list_prints, lines_print, braced_or_none_print}
-use Rattle.graphql_round_trip.proofs.ListTexts.{enclosed_apart}
+use Rattle.graphql_round_trip.proofs.ListTexts.{ReadAsItself, enclosed_apart}
 use Rattle.graphql_round_trip.proofs.ValueTexts.{variable_prints, value_node_prints}
 use Rattle.std.specs.List.{flat_map, list_any}
 use Rattle.graphql_ast.specs.BareDocuments.{bare_variable_definition}
@@ -316,10 +316,9 @@ typed_prints file depth ty default applied well fits =
 -- ---- texts of the definitions of variables: GraphQL specification of October 2021, section 2.10
 
 -- the definition of a variable is read as itself
-variable_definition_prints : (file : FileId) (depth : ℕ) (v : NodeView VariableDefinition)
-    → IsWellFormed (node_parts variable_parts v) → variable_nesting v ≤ depth
-    → Prints (variable_definition file depth) (bare_node bare_variable_definition)
-    (bare_node bare_variable_definition v) (variable_text v) ends_token
+variable_definition_prints : (file : FileId) (depth : ℕ)
+    → ReadAsItself (node_parts variable_parts) variable_nesting depth (variable_definition file depth)
+    (bare_node bare_variable_definition) variable_text
 unfolding variable_node
 variable_definition_prints file depth v well fits =
     item_text (only k.Dollar) no_variable (node_prints file (mapped_text variable_of bare_variable_definition
@@ -376,10 +375,9 @@ arguments_apart indent inputs = by (list_any takes_lines inputs)
 
 module _ (file : FileId) where
   -- an argument or input field that is defined
-  pub input_value_prints : (indent depth : ℕ) (input : NodeView InputValueDefinition)
-      → IsWellFormed (node_parts input_value_parts input) → input_nesting input ≤ depth
-      → Prints (input_value file depth) (bare_node bare_input_value_definition)
-      (bare_node bare_input_value_definition input) (input_value_text indent input) ends_token
+  pub input_value_prints : (indent depth : ℕ)
+      → ReadAsItself (node_parts input_value_parts) input_nesting depth (input_value file depth)
+      (bare_node bare_input_value_definition) (input_value_text indent)
   unfolding input_node
   input_value_prints indent depth input well fits =
       let v = input.value in

@@ -42,6 +42,7 @@ use Rattle.graphql_round_trip.specs.Printed.{Heads, IsToken, Prints, anything, e
 use Rattle.graphql_round_trip.proofs.HeadTexts.{first_text, is_none_of, second_text, enum_kind}
 use Rattle.graphql_round_trip.proofs.ListTexts.{labelled_prints, separated_text, each_fits, opened}
 use Rattle.graphql_round_trip.proofs.ListTexts.{each_of_three, part_of_each}
+use Rattle.graphql_round_trip.proofs.PieceTexts.{same_heads}
 use Rattle.graphql_round_trip.proofs.PieceTexts.{regrouped, between_prints, loosely, name_prints, node_prints}
 use Rattle.graphql_round_trip.proofs.PieceTexts.{sign_prints, branch_at, branch_text, headed_text, heads_on}
 use Rattle.graphql_round_trip.proofs.PieceTexts.{mapped_text, seq_text, sign_or_text, token_heads, word_text}
@@ -53,7 +54,7 @@ use Rattle.graphql_round_trip.proofs.TokenTexts.{left_brace_is_token, left_brack
 use Rattle.graphql_round_trip.proofs.TokenTexts.{right_brace_is_token, right_bracket_is_token, word_is_token}
 use Rattle.graphql_round_trip.proofs.TokenTexts.{name_is_token, name_unblank}
 use Rattle.graphql_tokens.specs.StringValues.{string_value}
-use Rattle.graphql_round_trip.proofs.BareLists.{each_given}
+use Rattle.graphql_round_trip.proofs.BareLists.{Shown, each_given}
 use Rattle.graphql_printing.specs.Layout.{separated}
 
 -- ---- one level of a value
@@ -160,7 +161,7 @@ heads_between : (kind : Kind) (of : TokenKind) (open_text text close_text : List
     → IsToken of open_text anything → only kind (word_kind of open_text) ≡ true
     → Heads (only kind) all anything
 heads_between kind of open_text text close_text whole solid token is =
-    subst (λ (all : List ℕ). Heads (only kind) all anything) whole (heads_on close_text anything
+    same_heads whole (heads_on close_text anything
     (heads_on text anything (token_heads _ of open_text anything solid token is) (λ rest end. refl))
     (λ rest end. refl))
 
@@ -250,33 +251,34 @@ module _ (file : FileId) (constant : Bool) (depth : ℕ) where
 
 -- a list or an object, where one sign more may be open
 module _ (file : FileId) (constant : Bool) (depth : ℕ) where
+  -- by its first sign
+  group_prints : (kind : Kind) (x : Value) {text : List ℕ} → Heads (only kind) text anything
+      → value_pick file constant (grouped file constant (suc depth)) kind ≡ grouped file constant (suc depth)
+      → Prints (group_pick file (value_node file constant depth) kind) bare_value (bare_value x) text anything
+      → Prints (value file constant (suc depth)) bare_value (bare_value x) text ends_token
+  unfolding nested_group
+  group_prints kind x head picked reads =
+      loosely ends_token (branch_at (value_pick file constant (grouped file constant (suc depth))) no_value
+      kind head (rw picked (headed_text is_group (branch_at {first = is_group} {more = none}
+      (group_pick file (value_node file constant depth)) no_value kind head reads))))
+
   list_value_prints : (items : List (NodeView Value))
       → AllByRecursion (λ n. Prints (value_node file constant depth) (bare_node bare_value)
       (bare_node bare_value n) (item_text n) ends_token) items
       → Prints (value file constant (suc depth)) bare_value (bare_value (roll-Value (Value-F.List items)))
       (value_text (roll-Value (Value-F.List items))) ends_token
-  unfolding nested_group
-  list_value_prints items all =
-      let head = heads_between k.LeftBracket t.LeftBracket (codes "[") (separated (codes ", ") item_text
-      items) (codes "]") (sym (list_says items)) refl left_bracket_is_token refl in
-      loosely ends_token (branch_at (value_pick file constant (grouped file constant (suc depth))) no_value
-      k.LeftBracket head (headed_text is_group (branch_at {first = is_group} {more = none}
-      (group_pick file (value_node file constant depth)) no_value k.LeftBracket head
-      (list_prints file (value_node file constant depth) items all))))
+  list_value_prints items all = group_prints k.LeftBracket _ (heads_between k.LeftBracket t.LeftBracket
+      (codes "[") (separated (codes ", ") item_text items) (codes "]") (sym (list_says items)) refl
+      left_bracket_is_token refl) refl (list_prints file (value_node file constant depth) items all)
 
   object_value_prints : (members : List (NameView × NodeView Value))
       → AllByRecursion (λ m. Prints (member file (value_node file constant depth)) bare_member (bare_member m)
       (member_text m) ends_token) members
       → Prints (value file constant (suc depth)) bare_value (bare_value (roll-Value (Value-F.Object members)))
       (value_text (roll-Value (Value-F.Object members))) ends_token
-  unfolding nested_group
-  object_value_prints members all =
-      let head = heads_between k.LeftBrace t.LeftBrace (codes "{") (separated (codes ", ") member_text
-      members) (codes "}") (sym (object_says members)) refl left_brace_is_token refl in
-      loosely ends_token (branch_at (value_pick file constant (grouped file constant (suc depth))) no_value
-      k.LeftBrace head (headed_text is_group (branch_at {first = is_group} {more = none}
-      (group_pick file (value_node file constant depth)) no_value k.LeftBrace head
-      (object_prints file (value_node file constant depth) members all))))
+  object_value_prints members all = group_prints k.LeftBrace _ (heads_between k.LeftBrace t.LeftBrace
+      (codes "{") (separated (codes ", ") member_text members) (codes "}") (sym (object_says members)) refl
+      left_brace_is_token refl) refl (object_prints file (value_node file constant depth) members all)
 
 -- ---- all levels
 
@@ -285,9 +287,6 @@ module _ (file : FileId) (constant : Bool) where
   abbrev Shows : Value → Type 0
   Shows x = (depth : ℕ) → IsWellFormed (value_parts constant x) → value_nesting x ≤ depth
       → Prints (value file constant depth) bare_value (bare_value x) (value_text x) ends_token
-
-  abbrev Shown : Type 0
-  Shown = (x : Value) × Shows x
 
   -- the same, with the text said of one level
   said : (depth : ℕ) (y : Value-F Value) {text : List ℕ}
@@ -356,9 +355,7 @@ module _ (file : FileId) (constant : Bool) where
       → Shows (roll-Value (Value-F.List items))
   list_shows items shown depth fine fits =
       let room = opened (deepest item_nesting items) depth (rw (list_nested items) at fits) in
-      subst (λ (depth : ℕ). Prints (value file constant depth) bare_value
-      (bare_value (roll-Value (Value-F.List items))) (value_text (roll-Value (Value-F.List items)))
-      ends_token) (sym room.1) (list_value_prints file constant room.0 items (all room.0 room.2))
+      rw room.1 (list_value_prints file constant room.0 items (all room.0 room.2))
     where
       all : (inside : ℕ) → deepest item_nesting items ≤ inside
           → AllByRecursion (λ n. Prints (value_node file constant inside) (bare_node bare_value)
@@ -374,10 +371,7 @@ module _ (file : FileId) (constant : Bool) where
       → Shows (roll-Value (Value-F.Object members))
   object_shows members shown depth fine fits =
       let room = opened (deepest member_nesting members) depth (rw (object_nested members) at fits) in
-      subst (λ (depth : ℕ). Prints (value file constant depth) bare_value
-      (bare_value (roll-Value (Value-F.Object members)))
-      (value_text (roll-Value (Value-F.Object members))) ends_token) (sym room.1)
-      (object_value_prints file constant room.0 members (all room.0 room.2))
+      rw room.1 (object_value_prints file constant room.0 members (all room.0 room.2))
     where
       all : (inside : ℕ) → deepest member_nesting members ≤ inside
           → AllByRecursion (λ m. Prints (member file (value_node file constant inside)) bare_member
@@ -390,13 +384,13 @@ module _ (file : FileId) (constant : Bool) where
           (each_fits member_nesting members inside fits)
 
   -- an item and a member without what is to be shown of their values
-  abbrev item_of : NodeView Shown → NodeView Value
+  abbrev item_of : NodeView (Shown Shows) → NodeView Value
   item_of n = record { value = n.value.0; location = n.location }
 
-  abbrev member_of_shown : NameView × NodeView Shown → NameView × NodeView Value
+  abbrev member_of_shown : NameView × NodeView (Shown Shows) → NameView × NodeView Value
   member_of_shown m = (m.0, item_of m.1)
 
-  layer_shows : (y : Value-F Shown) → Shows (roll-Value (map-Value Shown Value (λ s. s.0) y))
+  layer_shows : (y : Value-F (Shown Shows)) → Shows (roll-Value (map-Value (Shown Shows) Value (λ s. s.0) y))
   layer_shows Value-F.Null = null_shows
   layer_shows (Value-F.Enum n) = enum_shows n
   layer_shows (Value-F.Variable n) = variable_shows n

@@ -50,6 +50,7 @@ pub fn texts_are_read_again()
 {}
 
 /// Equal trees have one text.
+#[tactic(auto, using(crate::proofs::BareDocumentTexts::one_text_each))]
 pub fn equal_trees_have_one_text()
     ensures document { (x y : List Definition) → map bare_definition x ≡ map bare_definition y
         → definitions_text x ≡ definitions_text y }
