@@ -12,6 +12,7 @@ ghost use Rattle.std.proofs.Common.{rules};
 use crate::extension::ComponentOrigin;
 use graphql_nodes::name::Name;
 use graphql_nodes::node::Node;
+use graphql_nodes::take_apart;
 use std::alloc::{AllocError, Global};
 use std::fmt;
 use std::hash::{Hash, Hasher};
@@ -28,7 +29,7 @@ pub struct Component<T> {
 
 impl<T: Drop> Drop for Component<T> {
     fn drop(self) {
-        let Self { origin: _, node: _ } = self;
+        take_apart!(self: origin, node);
     }
 }
 
@@ -149,7 +150,7 @@ pub struct ComponentName {
 
 impl Drop for ComponentName {
     fn drop(self) {
-        let Self { origin: _, name: _ } = self;
+        take_apart!(self: origin, name);
     }
 }
 

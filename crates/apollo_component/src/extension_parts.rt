@@ -8,9 +8,10 @@ ghost use Rattle.apollo_component.specs.Extensions.{extension_location};
 ghost use Rattle.apollo_component.specs.ExtensionTables.{entries_held, with_extension_part};
 
 use crate::extension::ExtensionId;
+use crate::listed::Listed;
 use graphql_ast::declaration::{SchemaDeclaration, TypeDeclaration};
 use graphql_ast::definition::Definition;
-use graphql_ast::parts::{Part, Parts};
+use graphql_ast::parts::Parts;
 use graphql_nodes::collections::table::Table;
 use graphql_nodes::name::Name;
 use graphql_nodes::source::SourceSpan;
@@ -63,13 +64,13 @@ impl ExtensionParts {
 
     /// Adds a part of the extension of this identity, the last of its sort there. The error is out of memory,
     /// after which nothing is said of the parts.
-    pub(crate) fn add(
+    pub(crate) fn add<T: Listed>(
         &mut self,
         alloc: Global,
         id: ExtensionId,
-        part: Part,
+        part: T,
     ) -> Result<(), AllocError>
-        ensures { OnOk result (self.new ≡ with_extension_part id part self.old) }
+        ensures { OnOk result (self.new ≡ with_extension_part id (T.part part) self.old) }
     {
         self.held.add(alloc, id, part)
     }
@@ -121,13 +122,13 @@ impl ExtensionParts {
 
 impl HeldParts {
     /// Adds a part of the extension of this identity. The error is out of memory.
-    fn add(&mut self, alloc: Global, id: ExtensionId, part: Part) -> Result<(), AllocError>
+    fn add<T: Listed>(&mut self, alloc: Global, id: ExtensionId, part: T) -> Result<(), AllocError>
         ensures { let held = entries_held self.old in
-            OnOk result (entries_held self.new ≡ with_extension_part id part held) }
+            OnOk result (entries_held self.new ≡ with_extension_part id (T.part part) held) }
     {
         if let HeldParts::One(first, parts) = self {
             if id == *first {
-                parts.push(part)?;
+                part.push_to(parts)?;
                 return Ok(());
             }
         }
@@ -137,8 +138,13 @@ impl HeldParts {
     }
 
     /// These with one more part. The error is out of memory.
-    fn with(self, alloc: Global, id: ExtensionId, part: Part) -> Result<HeldParts, AllocError>
-        ensures { let all = with_extension_part id part (entries_held self) in
+    fn with<T: Listed>(
+        self,
+        alloc: Global,
+        id: ExtensionId,
+        part: T,
+    ) -> Result<HeldParts, AllocError>
+        ensures { let all = with_extension_part id (T.part part) (entries_held self) in
             IfOk result (λ held. entries_held held ≡ all) }
     {
         if let HeldParts::Nothing = self {
@@ -205,25 +211,25 @@ fn extension_of_schema(
 }
 
 /// This part alone.
-fn one_part(alloc: Global, part: Part) -> Result<Parts, AllocError>
-    ensures { IfOk result (λ parts. parts ≡ with_part part no_parts) }
+fn one_part<T: Listed>(alloc: Global, part: T) -> Result<Parts, AllocError>
+    ensures { IfOk result (λ parts. parts ≡ with_part (T.part part) no_parts) }
 {
     let mut parts = Parts::new(alloc);
-    parts.push(part)?;
+    part.push_to(&mut parts)?;
     Ok(parts)
 }
 
 /// Adds a part of the extension of this identity.
-fn add_to(
+fn add_to<T: Listed>(
     alloc: Global,
     extensions: &mut Table<ExtensionId, Parts>,
     id: ExtensionId,
-    part: Part,
+    part: T,
 ) -> Result<(), AllocError>
-    ensures { OnOk result (extensions.new ≡ with_extension_part id part extensions.old) }
+    ensures { OnOk result (extensions.new ≡ with_extension_part id (T.part part) extensions.old) }
 {
     if let Some(parts) = extensions.get_mut(&id) {
-        parts.push(part)?;
+        part.push_to(parts)?;
         return Ok(());
     }
     extensions.insert(id, one_part(alloc, part)?)?;

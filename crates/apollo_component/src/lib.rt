@@ -14,9 +14,9 @@ pub mod extension;
 pub mod extension_parts;
 pub mod get_all;
 pub mod laws;
-pub mod named;
 #[doc(hidden)]
-pub mod node_part;
+pub mod listed;
+pub mod named;
 #[doc(hidden)]
 pub mod parts_by_origin;
 

@@ -8,14 +8,15 @@ ghost use Rattle.apollo_component.specs.WriteOut.{written_type, written_schema};
 use crate::component::{Component, ComponentName};
 use crate::extension::ComponentOrigin;
 use crate::extension_parts::ExtensionParts;
-use crate::node_part::NodePart;
+use crate::listed::Listed;
 use graphql_ast::declaration::{SchemaDeclaration, TypeDeclaration};
 use graphql_ast::definition::Definition;
-use graphql_ast::parts::{Part, Parts};
+use graphql_ast::parts::Parts;
 use graphql_nodes::name::Name;
 use graphql_nodes::node::Node;
 use graphql_nodes::node_str::NodeStr;
 use graphql_nodes::source::SourceSpan;
+use graphql_nodes::take_apart;
 use graphql_nodes::type_kind::TypeKind;
 use indexmap::map::Values;
 use std::alloc::{AllocError, Global};
@@ -29,10 +30,7 @@ pub struct PartsByOrigin {
 
 impl Drop for PartsByOrigin {
     fn drop(self) {
-        let Self {
-            definition: _,
-            extensions: _,
-        } = self;
+        take_apart!(self: definition, extensions);
     }
 }
 
@@ -49,70 +47,56 @@ impl PartsByOrigin {
 
     /// Adds a part of this origin, the last of its sort there. The error is out of memory: drop the parts
     /// then.
-    pub fn add(
+    pub fn add<T: Listed>(
         &mut self,
         alloc: Global,
         origin: ComponentOrigin,
-        part: Part,
+        part: T,
     ) -> Result<(), AllocError>
         ensures { OnOk result ((cs : List SourcedPart) → self.old ≡ by_origin cs →
-            self.new ≡ by_origin (cs ++ (origin, part) ∷ [])) }
+            self.new ≡ by_origin (cs ++ (origin, T.part part) ∷ [])) }
     {
         match origin {
-            ComponentOrigin::Definition => self.definition.push(part)?,
+            ComponentOrigin::Definition => part.push_to(&mut self.definition)?,
             ComponentOrigin::Extension(id) => self.extensions.add(alloc, id, part)?,
-        }
-        Ok(())
-    }
-
-    /// Adds a node of this origin, as [`add`](PartsByOrigin::add) does. One of the definition goes straight
-    /// into its list.
-    fn add_node<T: NodePart>(
-        &mut self,
-        alloc: Global,
-        origin: ComponentOrigin,
-        node: Node<T>,
-    ) -> Result<(), AllocError>
-        ensures { OnOk result ((cs : List SourcedPart) → self.old ≡ by_origin cs →
-            self.new ≡ by_origin (cs ++ (origin, T.node_part node) ∷ [])) }
-    {
-        match origin {
-            ComponentOrigin::Definition => T::push_node(node, &mut self.definition)?,
-            ComponentOrigin::Extension(_) => self.add(alloc, origin, T::into_part(node))?,
         }
         Ok(())
     }
 
     /// Adds each of these components, in order, as [`add`](PartsByOrigin::add) does. The error is out of
     /// memory: drop the parts then.
-    pub fn add_components<T: NodePart>(
+    pub fn add_components<T: Drop>(
         &mut self,
         alloc: Global,
         components: &[Component<T>],
     ) -> Result<(), AllocError>
+    where
+        Node<T>: Listed,
         ensures { OnOk result ((cs : List SourcedPart) → self.old ≡ by_origin cs
-            → self.new ≡ by_origin (cs ++ map (sourced T.node_part) components.now)) }
+            → self.new ≡ by_origin (cs ++ map (sourced ⟦<Node<T> as Listed>⟧.part) components.now)) }
     {
-        T::make_room(&mut self.definition, components.len())?;
+        <Node<T>>::make_room(&mut self.definition, components.len())?;
         for component in components {
-            self.add_node(alloc, component.origin, component.node.clone()?)?;
+            self.add(alloc, component.origin, component.node.clone()?)?;
         }
         Ok(())
     }
 
     /// Adds each of the components that are left of a table's values, in order, as
     /// [`add`](PartsByOrigin::add) does. The error is out of memory: drop the parts then.
-    pub fn add_named_components<T: NodePart>(
+    pub fn add_named_components<T: Drop>(
         &mut self,
         alloc: Global,
         components: Values<'_, Name, Component<T>>,
     ) -> Result<(), AllocError>
+    where
+        Node<T>: Listed,
         ensures { OnOk result ((cs : List SourcedPart) → self.old ≡ by_origin cs
-            → self.new ≡ by_origin (cs ++ map (sourced T.node_part) components.entry)) }
+            → self.new ≡ by_origin (cs ++ map (sourced ⟦<Node<T> as Listed>⟧.part) components.entry)) }
     {
-        T::make_room(&mut self.definition, components.len())?;
+        <Node<T>>::make_room(&mut self.definition, components.len())?;
         for component in components {
-            self.add_node(alloc, component.origin, component.node.clone()?)?;
+            self.add(alloc, component.origin, component.node.clone()?)?;
         }
         Ok(())
     }
@@ -123,9 +107,9 @@ impl PartsByOrigin {
         ensures { OnOk result ((cs : List SourcedPart) → self.old ≡ by_origin cs
             → self.new ≡ by_origin (cs ++ map sourced_name names.now)) }
     {
-        self.definition.names.reserve_exact(names.len())?;
+        Name::make_room(&mut self.definition, names.len())?;
         for name in names {
-            self.add(alloc, name.origin, Part::Name(name.name.clone()?))?;
+            self.add(alloc, name.origin, name.name.clone()?)?;
         }
         Ok(())
     }

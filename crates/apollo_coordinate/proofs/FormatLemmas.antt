@@ -3,6 +3,7 @@ use Rattle.std.proofs.Common.{◌≡◌, ℕ, List, subst, sym, ◌∙◌, inl, 
 use Rattle.graphql_nodes.specs.declared.name.InvalidNameError.{InvalidNameError}
 use Rattle.apollo_coordinate.specs.CoordinateText.{IsAttributeText, IsFieldArgumentText, IsDirectiveText}
 use Rattle.apollo_coordinate.specs.CoordinateText.{IsDirectiveArgumentText, SaysCoordinate}
+use Rattle.apollo_coordinate.specs.Parts.{attribute_of, field_argument_of, directive_argument_of}
 use Rattle.apollo_coordinate.specs.Refusals.{IsNoNames, IsNoAttribute, IsNoDirective, IsNoArgument, IsNoPair}
 use Rattle.apollo_coordinate.specs.Refusals.{IsNoArgumentOf, IsNoFieldArgument, IsNoDirectiveArgument}
 use Rattle.apollo_coordinate.specs.declared.coordinates.TypeAttributeCoordinate.{TypeAttributeCoordinate}
@@ -17,6 +18,7 @@ use Rattle.apollo_coordinate.specs.declared.parse_error.SchemaCoordinateParseErr
 use Rattle.apollo_coordinate.proofs.GrammarLemmas.{cut_lacks, no_attribute, no_directive, no_field_argument}
 use Rattle.apollo_coordinate.proofs.GrammarLemmas.{no_directive_argument}
 use Rattle.apollo_coordinate.proofs.MarkLemmas.{one_cut}
+use Rattle.apollo_coordinate.proofs.RefusalLemmas.{AreAnswers, answers}
 use Rattle.apollo_coordinate.proofs.TextLemmas.{field_argument_form, directive_argument_form}
 
 -- a form whose refusals for the format are its only ones
@@ -31,7 +33,7 @@ no_names : (first second : List ℕ) → IsNoNames first second InvalidFormat �
 no_names first second (inl a) = no_name _ a.1
 no_names first second (inr b) = no_name _ b.1.1
 
-pub attribute_format : IsRefusedAlone IsNoAttribute
+attribute_format : IsRefusedAlone IsNoAttribute
 attribute_format t e (inl none) (inl again) = again.1
 attribute_format t e (inl none) (inr parts) = absurd (cut_lacks 46 t parts.0 parts.1 parts.2 none.0)
 attribute_format t e (inr parts) other = absurd (no_names parts.0 parts.1 parts.3)
@@ -63,28 +65,38 @@ module _ (IsHead : List ℕ → Type 0) (IsNoHead : List ℕ → SchemaCoordinat
   argument_of_format t e (inl none) (inr b) = absurd (cut_lacks 40 t b.0 b.1 b.2 none.0)
   argument_of_format t e (inr a) (inr b) =
       let same = one_cut 40 a.0 a.1 b.0 b.1 a.2.0 b.2.0 (sym a.2.1 ∙ b.2.1) in
-      let head = subst (λ (h : List ℕ). IsNoPair IsHead IsNoHead h a.1 InvalidFormat) same.0 a.3 in
-      pair_format b.0 b.1 e (subst (λ (r : List ℕ). IsNoPair IsHead IsNoHead b.0 r InvalidFormat) same.1 head)
-      b.3
+      pair_format b.0 b.1 e (rw (same.0, same.1) at a.3) b.3
 
-pub field_argument_format : IsRefusedAlone IsNoFieldArgument
+field_argument_format : IsRefusedAlone IsNoFieldArgument
 field_argument_format = argument_of_format IsAttributeText IsNoAttribute no_attribute attribute_format
 
-pub directive_argument_format : IsRefusedAlone IsNoDirectiveArgument
+directive_argument_format : IsRefusedAlone IsNoDirectiveArgument
 directive_argument_format = argument_of_format IsDirectiveText IsNoDirective no_directive directive_format
 
 -- what says a coordinate of a form is refused for nothing
-pub attribute_said : (t : List ℕ) (c : TypeAttributeCoordinate) (e : SchemaCoordinateParseError)
+attribute_said : (t : List ℕ) (c : TypeAttributeCoordinate) (e : SchemaCoordinateParseError)
     → SaysCoordinate t (TypeAttribute c) → IsNoAttribute t e → ⊥
 attribute_said t c e said none =
     no_attribute t e none (c.ty.text, c.attribute.text, sym said.0, said.1.0.0, said.1.1.0.0)
 
-pub field_argument_said : (t : List ℕ) (c : FieldArgumentCoordinate) (e : SchemaCoordinateParseError)
+field_argument_said : (t : List ℕ) (c : FieldArgumentCoordinate) (e : SchemaCoordinateParseError)
     → SaysCoordinate t (FieldArgument c) → IsNoFieldArgument t e → ⊥
 field_argument_said t c e said none = no_field_argument t e none (subst IsFieldArgumentText said.0
     (field_argument_form c said.1.0.0 said.1.1.0.0 said.1.1.1.0.0))
 
-pub directive_argument_said : (t : List ℕ) (c : DirectiveArgumentCoordinate) (e : SchemaCoordinateParseError)
+directive_argument_said : (t : List ℕ) (c : DirectiveArgumentCoordinate) (e : SchemaCoordinateParseError)
     → SaysCoordinate t (DirectiveArgument c) → IsNoDirectiveArgument t e → ⊥
 directive_argument_said t c e said none = no_directive_argument t e none (subst IsDirectiveArgumentText said.0
     (directive_argument_form c said.1.0.0 said.1.1.0.0))
+
+-- so it is answered
+pub attribute_answers : AreAnswers attribute_of TypeAttribute IsNoAttribute
+attribute_answers = answers attribute_of TypeAttribute IsNoAttribute attribute_format attribute_said
+
+pub field_argument_answers : AreAnswers field_argument_of FieldArgument IsNoFieldArgument
+field_argument_answers =
+    answers field_argument_of FieldArgument IsNoFieldArgument field_argument_format field_argument_said
+
+pub directive_argument_answers : AreAnswers directive_argument_of DirectiveArgument IsNoDirectiveArgument
+directive_argument_answers = answers directive_argument_of DirectiveArgument IsNoDirectiveArgument
+    directive_argument_format directive_argument_said

@@ -1,5 +1,5 @@
 -- What the marks of a text say of its form, and that a refused text is outside the grammar.
-use Rattle.std.proofs.Common.{◌≡◌, ◌≢◌, ◌<◌, ◌++◌, ℕ, List, [], ◌∷◌, true, false, not, nat_eq, codes, refl}
+use Rattle.std.proofs.Common.{◌≡◌, ◌≢◌, ◌<◌, ◌++◌, ℕ, List, [], ◌∷◌, true, not, nat_eq, codes, refl}
 use Rattle.std.proofs.Common.{sym, ap, subst, ◌∙◌, inl, inr, arith, append-nil}
 use Rattle.std.specs.Cmp.Lexicographic.{pointwise}
 use Rattle.std.proofs.lemmas.List.Elements.{All-weaker, All-append, All-cons}
@@ -192,8 +192,8 @@ no_argument_of IsHead IsNoHead lacks refuses t e (inl none) form = argument_cut 
 no_argument_of IsHead IsNoHead lacks refuses t e (inr parts) form =
     let same = one_cut 40 parts.0 parts.1 form.0 (form.1 ++ codes ":)") parts.2.0 (lacks form.0 form.3)
     (sym parts.2.1 ∙ form.2) in
-    let none = subst (λ (rest : List ℕ). IsNoPair IsHead IsNoHead parts.0 rest e) same.1 parts.3 in
-    no_pair IsHead IsNoHead refuses parts.0 form.1 e none (subst IsHead (sym same.0) form.3) form.4
+    no_pair IsHead IsNoHead refuses parts.0 form.1 e (rw same.1 at parts.3) (subst IsHead (sym same.0) form.3)
+    form.4
 
 pub no_field_argument : (t : List ℕ) (e : SchemaCoordinateParseError) → IsNoFieldArgument t e
     → IsFieldArgumentText t → ⊥
@@ -213,12 +213,8 @@ no_colon t lacks = inl (λ a before same. no_cut 58 a (codes ")") (subst (Lacks 
 
 pub other_end : (t front back : List ℕ) → IsCut 58 t front back
     → true ≡ not (pointwise nat_eq back (codes ")")) → IsNoArgument t InvalidFormat
-other_end t front back cut other =
-    let Differs : List ℕ → Type 0 = λ end. true ≡ not (pointwise nat_eq end (codes ")")) in
-    inl (
-      λ a before same. let differs : true
-          ≡ false = subst Differs (one_cut 58 front back a (codes ")") cut.0 before (sym cut.1
-          ∙ same)).1 other in
-          cc,
-      refl,
-    )
+other_end t front back cut other = inl (
+  λ a before same. let e = (one_cut 58 front back a (codes ")") cut.0 before (sym cut.1 ∙ same)).1 in
+      let differs = rw e at other in cc,
+  refl,
+)

@@ -6,6 +6,7 @@ use Rattle.graphql_nodes.specs.Comparing.{bare_name}
 use Rattle.graphql_nodes.specs.NameSyntax.{IsName}
 use Rattle.graphql_nodes.specs.NameView.{NameView}
 use Rattle.graphql_nodes.proofs.Comparisons.{tail_same}
+use Rattle.apollo_component.proofs.Lists.Each.{each-weaken}
 use Rattle.apollo_coordinate.specs.CoordinateText.{IsAttributeText, IsFieldArgumentText, IsDirectiveText}
 use Rattle.apollo_coordinate.specs.CoordinateText.{IsDirectiveArgumentText, IsCoordinateText, HasNames}
 use Rattle.apollo_coordinate.specs.CoordinateText.{SaysCoordinate, coordinate_text, coordinate_parts}
@@ -75,39 +76,27 @@ marks (DirectiveArgument c) names =
     let form = directive_argument_form c names.0 names.1.0 in
     (argument_begins _ form, argument_cut IsDirectiveText _ form, tt)
 
-bare_same : (n m : NameView) → n.text ≡ m.text → bare_name n ≡ bare_name m
-bare_same n m h = λ i. record { text = h i; location = None }
-
-argument_same : (a b : NameView) → IsName a.text → IsName b.text → a.text ++ codes ":)" ≡ b.text ++ codes ":)"
-    → bare_name a ≡ bare_name b
-argument_same a b m n h = bare_same a b (one_cut 58 a.text (codes ")") b.text (codes ")")
-    (name_lacks 58 colon a.text m) (name_lacks 58 colon b.text n) h).0
+argument_same : (a b : List ℕ) → IsName a → IsName b → a ++ codes ":)" ≡ b ++ codes ":)" → a ≡ b
+argument_same a b m n h =
+    (one_cut 58 a (codes ")") b (codes ")") (name_lacks 58 colon a m) (name_lacks 58 colon b n) h).0
 
 -- a text, with the marks that two coordinates have in it
 same_form : (c d : SchemaCoordinate) → HasNames c → HasNames d → coordinate_text c ≡ coordinate_text d
     → HasMarks c (coordinate_text c) → HasMarks d (coordinate_text c) → bare_coordinate c ≡ bare_coordinate d
-same_form (Ty c) (Ty d) m n h u v = let n = bare_same c.ty d.ty h in λ i. Ty (record { ty = n i })
+same_form (Ty c) (Ty d) m n h u v = rw h
 same_form (TypeAttribute c) (TypeAttribute d) m n h u v =
     let cut = one_cut 46 _ _ _ _ (name_lacks 46 point c.ty.text m.0) (name_lacks 46 point d.ty.text n.0) h in
-    let first = bare_same c.ty d.ty cut.0 in
-    let second = bare_same c.attribute d.attribute cut.1 in
-    λ i. TypeAttribute (record { ty = first i; attribute = second i })
+    rw (cut.0, cut.1)
 same_form (FieldArgument c) (FieldArgument d) m n h u v =
     let cut = one_cut 46 _ _ _ _ (name_lacks 46 point c.ty.text m.0) (name_lacks 46 point d.ty.text n.0) h in
     let next = one_cut 40 c.field.text _ d.field.text _ (name_lacks 40 bracket c.field.text m.1.0)
     (name_lacks 40 bracket d.field.text n.1.0) cut.1 in
-    let first = bare_same c.ty d.ty cut.0 in
-    let second = bare_same c.field d.field next.0 in
-    let third = argument_same c.argument d.argument m.1.1.0 n.1.1.0 next.1 in
-    λ i. FieldArgument (record { ty = first i; field = second i; argument = third i })
-same_form (Directive c) (Directive d) m n h u v =
-    let n = bare_same c.directive d.directive (tail_same h) in λ i. Directive (record { directive = n i })
+    rw (cut.0, next.0, argument_same c.argument.text d.argument.text m.1.1.0 n.1.1.0 next.1)
+same_form (Directive c) (Directive d) m n h u v = rw (tail_same h)
 same_form (DirectiveArgument c) (DirectiveArgument d) m n h u v =
     let cut = one_cut 40 c.directive.text _ d.directive.text _ (name_lacks 40 bracket c.directive.text m.0)
     (name_lacks 40 bracket d.directive.text n.0) (tail_same h) in
-    let first = bare_same c.directive d.directive cut.0 in
-    let second = argument_same c.argument d.argument m.1.0 n.1.0 cut.1 in
-    λ i. DirectiveArgument (record { directive = first i; argument = second i })
+    rw (cut.0, argument_same c.argument.text d.argument.text m.1.0 n.1.0 cut.1)
 same_form c d m n h u v = absurd (search (u.0, v.0, u.1, v.1, u.2, v.2))
 
 pub apart : (c d : SchemaCoordinate) → HasNames c → HasNames d → coordinate_text c ≡ coordinate_text d
@@ -122,25 +111,15 @@ bare_stands n s = let e = s.1 in λ i. record { text = n.text; location = sym e 
 
 -- a coordinate that a text says has valid names, at no location
 said_names : (d : SchemaCoordinate) → AllByRecursion Stands (coordinate_parts d) → HasNames d
-said_names (Ty d) s = (s.0.0, tt)
-said_names (TypeAttribute d) s = (s.0.0, (s.1.0.0, tt))
-said_names (FieldArgument d) s = (s.0.0, (s.1.0.0, (s.1.1.0.0, tt)))
-said_names (Directive d) s = (s.0.0, tt)
-said_names (DirectiveArgument d) s = (s.0.0, (s.1.0.0, tt))
+said_names d s = each-weaken Stands (λ n. IsName n.text) (λ n h. h.0) (coordinate_parts d) s
 
 said_bare : (d : SchemaCoordinate) → AllByRecursion Stands (coordinate_parts d) → bare_coordinate d ≡ d
-said_bare (Ty d) s = let a = bare_stands d.ty s.0 in λ i. Ty (record { ty = a i })
-said_bare (TypeAttribute d) s =
-    let a = bare_stands d.ty s.0 in let b = bare_stands d.attribute s.1.0 in
-    λ i. TypeAttribute (record { ty = a i; attribute = b i })
+said_bare (Ty d) s = rw (bare_stands d.ty s.0)
+said_bare (TypeAttribute d) s = rw (bare_stands d.ty s.0, bare_stands d.attribute s.1.0)
 said_bare (FieldArgument d) s =
-    let a = bare_stands d.ty s.0 in let b = bare_stands d.field s.1.0 in
-    let c = bare_stands d.argument s.1.1.0 in
-    λ i. FieldArgument (record { ty = a i; field = b i; argument = c i })
-said_bare (Directive d) s = let a = bare_stands d.directive s.0 in λ i. Directive (record { directive = a i })
-said_bare (DirectiveArgument d) s =
-    let a = bare_stands d.directive s.0 in let b = bare_stands d.argument s.1.0 in
-    λ i. DirectiveArgument (record { directive = a i; argument = b i })
+    rw (bare_stands d.ty s.0, bare_stands d.field s.1.0, bare_stands d.argument s.1.1.0)
+said_bare (Directive d) s = rw (bare_stands d.directive s.0)
+said_bare (DirectiveArgument d) s = rw (bare_stands d.directive s.0, bare_stands d.argument s.1.0)
 
 -- what says a coordinate is in the grammar
 pub said_in_grammar : (t : List ℕ) (c : SchemaCoordinate) → SaysCoordinate t c → IsCoordinateText t

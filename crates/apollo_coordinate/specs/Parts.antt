@@ -1,6 +1,6 @@
 -- The parts of a text, borrowed from it: the coordinate that they make, and its names at no location. Also
 -- the error that a refusal is answered as, where there is memory for it. Schema Coordinates RFC.
-use Rattle.std.specs.Prelude.{None}
+use Rattle.std.specs.Prelude.{◌≡◌, None, Result, Ok, Err}
 use Rattle.graphql_nodes.specs.NameView.{plain_name}
 use Rattle.apollo_coordinate.specs.declared.coordinates.TypeAttributeCoordinate.{TypeAttributeCoordinate}
 use Rattle.apollo_coordinate.specs.declared.coordinates.FieldArgumentCoordinate.{FieldArgumentCoordinate}
@@ -10,6 +10,7 @@ use Rattle.apollo_coordinate.specs.declared.coordinates.SchemaCoordinate.TheVari
 use Rattle.apollo_coordinate.specs.declared.parse_error.SchemaCoordinateParseError.{SchemaCoordinateParseError}
 use Rattle.apollo_coordinate.specs.declared.parse_error.SchemaCoordinateParseError.TheVariants.{InvalidFormat}
 use Rattle.apollo_coordinate.specs.declared.parse_error.SchemaCoordinateParseError.TheVariants.{InvalidName}
+use Rattle.apollo_coordinate.specs.declared.parse_error.SchemaCoordinateParseError.TheVariants.{Memory}
 use Rattle.apollo_coordinate.specs.declared.text_parts.AttributeParts.{AttributeParts}
 use Rattle.apollo_coordinate.specs.declared.text_parts.FieldArgumentParts.{FieldArgumentParts}
 use Rattle.apollo_coordinate.specs.declared.text_parts.DirectiveArgumentParts.{DirectiveArgumentParts}
@@ -17,6 +18,7 @@ use Rattle.apollo_coordinate.specs.declared.text_parts.Parts.{Parts}
 use Rattle.apollo_coordinate.specs.declared.text_parts.Parts.TheVariants as parts
 use Rattle.apollo_coordinate.specs.declared.refusal.Refusal.{Refusal}
 use Rattle.apollo_coordinate.specs.declared.refusal.Refusal.TheVariants as refusals
+use Rattle.apollo_coordinate.specs.Refusals.{WhenRefused}
 
 -- the attribute's coordinate that these parts make
 abbrev pub attribute_of : AttributeParts → TypeAttributeCoordinate
@@ -48,3 +50,13 @@ coordinate_of (parts.DirectiveArgument p) = any.DirectiveArgument (directive_arg
 abbrev pub error_of : Refusal → SchemaCoordinateParseError
 error_of refusals.Format = InvalidFormat
 error_of (refusals.Name part) = InvalidName (record { name = part.now; location = None })
+
+-- what is answered where a text was read: what its parts make, or that memory ran out; or the error that its
+-- refusal is answered as, unless memory ran out, which a refused format needs none of
+abbrev pub IsAnswerTo : {P C : Type 0} → (P → C) → Result P Refusal → Result C SchemaCoordinateParseError
+    → Type 0
+IsAnswerTo make (Ok parts) (Ok c) = c ≡ make parts
+IsAnswerTo make (Ok parts) (Err e) = e ≡ Memory
+IsAnswerTo make (Err refusal) (Ok c) = ⊥
+IsAnswerTo make (Err refusal) (Err e) =
+    WhenRefused (λ error. error ≡ error_of refusal) e × (error_of refusal ≡ InvalidFormat → e ≡ InvalidFormat)

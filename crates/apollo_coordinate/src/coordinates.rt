@@ -7,6 +7,7 @@ ghost use Rattle.std.specs.Prelude.{◌≡◌, IfOk};
 ghost use Rattle.apollo_coordinate.specs.declared.coordinates.SchemaCoordinate.TheVariants as any;
 
 use graphql_nodes::name::{Name, NamedType};
+use graphql_nodes::take_apart;
 use std::alloc::AllocError;
 
 /// The coordinate of a type: `Type`.
@@ -17,7 +18,7 @@ pub struct TypeCoordinate {
 
 impl Drop for TypeCoordinate {
     fn drop(self) {
-        let Self { ty: _ } = self;
+        take_apart!(self: ty);
     }
 }
 
@@ -30,10 +31,7 @@ pub struct TypeAttributeCoordinate {
 
 impl Drop for TypeAttributeCoordinate {
     fn drop(self) {
-        let Self {
-            ty: _,
-            attribute: _,
-        } = self;
+        take_apart!(self: ty, attribute);
     }
 }
 
@@ -47,11 +45,7 @@ pub struct FieldArgumentCoordinate {
 
 impl Drop for FieldArgumentCoordinate {
     fn drop(self) {
-        let Self {
-            ty: _,
-            field: _,
-            argument: _,
-        } = self;
+        take_apart!(self: ty, field, argument);
     }
 }
 
@@ -63,7 +57,7 @@ pub struct DirectiveCoordinate {
 
 impl Drop for DirectiveCoordinate {
     fn drop(self) {
-        let Self { directive: _ } = self;
+        take_apart!(self: directive);
     }
 }
 
@@ -76,10 +70,7 @@ pub struct DirectiveArgumentCoordinate {
 
 impl Drop for DirectiveArgumentCoordinate {
     fn drop(self) {
-        let Self {
-            directive: _,
-            argument: _,
-        } = self;
+        take_apart!(self: directive, argument);
     }
 }
 

@@ -7,7 +7,7 @@
 ghost use Rattle.std.specs.Prelude.{◌≡◌, Err, IfOk, IfErr, OnOk};
 ghost use Rattle.apollo_coordinate.specs.CoordinateText.{IsCoordinateText, SaysCoordinate};
 ghost use Rattle.apollo_coordinate.specs.Parts.{attribute_of, field_argument_of, directive_argument_of};
-ghost use Rattle.apollo_coordinate.specs.Parts.{coordinate_of};
+ghost use Rattle.apollo_coordinate.specs.Parts.{coordinate_of, IsAnswerTo};
 ghost use Rattle.apollo_coordinate.specs.Readings.{IsReadingOf};
 ghost use Rattle.apollo_coordinate.specs.Refusals.{WhenRefused, IsNoName, IsNoAttribute, IsNoDirective};
 ghost use Rattle.apollo_coordinate.specs.Refusals.{IsNoFieldArgument, IsNoDirectiveArgument};
@@ -18,17 +18,31 @@ use crate::coordinates::{
     TypeAttributeCoordinate, TypeCoordinate,
 };
 use crate::parse_error::SchemaCoordinateParseError;
+use crate::refusal::Refusal;
 use crate::text_parts::{
     AttributeParts, DirectiveArgumentParts, FieldArgumentParts, Parts, directive_part, name_part,
 };
 use graphql_nodes::name::Name;
 use std::alloc::{AllocError, Global};
 
-impl<'a> AttributeParts<'a> {
+/// The parts of a text of one form, of which its coordinate is made.
+trait CoordinateParts {
+    type Coordinate;
+
+    /// The coordinate that they make.
+    ghost make: { Self → Self.Coordinate };
+
     /// The coordinate, whose names have no location. The error is out of memory.
-    fn into_coordinate(self, alloc: Global) -> Result<TypeAttributeCoordinate, AllocError>
-        ensures { IfOk result (λ c. c ≡ attribute_of self.entry) }
-    {
+    fn into_coordinate(self, alloc: Global) -> Result<Self::Coordinate, AllocError>
+        ensures { IfOk result (λ c. c ≡ make self) };
+}
+
+impl<'a> CoordinateParts for AttributeParts<'a> {
+    type Coordinate = TypeAttributeCoordinate;
+
+    ghost make = { attribute_of };
+
+    fn into_coordinate(self, alloc: Global) -> Result<TypeAttributeCoordinate, AllocError> {
         Ok(TypeAttributeCoordinate {
             ty: Name::new_unchecked(alloc, self.ty)?,
             attribute: Name::new_unchecked(alloc, self.attribute)?,
@@ -36,21 +50,23 @@ impl<'a> AttributeParts<'a> {
     }
 }
 
-impl<'a> FieldArgumentParts<'a> {
-    /// The coordinate, whose names have no location. The error is out of memory.
-    fn into_coordinate(self, alloc: Global) -> Result<FieldArgumentCoordinate, AllocError>
-        ensures { IfOk result (λ c. c ≡ field_argument_of self.entry) }
-    {
+impl<'a> CoordinateParts for FieldArgumentParts<'a> {
+    type Coordinate = FieldArgumentCoordinate;
+
+    ghost make = { field_argument_of };
+
+    fn into_coordinate(self, alloc: Global) -> Result<FieldArgumentCoordinate, AllocError> {
         let field = self.field.into_coordinate(alloc)?;
         Ok(field.with_argument(Name::new_unchecked(alloc, self.argument)?))
     }
 }
 
-impl<'a> DirectiveArgumentParts<'a> {
-    /// The coordinate, whose names have no location. The error is out of memory.
-    fn into_coordinate(self, alloc: Global) -> Result<DirectiveArgumentCoordinate, AllocError>
-        ensures { IfOk result (λ c. c ≡ directive_argument_of self.entry) }
-    {
+impl<'a> CoordinateParts for DirectiveArgumentParts<'a> {
+    type Coordinate = DirectiveArgumentCoordinate;
+
+    ghost make = { directive_argument_of };
+
+    fn into_coordinate(self, alloc: Global) -> Result<DirectiveArgumentCoordinate, AllocError> {
         Ok(DirectiveArgumentCoordinate {
             directive: Name::new_unchecked(alloc, self.directive)?,
             argument: Name::new_unchecked(alloc, self.argument)?,
@@ -58,11 +74,12 @@ impl<'a> DirectiveArgumentParts<'a> {
     }
 }
 
-impl<'a> Parts<'a> {
-    /// The coordinate, whose names have no location. The error is out of memory.
-    fn into_coordinate(self, alloc: Global) -> Result<SchemaCoordinate, AllocError>
-        ensures { IfOk result (λ c. c ≡ coordinate_of self.entry) }
-    {
+impl<'a> CoordinateParts for Parts<'a> {
+    type Coordinate = SchemaCoordinate;
+
+    ghost make = { coordinate_of };
+
+    fn into_coordinate(self, alloc: Global) -> Result<SchemaCoordinate, AllocError> {
         Ok(match self {
             Parts::Ty(ty) => TypeCoordinate {
                 ty: Name::new_unchecked(alloc, ty)?,
@@ -76,6 +93,19 @@ impl<'a> Parts<'a> {
             .into(),
             Parts::DirectiveArgument(parts) => parts.into_coordinate(alloc)?.into(),
         })
+    }
+}
+
+/// The coordinate that is made of what was read, or the error that a refusal is answered as.
+fn answered<'a, P: CoordinateParts>(
+    alloc: Global,
+    read: Result<P, Refusal<'a>>,
+) -> Result<P::Coordinate, SchemaCoordinateParseError>
+    ensures { IsAnswerTo P.make read.entry result }
+{
+    match read {
+        Ok(parts) => Ok(parts.into_coordinate(alloc)?),
+        Err(refusal) => Err(refusal.into_error(alloc)),
     }
 }
 
@@ -113,10 +143,7 @@ impl TypeAttributeCoordinate {
         ensures format { IsNoAttribute text.now SchemaCoordinateParseError.InvalidFormat
             → result ≡ Err SchemaCoordinateParseError.InvalidFormat }
     {
-        match AttributeParts::read(text) {
-            Ok(attribute) => Ok(attribute.into_coordinate(alloc)?),
-            Err(refusal) => Err(refusal.into_error(alloc)),
-        }
+        answered(alloc, AttributeParts::read(text))
     }
 }
 
@@ -138,10 +165,7 @@ impl FieldArgumentCoordinate {
         ensures format { IsNoFieldArgument text.now SchemaCoordinateParseError.InvalidFormat
             → result ≡ Err SchemaCoordinateParseError.InvalidFormat }
     {
-        match FieldArgumentParts::read(text) {
-            Ok(argument) => Ok(argument.into_coordinate(alloc)?),
-            Err(refusal) => Err(refusal.into_error(alloc)),
-        }
+        answered(alloc, FieldArgumentParts::read(text))
     }
 }
 
@@ -187,10 +211,7 @@ impl DirectiveArgumentCoordinate {
         ensures format { IsNoDirectiveArgument text.now SchemaCoordinateParseError.InvalidFormat
             → result ≡ Err SchemaCoordinateParseError.InvalidFormat }
     {
-        match DirectiveArgumentParts::read(text) {
-            Ok(argument) => Ok(argument.into_coordinate(alloc)?),
-            Err(refusal) => Err(refusal.into_error(alloc)),
-        }
+        answered(alloc, DirectiveArgumentParts::read(text))
     }
 }
 

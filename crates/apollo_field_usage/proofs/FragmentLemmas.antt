@@ -1,9 +1,8 @@
 -- The fragments of a document, under their names.
-use Rattle.std.proofs.Common.{◌≡◌, ℕ, Bool, true, false, cond, List, [], ◌∷◌, map, Option, Some, None, refl}
-use Rattle.std.proofs.Common.{ap, ◌∙◌, option_map}
+use Rattle.std.proofs.Common.{◌≡◌, ℕ, List, [], ◌∷◌, map, Some, None, refl, ap, ◌∙◌, option_map, arith}
 use Rattle.graphql_nodes.specs.NameView.{NameView}
 use Rattle.graphql_nodes.specs.NodeView.{NodeView}
-use Rattle.graphql_nodes.specs.SameText.{same, by_text}
+use Rattle.graphql_nodes.specs.SameText.{by_text}
 use Rattle.graphql_nodes.specs.Tables.{lookup}
 use Rattle.apollo_walks.specs.Selections.{fragment_of}
 use Rattle.apollo_executable.specs.declared.document.ExecutableDocument.{ExecutableDocument}
@@ -14,18 +13,11 @@ use Rattle.apollo_field_usage.specs.Placed.{Placed, placed_set, placed_fragments
 abbrev seen_fragment : NodeView Fragment → Placed
 seen_fragment f = placed_set f.value.selection_set
 
-either : (b : Bool) (f : NodeView Fragment) (found : Option (NodeView Fragment))
-    → cond b (Some (seen_fragment f)) (option_map seen_fragment found)
-    ≡ option_map seen_fragment (cond b (Some f) found)
-either true f found = refl
-either false f found = refl
-
 of-entries : (es : List (NameView × NodeView Fragment)) (n : List ℕ)
     → fragment_of (map (λ e. (e.0.text, seen_fragment e.1)) es) n
     ≡ option_map seen_fragment (lookup (by_text n) es)
 of-entries [] n = refl
-of-entries (e ∷ es) n = ap (cond (same n e.0.text) (Some (seen_fragment e.1))) (of-entries es n)
-    ∙ either (same n e.0.text) e.1 (lookup (by_text n) es)
+of-entries (e ∷ es) n = grind (arith, of-entries es n)
 
 -- the fragment that a walk finds is that of the document
 pub fragment-of : (d : ExecutableDocument) (n : List ℕ)

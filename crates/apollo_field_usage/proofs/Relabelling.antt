@@ -1,8 +1,6 @@
 -- A walk over fields that carry more is the walk over the fields: what is added to them changes nothing.
-use Rattle.std.proofs.Common.{◌≡◌, inl, inr, ℕ, true, false, Bool, cond, List, [], ◌∷◌, map, option_map}
-use Rattle.std.proofs.Common.{Option, Some, refl, ap, ◌∙◌}
+use Rattle.std.proofs.Common.{◌≡◌, inl, inr, ℕ, List, [], ◌∷◌, map, option_map, refl, ap, ◌∙◌, arith}
 use Rattle.std.proofs.lemmas.List.{map-append}
-use Rattle.graphql_nodes.specs.SameText.{same}
 use Rattle.apollo_walks.specs.Selections.{Selections, none, field, spread, inline, Fragments, Names}
 use Rattle.apollo_walks.specs.Selections.{fragment_of}
 use Rattle.apollo_walks.specs.WalkOrder.{Order, of_none, of_inline, of_field, of_passed, of_fragment}
@@ -19,17 +17,10 @@ module _ {F G : Type 0} (f : F → G) where
   abbrev pub all_relabelled : Fragments F → Fragments G
   all_relabelled fragments = map (λ e. (e.0, relabelled e.1)) fragments
 
-  either-relabelled : (b : Bool) (set : Selections F) (found : Option (Selections F))
-      → cond b (Some (relabelled set)) (option_map relabelled found)
-      ≡ option_map relabelled (cond b (Some set) found)
-  either-relabelled true set found = refl
-  either-relabelled false set found = refl
-
   fragment-relabelled : (fragments : Fragments F) (n : List ℕ)
       → fragment_of (all_relabelled fragments) n ≡ option_map relabelled (fragment_of fragments n)
   fragment-relabelled [] n = refl
-  fragment-relabelled (e ∷ es) n = ap (cond (same n e.0) (Some (relabelled e.1))) (fragment-relabelled es n)
-      ∙ either-relabelled (same n e.0) e.1 (fragment_of es n)
+  fragment-relabelled (e ∷ es) n = grind (arith, fragment-relabelled es n)
 
   pub order-relabelled : (fragments : Fragments F) {before : Names} {s : Selections F} {fs : List F}
       {ns : List (List ℕ)} → Order fragments before s fs ns

@@ -8,6 +8,7 @@ use Rattle.std.specs.List.{AllByRecursion, IsDistinct}
 use Rattle.graphql_nodes.specs.Tables.{lookup, set_value, insert_entry}
 use Rattle.apollo_component.specs.FirstOfEach.{first_of_each}
 use Rattle.apollo_component.proofs.Lists.Ends.{snoc_ind}
+use Rattle.apollo_component.proofs.Tabled.{first_of_each-distinct}
 use Rattle.apollo_coordinate.specs.declared.coordinates.TypeAttributeCoordinate.{TypeAttributeCoordinate}
 use Rattle.apollo_field_usage.specs.Coordinates.{coordinate, same_coordinate}
 use Rattle.apollo_field_usage.specs.Counted.{raised, counted}
@@ -16,7 +17,7 @@ use Rattle.apollo_field_usage.specs.Tallies.{times, tally}
 use Rattle.apollo_field_usage.specs.Usage.{usage_of, usage}
 use Rattle.apollo_field_usage.specs.declared.counting.FieldUsage.{FieldUsage}
 use Rattle.apollo_field_usage.proofs.SameCoordinates.{same-equivalence}
-use Rattle.apollo_field_usage.proofs.TallyLemmas.{first-distinct, tally-push}
+use Rattle.apollo_field_usage.proofs.TallyLemmas.{tally-push}
 
 -- the coordinates of usages are those that are counted
 coordinates-back : (n : TypeAttributeCoordinate → ℕ) (ks : List TypeAttributeCoordinate)
@@ -29,7 +30,7 @@ pub usages-apart : (fields : List Occurrence)
 usages-apart fields =
     let ks = map coordinate fields in
     subst (IsDistinct same_coordinate) (sym (coordinates-back (times same_coordinate ks)
-    (first_of_each same_coordinate ks))) (first-distinct same-equivalence ks)
+    (first_of_each same_coordinate ks))) (first_of_each-distinct same_coordinate ks)
 
 module _ {K : Type 0} (eq : K → K → Bool) where
   -- how often there is something

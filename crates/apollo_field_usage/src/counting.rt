@@ -9,6 +9,7 @@ use crate::tallies::count_all;
 use apollo_coordinate::coordinates::TypeAttributeCoordinate;
 use apollo_executable::document::ExecutableDocument;
 use apollo_executable::operation::Operation;
+use graphql_nodes::take_apart;
 use std::alloc::{AllocError, Global};
 use std::fmt;
 
@@ -28,10 +29,7 @@ pub struct FieldUsage {
 
 impl Drop for FieldUsage {
     fn drop(self) {
-        let Self {
-            coordinate: _,
-            count: _,
-        } = self;
+        take_apart!(self: coordinate, count);
     }
 }
 

@@ -1,14 +1,12 @@
 -- Equality of types and of schema definitions.
-use Rattle.std.proofs.Common.{Bool, false, ◌&&◌, List, Option, None, refl, ap, nat_eq}
-use Rattle.std.specs.Option.{option_map, option_eq}
-use lib.Pointwise.{pointwise}
-use Rattle.graphql_nodes.specs.Comparing.{bare_name}
+use Rattle.std.proofs.Common.{ℕ, Bool, false, List, Option, None, refl, ap}
 use Rattle.graphql_nodes.specs.NameView.{NameView}
 use Rattle.graphql_nodes.specs.declared.type_kind.TypeKind.{TypeKind}
 use Rattle.graphql_nodes.specs.declared.type_kind.TypeKind.TheVariants as k
-use Rattle.graphql_nodes.proofs.Comparisons.{Compares, At, of_part, and_then, made, names, options}
+use Rattle.graphql_nodes.proofs.Comparisons.{Compares, At, of_part, made, names, options, pairs}
 use Rattle.graphql_nodes.proofs.TableEquality.{tables_of_names}
 use Rattle.graphql_ast.specs.declared.directive.Directive.{Directive}
+use Rattle.graphql_ast.specs.declared.type_system.FieldDefinition.{FieldDefinition}
 use Rattle.graphql_ast.proofs.TypeSystemEquality.{enum_value_definitions, field_definitions}
 use Rattle.graphql_ast.proofs.TypeSystemEquality.{input_value_definitions}
 use Rattle.apollo_component.proofs.ComponentEquality.{components, component_names, directive_lists}
@@ -47,54 +45,65 @@ plain kind description name directives = record {
   input_fields = λ _. None;
 }
 
--- the description and the name, and then what follows
-headed : {T R : Type 0} {E : T → T → Bool} {f : T → R} (description : T → Option NameView) (name : T
-    → NameView) → Compares E f
-    → Compares {B = Option NameView × (NameView × R)} (λ a b. option_eq (λ m n. pointwise nat_eq m.text
-    n.text) (description a) (description b) && (pointwise nat_eq (name a).text (name b).text && E a b))
-    (λ t. (option_map bare_name (description t), (bare_name (name t), f t)))
-headed description name rest = and_then (of_part description (options names)) (and_then (of_part name names)
-    rest)
-
 pub scalars : Compares scalar.ghosts.eq bare_scalar
 scalars = made (λ p. plain k.Scalar p.0 p.1.0 p.1.1) (λ t. (t.description, (t.name, t.directives)))
-    (λ _. refl) (headed (λ t. t.description) (λ t. t.name) (of_part (λ (t : ScalarType). t.directives)
-    directive_lists))
+    (λ _. refl) (of_part (λ (t : ScalarType). (t.description, (t.name, t.directives)))
+    (pairs (options names) (pairs names directive_lists)))
+
+-- what object and interface types have, without locations and origins
+abbrev Fielded : Type 0
+Fielded = Option NameView × (NameView × ((List ℕ → Bool) × (List Directive × (List ℕ
+    → Option FieldDefinition))))
+
+abbrev fielded : TypeKind → Fielded → BareType
+fielded kind p = record (plain kind p.0 p.1.0 p.1.1.1.0) { names = p.1.1.0; fields = p.1.1.1.1 }
+
+abbrev has : BareType → Fielded
+has t = (t.description, (t.name, (t.names, (t.directives, t.fields))))
+
+fielded_types : Compares object.ghosts.eq bare_object × Compares interface.ghosts.eq bare_interface
+fielded_types =
+    let parts = pairs (options names) (pairs names (pairs sets_of_component_names (pairs directive_lists
+    (tables_of_names (components field_definitions))))) in (
+      made (fielded k.Object) has (λ _. refl) (of_part (λ (t : ObjectType). (
+        t.description,
+        (
+          t.name,
+          (t.implements_interfaces, (t.directives, t.fields)),
+        ),
+      )) parts),
+      made (fielded k.Interface) has (λ _. refl) (of_part (λ (t : InterfaceType). (
+        t.description,
+        (
+          t.name,
+          (t.implements_interfaces, (t.directives, t.fields)),
+        ),
+      )) parts),
+    )
 
 pub objects : Compares object.ghosts.eq bare_object
-objects = made (λ p. record (plain k.Object p.0 p.1.0 p.1.1.1.0) { names = p.1.1.0; fields = p.1.1.1.1 })
-    (λ t. (t.description, (t.name, (t.names, (t.directives, t.fields))))) (λ _. refl)
-    (headed (λ t. t.description) (λ t. t.name)
-    (and_then (of_part (λ (t : ObjectType). t.implements_interfaces) sets_of_component_names)
-    (and_then (of_part (λ (t : ObjectType). t.directives) directive_lists)
-    (of_part (λ (t : ObjectType). t.fields) (tables_of_names (components field_definitions))))))
+objects = fielded_types.0
 
 pub interfaces : Compares interface.ghosts.eq bare_interface
-interfaces = made (λ p. record (plain k.Interface p.0 p.1.0 p.1.1.1.0)
-    { names = p.1.1.0; fields = p.1.1.1.1 })
-    (λ t. (t.description, (t.name, (t.names, (t.directives, t.fields))))) (λ _. refl)
-    (headed (λ t. t.description) (λ t. t.name)
-    (and_then (of_part (λ (t : InterfaceType). t.implements_interfaces) sets_of_component_names)
-    (and_then (of_part (λ (t : InterfaceType). t.directives) directive_lists)
-    (of_part (λ (t : InterfaceType). t.fields) (tables_of_names (components field_definitions))))))
+interfaces = fielded_types.1
 
 pub unions : Compares union.ghosts.eq bare_union
 unions = made (λ p. record (plain k.Union p.0 p.1.0 p.1.1.0) { names = p.1.1.1 })
-    (λ t. (t.description, (t.name, (t.directives, t.names)))) (λ _. refl) (headed (λ t. t.description)
-    (λ t. t.name) (and_then (of_part (λ (t : UnionType). t.directives) directive_lists)
-    (of_part (λ (t : UnionType). t.members) sets_of_component_names)))
+    (λ t. (t.description, (t.name, (t.directives, t.names)))) (λ _. refl)
+    (of_part (λ (t : UnionType). (t.description, (t.name, (t.directives, t.members))))
+    (pairs (options names) (pairs names (pairs directive_lists sets_of_component_names))))
 
 pub enums : Compares enum.ghosts.eq bare_enum
 enums = made (λ p. record (plain k.Enum p.0 p.1.0 p.1.1.0) { values = p.1.1.1 })
-    (λ t. (t.description, (t.name, (t.directives, t.values)))) (λ _. refl) (headed (λ t. t.description)
-    (λ t. t.name) (and_then (of_part (λ (t : EnumType). t.directives) directive_lists)
-    (of_part (λ (t : EnumType). t.values) (tables_of_names (components enum_value_definitions)))))
+    (λ t. (t.description, (t.name, (t.directives, t.values)))) (λ _. refl)
+    (of_part (λ (t : EnumType). (t.description, (t.name, (t.directives, t.values)))) (pairs (options names)
+    (pairs names (pairs directive_lists (tables_of_names (components enum_value_definitions))))))
 
 pub input_objects : Compares input_object.ghosts.eq bare_input_object
 input_objects = made (λ p. record (plain k.InputObject p.0 p.1.0 p.1.1.0) { input_fields = p.1.1.1 })
-    (λ t. (t.description, (t.name, (t.directives, t.input_fields)))) (λ _. refl) (headed (λ t. t.description)
-    (λ t. t.name) (and_then (of_part (λ (t : InputObjectType). t.directives) directive_lists)
-    (of_part (λ (t : InputObjectType). t.fields) (tables_of_names (components input_value_definitions)))))
+    (λ t. (t.description, (t.name, (t.directives, t.input_fields)))) (λ _. refl)
+    (of_part (λ (t : InputObjectType). (t.description, (t.name, (t.directives, t.fields)))) (pairs (options
+    names) (pairs names (pairs directive_lists (tables_of_names (components input_value_definitions))))))
 
 type_at : (a b : ExtendedType) → At extended.ghosts.eq bare_extended_type a b
 type_at (t.Scalar m) (t.Scalar n) = scalars.at m.value n.value
@@ -109,15 +118,25 @@ pub extended_types : Compares extended.ghosts.eq bare_extended_type
 extended_types = record { at = type_at }
 
 pub schema_definitions : Compares schema.ghosts.eq bare_schema_definition
-schema_definitions = made (λ p. record {
-  description = p.0;
-  directives = p.1.0;
-  query = p.1.1.0;
-  mutation = p.1.1.1.0;
-  subscription = p.1.1.1.1;
-}) (λ d. (d.description, (d.directives, (d.query, (d.mutation, d.subscription))))) (λ _. refl)
-    (and_then (of_part (λ (d : SchemaDefinition). d.description) (options names))
-    (and_then (of_part (λ (d : SchemaDefinition). d.directives) directive_lists)
-    (and_then (of_part (λ (d : SchemaDefinition). d.query) (options component_names))
-    (and_then (of_part (λ (d : SchemaDefinition). d.mutation) (options component_names))
-    (of_part (λ (d : SchemaDefinition). d.subscription) (options component_names))))))
+schema_definitions =
+    let root = options component_names in
+    made (λ p. record {
+      description = p.0;
+      directives = p.1.0;
+      query = p.1.1.0;
+      mutation = p.1.1.1.0;
+      subscription = p.1.1.1.1;
+    }) (λ d. (d.description, (d.directives, (d.query, (d.mutation, d.subscription))))) (λ _. refl)
+    (of_part (λ (d : SchemaDefinition). (
+      d.description,
+      (
+        d.directives,
+        (
+          d.query,
+          (
+            d.mutation,
+            d.subscription,
+          ),
+        ),
+      ),
+    )) (pairs (options names) (pairs directive_lists (pairs root (pairs root root)))))

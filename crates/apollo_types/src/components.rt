@@ -12,7 +12,6 @@ use apollo_component::directive_list::DirectiveList;
 use apollo_component::extension::ComponentOrigin;
 use apollo_component::parts_by_origin::PartsByOrigin;
 use graphql_ast::directive::Directive;
-use graphql_ast::parts::Part;
 use graphql_ast::type_system::{EnumValueDefinition, FieldDefinition, InputValueDefinition};
 use graphql_nodes::name::Name;
 use graphql_nodes::node::Node;
@@ -93,7 +92,7 @@ fn add_roots(
     for (operation_type, root) in roots {
         let name = root.name.clone()?;
         let node = Node::new_opt_location(alloc, (operation_type, name), root.name.location())?;
-        parts.add(alloc, root.origin, Part::Root(node))?;
+        parts.add(alloc, root.origin, node)?;
     }
     Ok(())
 }

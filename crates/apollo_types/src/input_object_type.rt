@@ -11,6 +11,7 @@ use graphql_ast::type_system::InputValueDefinition;
 use graphql_nodes::collections::table::Table;
 use graphql_nodes::name::Name;
 use graphql_nodes::node_str::NodeStr;
+use graphql_nodes::take_apart;
 use graphql_nodes::type_kind::TypeKind;
 use std::alloc::AllocError;
 
@@ -27,12 +28,7 @@ pub struct InputObjectType {
 
 impl Drop for InputObjectType {
     fn drop(self) {
-        let Self {
-            description: _,
-            name: _,
-            directives: _,
-            fields: _,
-        } = self;
+        take_apart!(self: description, name, directives, fields);
     }
 }
 

@@ -12,6 +12,7 @@ use graphql_nodes::collections::key_set::KeySet;
 use graphql_nodes::collections::table::Table;
 use graphql_nodes::name::Name;
 use graphql_nodes::node_str::NodeStr;
+use graphql_nodes::take_apart;
 use graphql_nodes::type_kind::TypeKind;
 use std::alloc::AllocError;
 
@@ -30,13 +31,7 @@ pub struct InterfaceType {
 
 impl Drop for InterfaceType {
     fn drop(self) {
-        let Self {
-            description: _,
-            name: _,
-            implements_interfaces: _,
-            directives: _,
-            fields: _,
-        } = self;
+        take_apart!(self: description, name, implements_interfaces, directives, fields);
     }
 }
 

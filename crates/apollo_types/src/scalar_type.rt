@@ -8,6 +8,7 @@ use crate::write_out::Head;
 use apollo_component::directive_list::DirectiveList;
 use graphql_nodes::name::Name;
 use graphql_nodes::node_str::NodeStr;
+use graphql_nodes::take_apart;
 use graphql_nodes::type_kind::TypeKind;
 use std::alloc::AllocError;
 use std::hash::Hash;
@@ -24,11 +25,7 @@ pub struct ScalarType {
 
 impl Drop for ScalarType {
     fn drop(self) {
-        let Self {
-            description: _,
-            name: _,
-            directives: _,
-        } = self;
+        take_apart!(self: description, name, directives);
     }
 }
 

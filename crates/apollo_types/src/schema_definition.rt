@@ -23,6 +23,7 @@ use graphql_nodes::name::NamedType;
 use graphql_nodes::node_str::NodeStr;
 use graphql_nodes::operation_type::OperationType;
 use graphql_nodes::source::SourceSpan;
+use graphql_nodes::take_apart;
 use std::alloc::{AllocError, Global};
 
 /// The operation types, in the order of the roots.
@@ -46,13 +47,7 @@ pub struct SchemaDefinition {
 
 impl Drop for SchemaDefinition {
     fn drop(self) {
-        let Self {
-            description: _,
-            directives: _,
-            query: _,
-            mutation: _,
-            subscription: _,
-        } = self;
+        take_apart!(self: description, directives, query, mutation, subscription);
     }
 }
 

@@ -10,6 +10,7 @@ use apollo_component::directive_list::DirectiveList;
 use graphql_nodes::collections::key_set::KeySet;
 use graphql_nodes::name::Name;
 use graphql_nodes::node_str::NodeStr;
+use graphql_nodes::take_apart;
 use graphql_nodes::type_kind::TypeKind;
 use std::alloc::AllocError;
 
@@ -26,12 +27,7 @@ pub struct UnionType {
 
 impl Drop for UnionType {
     fn drop(self) {
-        let Self {
-            description: _,
-            name: _,
-            directives: _,
-            members: _,
-        } = self;
+        take_apart!(self: description, name, directives, members);
     }
 }
 

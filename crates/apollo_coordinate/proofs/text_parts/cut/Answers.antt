@@ -1,6 +1,5 @@
 -- The parts stand round the first mark.
-use Rattle.std.proofs.Common.{◌≡◌, ◌<◌, ℕ, List, Option, None, Some, Bor, MatchOption, length, nat_eq, subst}
-use Rattle.std.proofs.Common.{sym}
+use Rattle.std.proofs.Common.{◌≡◌, ◌<◌, ℕ, List, Option, None, Some, Bor, MatchOption, length, nat_eq}
 use Rattle.std.specs.List.{position_or_len, before_first, after_first}
 use Rattle.apollo_coordinate.specs.Refusals.{Lacks, IsCut}
 use Rattle.apollo_coordinate.proofs.MarkLemmas.{lacks_all, first_cut}
@@ -12,11 +11,7 @@ parts : (mark : ℕ) (t : List ℕ) (r : Option (Bor (List ℕ) × Bor (List ℕ
     × (position_or_len (λ b. nat_eq b mark) t < length t))
     → MatchOption r (Lacks mark t) (λ x. IsCut mark t x.0.now x.1.now)
 parts mark t None none = lacks_all mark t none
-parts mark t (Some x) some =
-    let Cut : List ℕ → List ℕ → Type 0 = λ a b. IsCut mark t a b in
-    subst (λ (a : List ℕ). Cut a x.1.now) (sym some.0)
-    (subst (λ (b : List ℕ). Cut (before_first (λ b. nat_eq b mark) t) b) (sym some.1)
-    (first_cut mark t some.2))
+parts mark t (Some x) some = rw (some.0, some.1) (first_cut mark t some.2)
 
 pub returns : goal.returns
 returns c = parts c.args.mark c.args.text.now c.split_once.result (c.split_once.ensures.byte c.requires

@@ -4,4 +4,4 @@ use Rattle.apollo_component.proofs.parts_by_origin.PartsByOrigin.add_components.
 
 abbrev pub invariant-loop-component : goal.invariant-loop-component
 invariant-loop-component g l = (cs : List SourcedPart) → l.fn.self ≡ by_origin cs
-    → l.self ≡ by_origin (cs ++ map (sourced g.T.NodePart.node_part) (take l.component-index l.components))
+    → l.self ≡ by_origin (cs ++ map (sourced g.bound-1.part) (take l.component-index l.components))

@@ -9,4 +9,4 @@ returns g c = λ cs was.
     let l = c.loop-component in
     let all = iter_end deref _ _ _ _ _ _ c.into_iter-component-iterator.ensures.into_iter_gives l.yielded_by
     c.in-None.is c.next.ensures.steps in
-    l.invariant cs was ∙ ap (λ xs. by_origin (cs ++ map (sourced g.T.NodePart.node_part) xs)) all.0
+    l.invariant cs was ∙ ap (λ xs. by_origin (cs ++ map (sourced g.bound-1.part) xs)) all.0

@@ -5,4 +5,4 @@ use Rattle.apollo_component.proofs.parts_by_origin.PartsByOrigin.add_named_compo
 
 abbrev pub invariant-loop-component : goal.invariant-loop-component
 invariant-loop-component g l = (cs : List SourcedPart) → l.fn.self ≡ by_origin cs
-    → l.self ≡ by_origin (cs ++ map (sourced g.T.NodePart.node_part) (map deref l.yielded))
+    → l.self ≡ by_origin (cs ++ map (sourced g.bound-1.part) (map deref l.yielded))
