@@ -1,12 +1,11 @@
 -- What names mean among directive definitions with one more, and tables that hold it.
-use Rattle.apollo_meaning.proofs.Prelude.{arith, ◌≡◌, ℕ, Bool, true, false, cond, ◌&&◌, List, [], ◌∷◌, ◌++◌}
-use Rattle.apollo_meaning.proofs.Prelude.{filter, Option, Some, None, is_some, refl, sym, ap, ◌∙◌, find}
-use Rattle.apollo_meaning.proofs.Prelude.{list_any, lookup, keys_of, set_value, IsEquivalence, on_equiv}
-use Rattle.apollo_meaning.proofs.Prelude.{nat_list_eq_equiv, map-append, keys-set_value, insert_entry}
-use Rattle.apollo_meaning.proofs.Prelude.{NameView, NodeView, is_built_in, same_text, same, by_text}
-use Rattle.apollo_meaning.proofs.Prelude.{DirectiveDefinition, first_of_each, list_any-first_of_each}
-use Rattle.apollo_meaning.proofs.Prelude.{first_of_each-push_new, first_of_each-push_old, is_some-lookup}
-use Rattle.apollo_meaning.proofs.Prelude.{Directives, AreDirectivesOf, or-none, same-true}
+use Rattle.apollo_meaning.proofs as meaning
+use meaning.Prelude.{arith, ◌≡◌, ℕ, Bool, true, false, cond, ◌&&◌, List, [], ◌∷◌, ◌++◌, filter, Option, Some}
+use meaning.Prelude.{None, is_some, refl, sym, ap, ◌∙◌, find, list_any, lookup, keys_of, set_value}
+use meaning.Prelude.{IsEquivalence, on_equiv, nat_list_eq_equiv, map-append, keys-set_value, insert_entry}
+use meaning.Prelude.{NameView, NodeView, is_built_in, same_text, same, by_text, DirectiveDefinition}
+use meaning.Prelude.{first_of_each, list_any-first_of_each, first_of_each-push_new, first_of_each-push_old}
+use meaning.Prelude.{is_some-lookup, Directives, AreDirectivesOf, or-none, same-true}
 use Rattle.std.specs.List.{last_or}
 use Rattle.std.proofs.lemmas.Bool.{and_right}
 use Rattle.std.proofs.lemmas.List.Folds.{find-append}

@@ -2,8 +2,8 @@
 use Rattle.apollo_meaning.proofs.Prelude.{◌≡◌, ℕ, ◌+◌, ◌<◌, get_or, take, List, [], ◌∷◌, ◌++◌, length, map}
 use Rattle.apollo_meaning.proofs.Prelude.{refl, ap, ◌∙◌, append_assoc, append-nil, map-append, filter-append}
 use Rattle.apollo_meaning.proofs.Prelude.{Definition, each_after-append, each_after-start, TypePart, kind_of}
-use Rattle.apollo_meaning.proofs.Prelude.{extended_parts, of_kind, Sourced, extension_part, numbered, Fault}
-use Rattle.apollo_meaning.proofs.Prelude.{joining_faults}
+use Rattle.apollo_meaning.proofs.Prelude.{extended_parts, of_kind, Fault}
+use Rattle.apollo_meaning.proofs.Prelude.{joining_faults, ComponentOrigin, enumerate_from, enumerate_from-append, map-map}
 use Rattle.apollo_meaning.specs.Faults.TypeFaults.{joining_fault}
 use Rattle.apollo_meaning.proofs.Order.FoldingLemmas.{extended_parts-turn}
 
@@ -33,10 +33,26 @@ module _ (d : TypePart) where
       ∙ joining-append parts (extended_parts (take i xs)) (extended_parts (x ∷ []))
 
 -- numbers leave the extensions as they are
-extensions-numbered : (n : ℕ) (ps : List TypePart) → map (λ s. s.1) (map extension_part (numbered n ps)) ≡ ps
-extensions-numbered n [] = refl
-extensions-numbered n (p ∷ ps) = rw (extensions-numbered (n + 1) ps)
+unnumbered : {P : Type 0} (n : ℕ) (es : List P) → map (λ e. e.1) (enumerate_from n es) ≡ es
+unnumbered n [] = refl
+unnumbered n (e ∷ es) = rw (unnumbered (n + 1) es)
 
-pub parts-numbered : (done : List Sourced) (n : ℕ) (ps : List TypePart)
-    → map (λ s. s.1) (done ++ map extension_part (numbered n ps)) ≡ map (λ s. s.1) done ++ ps
-parts-numbered done n ps = rw (map-append, extensions-numbered n ps)
+-- extensions that join parts with numbers from a first one on: of a type, or of the schema
+module _ {P : Type 0} (origin : ℕ × P → ComponentOrigin) (done : List (ComponentOrigin × P)) (start : ℕ)
+    (before : List P) where
+  abbrev joined_by : ℕ → List P → List (ComponentOrigin × P)
+  joined_by n es = map (λ e. (origin e, e.1)) (enumerate_from n es)
+
+  -- those of the next turn have the next numbers
+  pub joined-turn : {T : Type 0} (made : List (ComponentOrigin × P) → T) (next : ℕ) (these after : List P)
+      → next ≡ start + length before → after ≡ before ++ these
+      → made ((done ++ joined_by start before) ++ joined_by next these) ≡ made (done ++ joined_by start after)
+  joined-turn made next these after at turn =
+      ap made (rw (at, turn, enumerate_from-append, map-append, append_assoc))
+
+  -- and are found with the parts and those before them
+  pub found-turn : (found : List P → List Fault) (first now so_far all : List Fault) → now ≡ first ++ so_far
+      → all ≡ so_far ++ found (map (λ s. s.1) done ++ before)
+      → now ++ found (map (λ s. s.1) (done ++ joined_by start before)) ≡ first ++ all
+  found-turn found first now so_far all was turn =
+      rw (was, turn, map-append, map-map, unnumbered start before, append_assoc)

@@ -10,3 +10,4 @@ pub mod NotingLemmas
 pub mod PartNames
 pub mod RefusalLemmas
 pub mod RootLemmas
+pub mod TurnLemmas

@@ -1,13 +1,12 @@
 -- The roots of a schema definition and its extensions, one after another.
 use Rattle.apollo_meaning.proofs.Prelude.{arith, ◌≡◌, ℕ, ◌+◌, ◌<◌, cond, get_or, take}
 use Rattle.apollo_meaning.proofs.Prelude.{List, [], ◌∷◌, ◌++◌, Option, None, Some, length, map, refl, sym}
-use Rattle.apollo_meaning.proofs.Prelude.{◌∙◌, append_assoc, find, flat_map, option_map, option_map_or}
+use Rattle.apollo_meaning.proofs.Prelude.{◌∙◌, find, flat_map, option_map, option_map_or}
 use Rattle.apollo_meaning.proofs.Prelude.{option_or, append-nil, map-append, take_more, flat_map-append}
 use Rattle.apollo_meaning.proofs.Prelude.{map-map, NameView, OperationType, Query, Mutation, Subscription}
 use Rattle.apollo_meaning.proofs.Prelude.{each_after, each_after-push, each_after-start, ComponentName}
-use Rattle.apollo_meaning.proofs.Prelude.{SchemaDefinition, enumerate_from-append, or-none, Fault, SchemaPart}
+use Rattle.apollo_meaning.proofs.Prelude.{SchemaDefinition, or-none, Fault, SchemaPart}
 use Rattle.apollo_meaning.proofs.Prelude.{Root, roots_in, SourcedSchema, schema_definition_of, schema_faults}
-use Rattle.apollo_meaning.proofs.Prelude.{schema_numbered}
 use Rattle.graphql_nodes.specs.OperationTexts.{operation_text}
 use Rattle.apollo_component.specs.declared.extension.ComponentOrigin.{ComponentOrigin}
 use Rattle.apollo_types.specs.SchemaRoots.{root_of}
@@ -92,7 +91,7 @@ roots-joined (s ∷ done) = rw (map-append, map-append, map-map, roots-joined do
 
 -- the faults of a part that joins parts
 pub held-schema_faults : (done : List SourcedSchema) (o : ComponentOrigin) (part : SchemaPart)
-    → held_faults (flat_map roots_of done) o part.roots ≡ schema_faults (map (λ s. s.1) done) part
+    → held_faults (flat_map roots_of done) o part.parts.roots ≡ schema_faults (map (λ s. s.1) done) part
 held-schema_faults done o part = held-root_faults o _ _ _ (roots-joined done)
 
 -- what parts and one more have, joined
@@ -107,18 +106,3 @@ pub schema-push : (d : SchemaDefinition) (head : SchemaPart) (done : List Source
     → with_roots d (flat_map roots_of done ++ roots_of s) ≡ schema_definition_of head (done ++ s ∷ [])
 schema-push d head done s description directives =
     grind (arith, one_more schema_directives_of done s, one_more roots_of done s)
-
--- more extensions have the next numbers
-pub schema_numbered-more : (done : List SourcedSchema) (start : ℕ) (ps qs : List SchemaPart)
-    → done ++ schema_numbered start (ps ++ qs) ≡ (done ++ schema_numbered start ps)
-    ++ schema_numbered (start + length ps) qs
-schema_numbered-more done start ps qs = rw (enumerate_from-append, map-append, append_assoc)
-
-schemas-numbered : (n : ℕ) (ps : List SchemaPart) → map (λ s. s.1) (schema_numbered n ps) ≡ ps
-schemas-numbered n [] = refl
-schemas-numbered n (p ∷ ps) = rw (schemas-numbered (n + 1) ps)
-
--- numbers leave the extensions as they are
-pub schema_parts-numbered : (done : List SourcedSchema) (n : ℕ) (ps : List SchemaPart)
-    → map (λ s. s.1) (done ++ schema_numbered n ps) ≡ map (λ s. s.1) done ++ ps
-schema_parts-numbered done n ps = rw (map-append, schemas-numbered n ps)

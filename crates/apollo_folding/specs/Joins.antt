@@ -34,13 +34,13 @@ Joins {P} made old more new = (head : P) (done : List (ComponentOrigin × P)) �
 abbrev pub JoinsSchemaPart : SchemaDefinition → ComponentOrigin → List (NodeView Directive) → List Root
     → SchemaDefinition → Type 0
 JoinsSchemaPart old origin directives roots new = (head part : SchemaPart) (done : List SourcedSchema)
-    → part.directives ≡ directives → part.roots ≡ roots
+    → part.parts.directives ≡ directives → part.parts.roots ≡ roots
     → old ≡ schema_definition_of head done → new ≡ schema_definition_of head (done ++ (origin, part) ∷ [])
 
 -- to the faults are added those of a part that has these roots, found with the parts of the schema definition
 abbrev pub FindsRoots : SchemaDefinition → List Root → List Fault → List Fault → Type 0
 FindsRoots old roots before after = (head part : SchemaPart) (done : List SourcedSchema)
-    → part.roots ≡ roots → old ≡ schema_definition_of head done
+    → part.parts.roots ≡ roots → old ≡ schema_definition_of head done
     → after ≡ before ++ schema_faults (map (λ s. s.1) done) part
 
 -- to the faults are added those that are found with the parts that something was made of

@@ -3,8 +3,7 @@ ghost use Rattle.apollo_folding.specs.Joins.{ForFirst};
 ghost use Rattle.std.specs.Prelude.{◌≡◌, OnOk, IfOk};
 ghost use Rattle.apollo_folding.specs.DeclaredParts.{part_seen};
 ghost use Rattle.apollo_folding.specs.Noting.{noting};
-ghost use Rattle.apollo_meaning.specs.Faults.TypeFaults.{redefinition, built_in_redefinition};
-ghost use Rattle.apollo_meaning.specs.Faults.TypeFaults.{further_definition};
+ghost use Rattle.apollo_meaning.specs.Faults.TypeFaults.{further_type, further_definition};
 
 use crate::fold::Fold;
 use apollo_meaning::build_error::{BuildError, Fault};
@@ -13,34 +12,23 @@ use graphql_ast::declaration_ref::TypeDeclarationRef;
 use graphql_nodes::type_kind::TypeKind;
 use std::alloc::AllocError;
 
-/// The fault of a further definition of a type's name.
+/// The fault of a further definition of a type's name. A scalar of a built-in type's name has an error of its
+/// own.
 fn redefinition(
     previous: &ExtendedType,
     further: &TypeDeclarationRef<'_>,
 ) -> Result<Fault, AllocError>
     ensures { IfOk result (λ fault.
-        ForFirst previous.now (λ d. fault ≡ redefinition d (part_seen further.now))) }
+        ForFirst previous.now (λ d. fault ≡ further_type d (part_seen further.now))) }
 {
+    if previous.is_built_in() && further.kind == TypeKind::Scalar {
+        return Ok((further.location, BuildError::BuiltInScalarTypeRedefinition));
+    }
     let error = BuildError::TypeDefinitionCollision {
         previous_location: previous.name().location(),
         name: further.name.clone()?,
     };
     Ok((further.name.location(), error))
-}
-
-/// The fault of a further definition of a built-in type's name.
-fn built_in_redefinition(
-    previous: &ExtendedType,
-    further: &TypeDeclarationRef<'_>,
-) -> Result<Fault, AllocError>
-    ensures { IfOk result (λ fault.
-        ForFirst previous.now (λ d. fault ≡ built_in_redefinition d (part_seen further.now))) }
-{
-    if further.kind == TypeKind::Scalar {
-        return Ok((further.location, BuildError::BuiltInScalarTypeRedefinition));
-    }
-    let fault = redefinition(previous, further)?;
-    Ok(fault)
 }
 
 impl Fold {
@@ -57,13 +45,9 @@ impl Fold {
             self.old)) }
         ensures rest { self.new ≡ record self.old { faults = self.new.faults } }
     {
-        if !previous.is_built_in() {
-            self.note(redefinition(previous, further)?)?;
+        if previous.is_built_in() && ignores {
             return Ok(());
         }
-        if !ignores {
-            self.note(built_in_redefinition(previous, further)?)?;
-        }
-        Ok(())
+        self.note(redefinition(previous, further)?)
     }
 }

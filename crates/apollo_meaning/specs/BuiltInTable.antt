@@ -38,6 +38,19 @@ field_with text argument ty = nodes.field (codes text) (argument ∷ []) ty
 abbrev pub value : String → NodeView EnumValueDefinition
 value text = nodes.enum_value (codes text)
 
+-- the field `name: String!` of what has a name always
+abbrev pub name_field : NodeView FieldDefinition
+name_field = field "name" (non_null "String")
+
+-- the field `description: String`
+abbrev pub description_field : NodeView FieldDefinition
+description_field = field "description" (named_type "String")
+
+-- the fields of what may be deprecated, its last ones: whether it is, and why
+abbrev pub deprecation_fields : List (NodeView FieldDefinition)
+deprecation_fields =
+    field "isDeprecated" (non_null "Boolean") ∷ field "deprecationReason" (named_type "String") ∷ []
+
 -- `includeDeprecated: Boolean = false`
 abbrev pub include_deprecated : NodeView InputValueDefinition
 include_deprecated = nodes.argument (codes "includeDeprecated") (named_type "Boolean") (Some (Boolean false))
@@ -73,7 +86,7 @@ built_in_directives =
 -- `__Schema`: what introspection says of the schema
 abbrev pub schema_type : Definition
 schema_type = nodes.object (codes "__Schema") (
-    field "description" (named_type "String")
+    description_field
     ∷ field "types" (non_null_list_of (non_null "__Type"))
     ∷ field "queryType" (non_null "__Type")
     ∷ field "mutationType" (named_type "__Type")
@@ -86,7 +99,7 @@ abbrev pub type_type : Definition
 type_type = nodes.object (codes "__Type") (
     field "kind" (non_null "__TypeKind")
     ∷ field "name" (named_type "String")
-    ∷ field "description" (named_type "String")
+    ∷ description_field
     ∷ field_with "fields" include_deprecated (list_of (non_null "__Field"))
     ∷ field "interfaces" (list_of (non_null "__Type"))
     ∷ field "possibleTypes" (list_of (non_null "__Type"))
@@ -104,37 +117,27 @@ type_kind_type = nodes.enumeration (codes "__TypeKind") (map value (
 -- `__Field`: what introspection says of a field
 abbrev pub field_type : Definition
 field_type = nodes.object (codes "__Field") (
-    field "name" (non_null "String")
-    ∷ field "description" (named_type "String")
+    name_field ∷ description_field
     ∷ field "args" (non_null_list_of (non_null "__InputValue"))
     ∷ field "type" (non_null "__Type")
-    ∷ field "isDeprecated" (non_null "Boolean")
-    ∷ field "deprecationReason" (named_type "String")
-    ∷ [])
+    ∷ deprecation_fields)
 
 -- `__InputValue`: what introspection says of an argument or an input field
 abbrev pub input_value_type : Definition
 input_value_type = nodes.object (codes "__InputValue") (
-    field "name" (non_null "String")
-    ∷ field "description" (named_type "String")
+    name_field ∷ description_field
     ∷ field "type" (non_null "__Type")
     ∷ field "defaultValue" (named_type "String")
     ∷ [])
 
 -- `__EnumValue`: what introspection says of an enum value
 abbrev pub enum_value_type : Definition
-enum_value_type = nodes.object (codes "__EnumValue") (
-    field "name" (non_null "String")
-    ∷ field "description" (named_type "String")
-    ∷ field "isDeprecated" (non_null "Boolean")
-    ∷ field "deprecationReason" (named_type "String")
-    ∷ [])
+enum_value_type = nodes.object (codes "__EnumValue") (name_field ∷ description_field ∷ deprecation_fields)
 
 -- `__Directive`: what introspection says of a directive
 abbrev pub directive_type : Definition
 directive_type = nodes.object (codes "__Directive") (
-    field "name" (non_null "String")
-    ∷ field "description" (named_type "String")
+    name_field ∷ description_field
     ∷ field "locations" (non_null_list_of (non_null "__DirectiveLocation"))
     ∷ field "args" (non_null_list_of (non_null "__InputValue"))
     ∷ field "isRepeatable" (non_null "Boolean")

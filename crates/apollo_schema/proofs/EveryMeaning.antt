@@ -1,12 +1,12 @@
 -- Every list of definitions means a schema.
-use Rattle.apollo_meaning.proofs.Prelude.{arith, ◌≡◌, ℕ, Bool, true, false, cond, ◌&&◌, List, [], ◌∷◌, map}
-use Rattle.apollo_meaning.proofs.Prelude.{filter, filter_map, find, list_any, Option, None, Some, is_some}
-use Rattle.apollo_meaning.proofs.Prelude.{refl, sym, ap, option_or, option_map, unwrap_or, lookup, keys_of}
-use Rattle.apollo_meaning.proofs.Prelude.{map-map, NameView, NodeView, same, same_text, by_text, same-true}
-use Rattle.apollo_meaning.proofs.Prelude.{DirectiveDefinition, list_any-first_of_each, is_some-lookup}
-use Rattle.apollo_meaning.proofs.Prelude.{name_laws, Directives, directive_definitions, Added, ListItem}
-use Rattle.apollo_meaning.proofs.Prelude.{defined_part, TypePart, first, type_names, folding_order, whole}
-use Rattle.apollo_meaning.proofs.Prelude.{ExtendedType, Scalar}
+use Rattle.apollo_meaning.proofs as meaning
+use meaning.Prelude.{arith, ◌≡◌, ℕ, Bool, true, false, cond, ◌&&◌, List, [], ◌∷◌, map, filter, filter_map}
+use meaning.Prelude.{find, list_any, Option, None, Some, is_some, refl, sym, ap, option_or, option_map}
+use meaning.Prelude.{unwrap_or, lookup, keys_of, map-map, NameView, NodeView, same, same_text, by_text}
+use meaning.Prelude.{same-true, DirectiveDefinition, list_any-first_of_each, is_some-lookup, name_laws}
+use meaning.Prelude.{Directives, directive_definitions, Added, ListItem, defined_part, TypePart, first}
+use meaning.Prelude.{type_names, folding_order, whole, ExtendedType, Scalar}
+use meaning.Types.NameLemmas.{type_names-first}
 use Rattle.std.specs.List.{last_or}
 use Rattle.graphql_nodes.specs.NameView.{plain_name}
 use Rattle.apollo_component.proofs.Lists.Cases.{list_any-map}
@@ -16,7 +16,6 @@ use Rattle.apollo_meaning.specs.Directives.{directive_names, directive_of, has_t
 use Rattle.apollo_meaning.specs.Items.Named.{definitions}
 use Rattle.apollo_meaning.specs.Schema.Definition.{schema_of, no_schema}
 use Rattle.apollo_meaning.specs.Types.Meaning.{type_of}
-use Rattle.apollo_meaning.proofs.Types.NameLemmas.{type_names-first}
 use Rattle.apollo_schema.specs.MeantSchema.{MeansSchema}
 use Rattle.apollo_schema.specs.declared.schema.Schema.{Schema}
 

@@ -1,11 +1,10 @@
 -- What `implementers_map` makes of types, one after another.
-use Rattle.apollo_meaning.proofs.Prelude.{arith, ◌≡◌, ℕ, Bool, true, false, cond, not, ◌||◌, ◌&&◌, List, []}
-use Rattle.apollo_meaning.proofs.Prelude.{◌∷◌, ◌++◌, Some, None, map, filter, refl, sym, ap, ◌∙◌}
-use Rattle.apollo_meaning.proofs.Prelude.{append_assoc, list_any, flat_map, lookup, keys_of, set_value}
-use Rattle.apollo_meaning.proofs.Prelude.{append-nil, map-append, filter-append, list_any-append}
-use Rattle.apollo_meaning.proofs.Prelude.{flat_map-append, NameView, same_text, same-true, same-flip}
-use Rattle.apollo_meaning.proofs.Prelude.{first_of_each, ComponentName, first_of_each-push_old}
-use Rattle.apollo_meaning.proofs.Prelude.{list_any-first_of_each, name_laws, is_object, ExtendedType}
+use Rattle.apollo_meaning.proofs as meaning
+use meaning.Prelude.{arith, ◌≡◌, ℕ, Bool, true, false, cond, not, ◌||◌, ◌&&◌, List, [], ◌∷◌, ◌++◌, Some, None}
+use meaning.Prelude.{map, filter, refl, sym, ap, ◌∙◌, append_assoc, list_any, flat_map, lookup, keys_of}
+use meaning.Prelude.{set_value, append-nil, map-append, filter-append, list_any-append, flat_map-append}
+use meaning.Prelude.{NameView, same_text, same-true, same-flip, first_of_each, ComponentName}
+use meaning.Prelude.{first_of_each-push_old, list_any-first_of_each, name_laws, is_object, ExtendedType}
 use Rattle.std.specs.Prelude.{unwrap_or}
 use Rattle.std.proofs.lemmas.Bool.{or_parts}
 use Rattle.indexmap.specs.IndexSet.{insert_key}

@@ -7,8 +7,8 @@ use Rattle.apollo_meaning.proofs.Prelude.{list_any-first_of_each, name_laws, is_
 use Rattle.std.proofs.lemmas.Map.Entries.{lookup-filter-values, option_filter}
 use Rattle.graphql_nodes.specs.KeySets.{has_key}
 use Rattle.graphql_nodes.specs.Tables.{HasUniqueKeys}
-use Rattle.apollo_types.specs.TypeKinds.{is_interface}
-use Rattle.apollo_schema.specs.Lookups.{Types, type_at, interface_node, declares, declared_interfaces}
+use Rattle.apollo_types.specs.TypeKinds.{as_interface, is_interface}
+use Rattle.apollo_schema.specs.Lookups.{Types, type_at, node_if, declares, declared_interfaces}
 use Rattle.apollo_schema.specs.Lookups.{is_subtype, is_subtype_of}
 use Rattle.apollo_schema.specs.Implementers.{names_declared, implementers_of, is_among, is_implementer}
 use Rattle.apollo_component.proofs.Tabled.{lookup-tabled}
@@ -77,10 +77,11 @@ implementer-declares types unique i t = ap (is_among t) (lookup-tabled same_text
 
 -- and there it is a subtype
 pub subtype-implementer : (types : Types) → HasUniqueKeys same_text types → (i t : NameView)
-    → is_some (interface_node (type_at types i)) ≡ true → is_subtype types i t ≡ is_implementer types i t
+    → is_some (node_if as_interface (type_at types i)) ≡ true
+    → is_subtype types i t ≡ is_implementer types i t
 subtype-implementer types unique i t interface = simp (by, implementer-declares)
   where
-    by : (found : Option ExtendedType) → is_some (interface_node found) ≡ true
+    by : (found : Option ExtendedType) → is_some (node_if as_interface found) ≡ true
         → is_subtype_of found types i t ≡ option_map_or (declares i) (type_at types t) false
     by None h = cc
     by (Some ty) h = grind arith

@@ -13,7 +13,7 @@
 -- subtype through something else, and of itself only what lists its own name.
 use Rattle.std.specs.Prelude.{◌≡◌, Bool, false, List, [], ◌∷◌, ◌++◌, Option, None, Some, if◌then◌else◌}
 use Rattle.std.specs.List.{find}
-use Rattle.std.specs.Option.{option_map_or, option_or}
+use Rattle.std.specs.Option.{option_map, option_map_or, option_or}
 use Rattle.graphql_nodes.specs.KeySets.{has_key}
 use Rattle.graphql_nodes.specs.NameView.{NameView}
 use Rattle.graphql_nodes.specs.NodeView.{NodeView}
@@ -27,15 +27,10 @@ use Rattle.apollo_component.specs.declared.component.Component.{Component}
 use Rattle.apollo_component.specs.declared.component.ComponentName.{ComponentName}
 use Rattle.apollo_types.specs.SchemaRoots.{root_of}
 use Rattle.apollo_types.specs.TypeKinds.{is_composite}
-use Rattle.apollo_types.specs.declared.scalar_type.ScalarType.{ScalarType}
-use Rattle.apollo_types.specs.declared.object_type.ObjectType.{ObjectType}
-use Rattle.apollo_types.specs.declared.interface_type.InterfaceType.{InterfaceType}
-use Rattle.apollo_types.specs.declared.union_type.UnionType.{UnionType}
-use Rattle.apollo_types.specs.declared.enum_type.EnumType.{EnumType}
-use Rattle.apollo_types.specs.declared.input_object_type.InputObjectType.{InputObjectType}
+use Rattle.apollo_types.specs.TypeWriteOut.{type_location}
 use Rattle.apollo_types.specs.declared.extended_type.ExtendedType.{ExtendedType}
-use Rattle.apollo_types.specs.declared.extended_type.ExtendedType.TheVariants.{Scalar, Object, Interface}
-use Rattle.apollo_types.specs.declared.extended_type.ExtendedType.TheVariants.{Union, Enum, InputObject}
+use Rattle.apollo_types.specs.declared.extended_type.ExtendedType.TheVariants.{Object, Interface}
+use Rattle.apollo_types.specs.declared.extended_type.ExtendedType.TheVariants.{Union}
 use Rattle.apollo_schema.specs.MetaFields.{typename_field, schema_field, type_by_name_field}
 use Rattle.apollo_schema.specs.declared.field_lookup_error.FieldLookupError.{FieldLookupError}
 use Rattle.apollo_schema.specs.declared.field_lookup_error.FieldLookupError.TheVariants.{NoSuchType}
@@ -50,35 +45,11 @@ Types = List (NameView × ExtendedType)
 abbrev pub type_at : Types → NameView → Option ExtendedType
 type_at types n = lookup (same_text n) types
 
--- the type, if it is there and a scalar type
-abbrev pub scalar_node : Option ExtendedType → Option (NodeView ScalarType)
-scalar_node (Some (Scalar n)) = Some n
-scalar_node _ = None
-
--- the type, if it is there and an object type
-abbrev pub object_node : Option ExtendedType → Option (NodeView ObjectType)
-object_node (Some (Object n)) = Some n
-object_node _ = None
-
--- the type, if it is there and an interface type
-abbrev pub interface_node : Option ExtendedType → Option (NodeView InterfaceType)
-interface_node (Some (Interface n)) = Some n
-interface_node _ = None
-
--- the type, if it is there and a union type
-abbrev pub union_node : Option ExtendedType → Option (NodeView UnionType)
-union_node (Some (Union n)) = Some n
-union_node _ = None
-
--- the type, if it is there and an enum type
-abbrev pub enum_node : Option ExtendedType → Option (NodeView EnumType)
-enum_node (Some (Enum n)) = Some n
-enum_node _ = None
-
--- the type, if it is there and an input object type
-abbrev pub input_object_node : Option ExtendedType → Option (NodeView InputObjectType)
-input_object_node (Some (InputObject n)) = Some n
-input_object_node _ = None
+-- the type as a node of one kind, seen so, if it is there and of this kind
+abbrev pub node_if : {T : Type 0} → (ExtendedType → Option T) → Option ExtendedType → Option (NodeView T)
+node_if seen None = None
+node_if seen (Some type) =
+    option_map (λ value. record { value = value; location = type_location type }) (seen type)
 
 -- a reference to a type that passes; one to a name without a type is none
 abbrev pub refers_to : (ExtendedType → Bool) → Types → TypeReference → Bool

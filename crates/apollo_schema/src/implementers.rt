@@ -8,6 +8,7 @@ ghost use Rattle.apollo_schema.specs.Noted.{no_implementers, with_implementer};
 use graphql_nodes::collections::hash_keys::HashKeys;
 use graphql_nodes::collections::key_set::KeySet;
 use graphql_nodes::name::Name;
+use graphql_nodes::take_apart;
 use indexmap::set::Iter;
 use std::alloc::{AllocError, Global};
 use std::iter::FusedIterator;
@@ -22,10 +23,7 @@ pub struct Implementers {
 
 impl Drop for Implementers {
     fn drop(self) {
-        let Self {
-            objects: _,
-            interfaces: _,
-        } = self;
+        take_apart!(self: objects, interfaces);
     }
 }
 

@@ -7,9 +7,10 @@ ghost use Rattle.apollo_schema.specs.BuilderStands.{Building, HasFailed, StandsF
 ghost use Rattle.apollo_schema.specs.EqualLookups.{bare_implementers, bare_field_lookup_error};
 ghost use Rattle.apollo_schema.specs.EqualSchemas.{AreEqualSchemas};
 ghost use Rattle.apollo_schema.specs.Implementers.{is_implementer};
-ghost use Rattle.apollo_schema.specs.Lookups.{Types, type_at, interface_node, is_subtype};
+ghost use Rattle.apollo_schema.specs.Lookups.{Types, type_at, node_if, is_subtype};
 ghost use Rattle.apollo_schema.specs.MeantSchema.{MeansSchema};
 ghost use Rattle.apollo_schema.specs.NamesLeft.{IsOrphanName};
+ghost use Rattle.apollo_types.specs.TypeKinds.{as_interface};
 ghost use Rattle.graphql_nodes.specs.Clones.{IsExact};
 ghost use Rattle.graphql_nodes.specs.Comparing.{ComparesBy, entries_by_text};
 ghost use Rattle.graphql_nodes.specs.NameView.{NameView};
@@ -72,7 +73,7 @@ pub fn clones_of_field_lookup_errors_are_exact<'schema>()
 /// sections 3.6 and 3.7.
 pub fn implementers()
     ensures { (types : Types) → HasUniqueKeys same_text types → (i t : NameView)
-        → IsSome (interface_node (type_at types i))
+        → IsSome (node_if as_interface (type_at types i))
         → IsTrue (is_subtype types i t) ↔ IsTrue (is_implementer types i t) }
 {}
 
@@ -80,7 +81,7 @@ pub fn implementers()
 /// interface's implementers. Its table has no two types of one name. Contracts see a table as the list of its
 /// entries, which doesn't say so, but the table itself does.
 pub fn implementers_in_a_schema(schema: &Schema)
-    ensures { (i t : NameView) → IsSome (interface_node (type_at schema.now.types i))
+    ensures { (i t : NameView) → IsSome (node_if as_interface (type_at schema.now.types i))
         → IsTrue (is_subtype schema.now.types i t) ↔ IsTrue (is_implementer schema.now.types i t) }
 {
     implementers();

@@ -13,6 +13,7 @@ use graphql_ast::type_system::{FieldDefinition, InputValueDefinition};
 use graphql_nodes::collections::items::Items;
 use graphql_nodes::name::Name;
 use graphql_nodes::node::Node;
+use graphql_nodes::take_apart;
 use std::alloc::{AllocError, Global};
 use std::marker::Model;
 
@@ -26,11 +27,7 @@ pub struct MetaFields {
 
 impl Drop for MetaFields {
     fn drop(self) {
-        let Self {
-            typename: _,
-            schema: _,
-            type_by_name: _,
-        } = self;
+        take_apart!(self: typename, schema, type_by_name);
     }
 }
 

@@ -22,6 +22,7 @@ use graphql_ast::added_list::AddedList;
 use graphql_ast::document::Document;
 use graphql_nodes::collections::hash_keys::HashKeys;
 use graphql_nodes::collections::table::Table;
+use graphql_nodes::take_apart;
 use std::alloc::{AllocError, Global};
 use std::marker::Model;
 
@@ -46,13 +47,7 @@ pub struct SchemaBuilder {
 
 impl Drop for SchemaBuilder {
     fn drop(self) {
-        let Self {
-            first_number: _,
-            state: _,
-            adopt_orphan_extensions: _,
-            ignore_builtin_redefinitions: _,
-            added: _,
-        } = self;
+        take_apart!(self: first_number, state, adopt_orphan_extensions, ignore_builtin_redefinitions, added);
     }
 }
 

@@ -40,6 +40,7 @@ use graphql_nodes::collections::static_text::StaticText;
 use graphql_nodes::collections::table::Table;
 use graphql_nodes::name::Name;
 use graphql_nodes::node::Node;
+use graphql_nodes::take_apart;
 use std::alloc::{AllocError, Global};
 use std::mem;
 
@@ -56,14 +57,7 @@ pub struct Tables {
 
 impl Drop for Tables {
     fn drop(self) {
-        let Self {
-            schema_definition: _,
-            schema_extensions: _,
-            types: _,
-            directive_definitions: _,
-            waiting: _,
-            fold: _,
-        } = self;
+        take_apart!(self: schema_definition, schema_extensions, types, directive_definitions, waiting, fold);
     }
 }
 

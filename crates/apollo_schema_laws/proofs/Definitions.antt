@@ -31,13 +31,14 @@ has_own-three d = grind arith
 
 -- a definition that has no root of its own names none
 pub own-root : (head : SchemaPart) (es : List (ℕ × SchemaPart)) → has_own_root (made_schema head es) ≡ false
-    → head.roots ≡ []
-own-root head es h = (elim head.roots as (λ rs. head.roots ≡ rs → rs ≡ []) [
+    → head.parts.roots ≡ []
+own-root head es h = (elim head.parts.roots as (λ rs. head.parts.roots ≡ rs → rs ≡ []) [
   | [] ↦ λ e. refl
   | r ∷ rs ↦ λ e. absurd (true≢false (sym (named r rs e) ∙ h))
 ]) refl
   where
-    named : (r : Root) (rs : List Root) → head.roots ≡ r ∷ rs → has_own_root (made_schema head es) ≡ true
+    named : (r : Root) (rs : List Root) → head.parts.roots ≡ r ∷ rs
+        → has_own_root (made_schema head es) ≡ true
     named r rs e = has_own-three (made_schema head es) ∙ grind (arith, own)
       where
         own : (op : OperationType) → same_operation op r.value.0 ≡ true
@@ -64,7 +65,7 @@ pub no-own : (d : SchemaDefinition) → has_own_root d ≡ false → (written_pa
 no-own d h = has_none (written_parts_of d).definition.roots (sym (own-said d) ∙ h)
 
 -- where a definition has no directive of its own, none is written of it
-pub no-directives : (head : SchemaPart) (es : List (ℕ × SchemaPart)) → head.directives ≡ []
+pub no-directives : (head : SchemaPart) (es : List (ℕ × SchemaPart)) → head.parts.directives ≡ []
     → (written_parts_of (made_schema head es)).definition.directives ≡ []
 no-directives head es e =
     let p = parts_from (λ s. s.location) schema_held head es in
@@ -209,7 +210,7 @@ implied-unwritten types has are location = left-out-written (implied_schema_of h
 
 -- it names a root
 abbrev pub NamesRoot : SchemaPart → Type 0
-NamesRoot s = s.roots ≢ []
+NamesRoot s = s.parts.roots ≢ []
 
 pub first_schema-append : (xs ys : List ListItem)
     → first_schema (xs ++ ys) ≡ option_or (first_schema xs) (first_schema ys)

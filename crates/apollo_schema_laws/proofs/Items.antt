@@ -326,7 +326,7 @@ module _ (schema : Schema) (list : IsMeantByList schema) where
   pub handed : AllByRecursion IsAddedByHand list.more
   handed = recursion_from_All IsAddedByHand list.more list.within.unmarked
 
-  pub rooted : AllByRecursion (λ s. s.roots ≢ []) (filter_map defined_schema (added_items list.more))
+  pub rooted : AllByRecursion (λ s. s.parts.roots ≢ []) (filter_map defined_schema (added_items list.more))
   rooted = recursion_from_All _ _ list.within.rooted
 
 -- an element of a list of which no two are the same is the same as none before it

@@ -13,7 +13,6 @@ use Rattle.graphql_ast.specs.declared.type_system.DirectiveDefinition.{Directive
 use Rattle.apollo_meaning.specs.Completion.Adoption.{extended_names}
 use Rattle.apollo_meaning.specs.Directives.{directive_part, is_handed_in}
 use Rattle.apollo_meaning.specs.Faults.Collisions.{Fault}
-use Rattle.apollo_meaning.specs.Faults.TypeFaults.{built_in_redefinition, redefinition}
 use Rattle.apollo_meaning.specs.Items.ListItems.{ListItem}
 use Rattle.apollo_meaning.specs.Items.Parts.{SchemaPart, TypePart, key_of}
 use Rattle.apollo_meaning.specs.Order.Places.{Family, Placed, definition_places, extension_places}
@@ -68,10 +67,6 @@ further_directive d e =
 -- a further definition of a type is passed over where it may be ignored and the first one is built-in
 abbrev pub is_passed_over : Dropped TypePart → Bool
 is_passed_over p = is_built_in p.0.1.location && p.1.1.ignorable
-
--- the fault of a further definition of a type
-abbrev pub further_type : TypePart → TypePart → Fault
-further_type d e = if is_built_in d.location then built_in_redefinition d e else redefinition d e
 
 -- the extensions whose key has no definition, by place
 abbrev pub undefined_places : {P : Type 0} → Family P → List ListItem → List (Placed P)

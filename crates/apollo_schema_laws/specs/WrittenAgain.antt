@@ -18,7 +18,7 @@ use Rattle.apollo_schema.specs.declared.schema.Schema.{Schema}
 -- none of these is marked built-in, and each schema definition among them names a root
 pub record IsUnmarkedAndRooted (more : List Added) : Type 0 where
   pub unmarked : All (λ a. is_built_in (definition_location a.1) ≡ false) more
-  pub rooted : All (λ s. s.roots ≢ []) (filter_map defined_schema (added_items more))
+  pub rooted : All (λ s. s.parts.roots ≢ []) (filter_map defined_schema (added_items more))
 
 -- a schema that some such list means, with extensions numbered from some number, under some setting of
 -- adoption

@@ -1,20 +1,19 @@
 -- What a list that is completed at its end defines, what it leaves undefined, and what is found in it.
-use Rattle.apollo_meaning.proofs.Prelude.{slice_get-append, option_map_or, extended_schema, schema_extensions}
-use Rattle.apollo_meaning.proofs.Prelude.{◌≡◌, extended_names, schema_orphans, implied_schema, defined_schema}
-use Rattle.apollo_meaning.proofs.Prelude.{ℕ, [], Some, None, refl, ap, ◌∙◌, same, Root}
-use Rattle.apollo_meaning.proofs.Prelude.{Bool, true, cond, List, ◌++◌, arith, key_of, first, orphan, found}
-use Rattle.apollo_meaning.proofs.Prelude.{false, nat_list_eq_equiv, filter_map-append, list_any-first_of_each}
-use Rattle.apollo_meaning.proofs.Prelude.{◌∷◌, filter_map, append-nil, each_after, with_adopted, first_schema}
-use Rattle.apollo_meaning.proofs.Prelude.{filter, Option, sym, ListItem, adopted, found_at, or-none, roots_in}
-use Rattle.apollo_meaning.proofs.Prelude.{map, list_any, option_or, TypePart, completed, same-true}
-use Rattle.apollo_meaning.proofs.Prelude.{flat_map, extended_part, extensions_of, schema_orphan, adopted_part}
-use Rattle.apollo_meaning.proofs.Prelude.{Defined, orphans_of, adopted_by, bool_cases, SchemaPart, schema_for}
+use Rattle.apollo_meaning.proofs as meaning
+use meaning.Prelude.{slice_get-append, option_map_or, extended_schema, schema_extensions, ◌≡◌, extended_names}
+use meaning.Prelude.{schema_orphans, implied_schema, defined_schema, ℕ, [], Some, None, refl, ap, ◌∙◌, same}
+use meaning.Prelude.{Root, Bool, true, cond, List, ◌++◌, arith, key_of, first, orphan, found, false}
+use meaning.Prelude.{nat_list_eq_equiv, filter_map-append, list_any-first_of_each, ◌∷◌, filter_map}
+use meaning.Prelude.{append-nil, each_after, with_adopted, first_schema, filter, Option, sym, ListItem}
+use meaning.Prelude.{adopted, found_at, or-none, roots_in, map, list_any, option_or, TypePart, completed}
+use meaning.Prelude.{same-true, flat_map, extended_part, extensions_of, schema_orphan, adopted_part, Defined}
+use meaning.Prelude.{orphans_of, adopted_by, bool_cases, SchemaPart, schema_for}
+use meaning.Lists.{flat_map-none, nothing}
+use meaning.Items.ItemLemmas.{first-append}
+use meaning.Types.TypeLemmas.{Own, Own-named}
+use meaning.Faults.FoundLemmas.{found_after-order, found_in-order}
 use Rattle.apollo_meaning.specs.Faults.ListFaults.{faults_in}
 use Rattle.apollo_meaning.specs.Completion.OrphanNames.{first_name, orphan_names}
-use Rattle.apollo_meaning.proofs.Lists.{flat_map-none, nothing}
-use Rattle.apollo_meaning.proofs.Items.ItemLemmas.{first-append}
-use Rattle.apollo_meaning.proofs.Types.TypeLemmas.{Own, Own-named}
-use Rattle.apollo_meaning.proofs.Faults.FoundLemmas.{found_after-order, found_in-order}
 use Rattle.apollo_meaning.specs.Completion.ImpliedSchema.{implicit_roots}
 
 -- a name that is not extended has no extension

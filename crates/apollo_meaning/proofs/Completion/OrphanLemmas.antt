@@ -1,23 +1,21 @@
 -- What waits to the end is what has no definition.
-use Rattle.apollo_meaning.proofs.Prelude.{◌≡◌, ℕ, Bool, true, cond, not, ◌==◌, List, [], ◌∷◌, ◌++◌, length}
-use Rattle.apollo_meaning.proofs.Prelude.{map, Option, Some, None, is_some, filter, refl, sym, ap, subst, ◌∙◌}
-use Rattle.apollo_meaning.proofs.Prelude.{arith, filter_map, flat_map, flat_map-append, list_any}
-use Rattle.apollo_meaning.proofs.Prelude.{option_map_or, option_or, nat_list_eq_equiv, lookup, keys_of}
-use Rattle.apollo_meaning.proofs.Prelude.{nat_tests, append-nil, map-append, filter_map-append, NameView}
-use Rattle.apollo_meaning.proofs.Prelude.{same_text, same, by_text, Definition, first_of_each}
-use Rattle.apollo_meaning.proofs.Prelude.{first_of_each-push_new, first_of_each-push_old, name_laws, snoc_ind}
-use Rattle.apollo_meaning.proofs.Prelude.{TypePart, key_of, ListItem, Extended, extended_part, items_of}
-use Rattle.apollo_meaning.proofs.Prelude.{extended_parts, items_held, first, extended_names, orphans_of}
-use Rattle.apollo_meaning.proofs.Prelude.{adopted_by, adopted, waited_at, waited, same-true, cons_option}
-use Rattle.apollo_meaning.proofs.Prelude.{bool_cases, slice_get, list_any-first_of_each, filter_map-made}
+use Rattle.apollo_meaning.proofs as meaning
+use meaning.Prelude.{◌≡◌, ℕ, Bool, true, cond, not, ◌==◌, List, [], ◌∷◌, ◌++◌, length, map, Option, Some}
+use meaning.Prelude.{None, is_some, filter, refl, sym, ap, subst, ◌∙◌, arith, filter_map, flat_map}
+use meaning.Prelude.{flat_map-append, list_any, option_map_or, option_or, nat_list_eq_equiv, lookup, keys_of}
+use meaning.Prelude.{nat_tests, append-nil, map-append, filter_map-append, NameView, same_text, same, by_text}
+use meaning.Prelude.{Definition, first_of_each, first_of_each-push_new, first_of_each-push_old, name_laws}
+use meaning.Prelude.{snoc_ind, TypePart, key_of, ListItem, Extended, extended_part, items_of, extended_parts}
+use meaning.Prelude.{items_held, first, extended_names, orphans_of, adopted_by, adopted, waited_at, waited}
+use meaning.Prelude.{same-true, cons_option, bool_cases, slice_get, list_any-first_of_each, filter_map-made}
+use meaning.Lists.{any-given}
+use meaning.Items.ItemLemmas.{first-append, waited-push}
 use Rattle.std.specs.List.{IsDistinct}
 use Rattle.std.specs.Map.{values_of}
 use Rattle.std.proofs.lemmas.List.Folds.{flat_map-map}
 use Rattle.std.proofs.lemmas.Map.Made.{is_some-lookup}
 use Rattle.std.proofs.lemmas.Map.Keys.{IsDistinct-push}
 use Rattle.apollo_component.proofs.Tabled.{given-by_keys}
-use Rattle.apollo_meaning.proofs.Lists.{any-given}
-use Rattle.apollo_meaning.proofs.Items.ItemLemmas.{first-append, waited-push}
 
 -- the names of extensions, each as often as it is extended
 abbrev keys : List ListItem → List (List ℕ)

@@ -1,23 +1,22 @@
 -- What is at fault among components and roots is what `first_of_each` drops.
-use Rattle.apollo_meaning.proofs.Prelude.{arith, each_after-append, schema_joining_faults, length-first_later}
-use Rattle.apollo_meaning.proofs.Prelude.{◌≡◌, ◌+◌, ◌∷◌, map, sym, said, List, [], ap, ◌∙◌, ℕ, ◌++◌, take}
-use Rattle.apollo_meaning.proofs.Prelude.{Some, option_map_or, IsEquivalence, flat_map-append, same_operation}
-use Rattle.apollo_meaning.proofs.Prelude.{refl, Root, Fault, Entry, false, roots_in, ListItem, saying, Placed}
-use Rattle.apollo_meaning.proofs.Prelude.{part_components, same_component, each_after-start, extension_places}
-use Rattle.apollo_meaning.proofs.Prelude.{filter, first_of_each, schema_faults, later_of_each, filter-append}
-use Rattle.apollo_meaning.proofs.Prelude.{TypeKind, TypePart, length, flat_map, on_equiv, NameView, same_name}
-use Rattle.apollo_meaning.proofs.Prelude.{nat_eq, map-append, each_after, Collection, collisions, first_place}
-use Rattle.apollo_meaning.proofs.Prelude.{if◌then◌else◌, TypeComponent, components_of, joined_faults, schemas}
-use Rattle.apollo_meaning.proofs.Prelude.{find-made, same_text, collision, SchemaPart, said-later, entry_laws}
-use Rattle.apollo_meaning.proofs.Prelude.{append-nil, schema_extensions, dropped_component, dropped_from_type}
-use Rattle.apollo_meaning.proofs.Prelude.{part_faults, collision_at, append_assoc, component_in, what_is_held}
+use Rattle.apollo_meaning.proofs as meaning
+use meaning.Prelude.{arith, each_after-append, schema_joining_faults, length-first_later, ◌≡◌, ◌+◌, ◌∷◌, map}
+use meaning.Prelude.{sym, said, List, [], ap, ◌∙◌, ℕ, ◌++◌, take, Some, option_map_or, IsEquivalence}
+use meaning.Prelude.{flat_map-append, same_operation, refl, Root, Fault, Entry, false, roots_in, ListItem}
+use meaning.Prelude.{saying, Placed, part_components, same_component, each_after-start, extension_places}
+use meaning.Prelude.{filter, first_of_each, schema_faults, later_of_each, filter-append, TypeKind, TypePart}
+use meaning.Prelude.{length, flat_map, on_equiv, NameView, same_name, nat_eq, map-append, each_after}
+use meaning.Prelude.{Collection, collisions, first_place, if◌then◌else◌, TypeComponent, components_of}
+use meaning.Prelude.{joined_faults, schemas, find-made, same_text, collision, SchemaPart, said-later}
+use meaning.Prelude.{entry_laws, append-nil, schema_extensions, dropped_component, dropped_from_type}
+use meaning.Prelude.{part_faults, collision_at, append_assoc, component_in, what_is_held}
+use meaning.Lists.{find-among}
+use meaning.Faults.FoundLemmas.{schema_faults_with-joining}
 use Rattle.std.proofs.lemmas.List.{length-map}
 use Rattle.graphql_nodes.specs.OperationTexts.{operation_text}
 use Rattle.apollo_meaning.specs.declared.build_error.BuildError.TheVariants as errors
 use Rattle.apollo_meaning.specs.Faults.RootFaults.{root_fault, root_faults, same_root, dropped_root}
 use Rattle.apollo_meaning.specs.Faults.ListFaults.{found_of_schema}
-use Rattle.apollo_meaning.proofs.Lists.{find-among}
-use Rattle.apollo_meaning.proofs.Faults.FoundLemmas.{schema_faults_with-joining}
 use Rattle.graphql_nodes.specs.declared.type_kind.TypeKind.TheVariants as kinds
 use Rattle.std.proofs.lemmas.Cmp.{and_equiv, nat_eq_equiv}
 use Rattle.apollo_meaning.specs.declared.collision.Collection.TheVariants as held_as
@@ -84,9 +83,10 @@ schemas-joined : (parts es : List SchemaPart)
     → schema_joining_faults parts es ≡ root_faults (roots_in parts) (roots_in es)
 schemas-joined parts [] = refl
 schemas-joined parts (e ∷ es) =
-    let more : roots_in (parts ++ e ∷ []) ≡ roots_in parts ++ e.roots = rw (flat_map-append, append-nil) in
-    ap (λ l. root_faults (roots_in parts) e.roots ++ l) (schemas-joined _ es
-    ∙ ap (λ l. root_faults l (roots_in es)) more) ∙ sym (each_after-append root_fault _ e.roots _)
+    let more : roots_in (parts ++ e ∷ []) ≡ roots_in parts ++ e.parts.roots =
+    rw (flat_map-append, append-nil) in
+    ap (λ l. root_faults (roots_in parts) e.parts.roots ++ l) (schemas-joined _ es
+    ∙ ap (λ l. root_faults l (roots_in es)) more) ∙ sym (each_after-append root_fault _ e.parts.roots _)
 
 -- and all those of a list, with its first definition of the schema
 pub found-roots : (xs : List ListItem) (s : Placed SchemaPart) → first_place schemas xs [] ≡ Some s
@@ -96,8 +96,8 @@ found-roots xs s is = ap (λ l. schema_faults [] s.1 ++ l) (
     (λ f. schema_faults (f.1 ∷ schema_extensions (take e.0 xs)) e.1) o [])
     (extension_places schemas xs)) is ∙ schema_faults_with-joining s.1 xs
     ∙ schemas-joined _ (schema_extensions xs)
-    ∙ ap (λ l. root_faults l (roots_in (schema_extensions xs))) (append-nil s.1.roots))
-    ∙ sym (each_after-append root_fault [] s.1.roots _)
+    ∙ ap (λ l. root_faults l (roots_in (schema_extensions xs))) (append-nil s.1.parts.roots))
+    ∙ sym (each_after-append root_fault [] s.1.parts.roots _)
 
 -- what is at fault among the components of a type, definition and extensions joined
 pub same_component_laws : IsEquivalence same_component

@@ -1,22 +1,20 @@
 -- What is found by places, moment by moment, is what the code finds.
-use Rattle.apollo_meaning.proofs.Prelude.{◌≡◌, Option, is_some, Defined, schemas, found_at, same-is, all-kept}
-use Rattle.apollo_meaning.proofs.Prelude.{ℕ, further_definition, schema_joining_faults, directive_definitions}
-use Rattle.apollo_meaning.proofs.Prelude.{◌<◌, [], ◌∷◌, suc, sym, ap, ◌∙◌, same, zero, Bool, true, cond, ◌==◌}
-use Rattle.apollo_meaning.proofs.Prelude.{List, ◌++◌, take, Some, None, refl, found, false, nat_tests}
-use Rattle.apollo_meaning.proofs.Prelude.{snoc_ind, TypePart, ListItem, Extended, length, option_map_or}
-use Rattle.apollo_meaning.proofs.Prelude.{SchemaDefined, extended_part, slice_get-last, slice_get, flat_map}
-use Rattle.apollo_meaning.proofs.Prelude.{append-nil, each_after, SchemaPart, arith, lookup, key_of, Other}
-use Rattle.apollo_meaning.proofs.Prelude.{Family, types, Placed, Fault, eq-eqb, filter_map, extensions_of}
-use Rattle.apollo_meaning.proofs.Prelude.{first_place, part_faults, schema_faults, each_after-push}
-use Rattle.apollo_meaning.proofs.Prelude.{SchemaExtended, extension_faults, take-append_seam}
-use Rattle.apollo_meaning.proofs.Prelude.{each_after-start, schema_extensions, extension_places, other_faults}
-use Rattle.apollo_meaning.proofs.Prelude.{extended_schema, further_schema, joining_faults, slice_get-front}
+use Rattle.apollo_meaning.proofs as meaning
+use meaning.Prelude.{◌≡◌, Option, is_some, Defined, schemas, found_at, same-is, all-kept, ℕ}
+use meaning.Prelude.{further_definition, schema_joining_faults, directive_definitions, ◌<◌, [], ◌∷◌, suc, sym}
+use meaning.Prelude.{ap, ◌∙◌, same, zero, Bool, true, cond, ◌==◌, List, ◌++◌, take, Some, None, refl, found}
+use meaning.Prelude.{false, nat_tests, snoc_ind, TypePart, ListItem, Extended, length, option_map_or}
+use meaning.Prelude.{SchemaDefined, extended_part, slice_get-last, slice_get, flat_map, append-nil}
+use meaning.Prelude.{each_after, SchemaPart, arith, lookup, key_of, Other, Family, types, Placed, Fault}
+use meaning.Prelude.{eq-eqb, filter_map, extensions_of, first_place, part_faults, schema_faults}
+use meaning.Prelude.{each_after-push, SchemaExtended, extension_faults, take-append_seam, each_after-start}
+use meaning.Prelude.{schema_extensions, extension_places, other_faults, extended_schema, further_schema}
+use meaning.Prelude.{joining_faults, slice_get-front}
+use meaning.Order.PlaceLemmas.{placed-after, keyed, first-forget, first_place-below, first_place-push}
+use meaning.Order.PlaceLemmas.{first-gives, first_schema-gives, same_front, said_when, said-push, said-other}
+use meaning.Order.PlaceLemmas.{said-extended, said-defined}
 use Rattle.apollo_component.proofs.Lists.Each.{moments-on}
 use Rattle.apollo_meaning.specs.Faults.ListFaults.{own_faults, found_when, found_from}
-use Rattle.apollo_meaning.proofs.Order.PlaceLemmas.{placed-after, keyed, first-forget, first_place-below}
-use Rattle.apollo_meaning.proofs.Order.PlaceLemmas.{first_place-push, first-gives, first_schema-gives}
-use Rattle.apollo_meaning.proofs.Order.PlaceLemmas.{same_front, said_when, said-push, said-other}
-use Rattle.apollo_meaning.proofs.Order.PlaceLemmas.{said-extended, said-defined}
 
 module _ {P : Type 0} (f : Family P) where
   abbrev is_among : P → List ListItem → Bool

@@ -1,15 +1,14 @@
 -- Components that a name before them keeps out, and those that are kept.
-use Rattle.apollo_meaning.proofs.Prelude.{arith, ◌≡◌, ◌+◌, ◌<◌, ◌∷◌, map, sym, ◌∙◌, ℕ, option_map, lookup_key}
-use Rattle.apollo_meaning.proofs.Prelude.{name_entries, collision_at, list_any-map, Bool, if◌then◌else◌}
-use Rattle.apollo_meaning.proofs.Prelude.{IsEquivalence, distinct_names, lookup_key-find, List, ◌++◌, take}
-use Rattle.apollo_meaning.proofs.Prelude.{get_or, Some, None, find, Fault, Entry, [], on_equiv, Component}
-use Rattle.apollo_meaning.proofs.Prelude.{name_laws, component, found-any, find-made, length, is_some, ap}
-use Rattle.apollo_meaning.proofs.Prelude.{keys_of, map-map, NameView, NodeView, same_key, append_assoc}
-use Rattle.apollo_meaning.proofs.Prelude.{take_more, insert_entry, first_of_each, ComponentName, list_any}
-use Rattle.apollo_meaning.proofs.Prelude.{map-append, same_text, Collection, collisions, entry_laws}
-use Rattle.apollo_meaning.proofs.Prelude.{each_after-push, component_name, ComponentOrigin, insert_entry-last}
-use Rattle.apollo_meaning.proofs.Prelude.{first_of_each-push_new, first_of_each-push_old, same_component_name}
-use Rattle.apollo_meaning.proofs.Prelude.{list_any-first_of_each, find-first_of_each, keys_of-first_of_each}
+use Rattle.apollo_meaning.proofs as meaning
+use meaning.Prelude.{arith, ◌≡◌, ◌+◌, ◌<◌, ◌∷◌, map, sym, ◌∙◌, ℕ, option_map, lookup_key, name_entries}
+use meaning.Prelude.{collision_at, list_any-map, Bool, if◌then◌else◌, IsEquivalence, distinct_names}
+use meaning.Prelude.{lookup_key-find, List, ◌++◌, take, get_or, Some, None, find, Fault, Entry, [], on_equiv}
+use meaning.Prelude.{Component, name_laws, component, found-any, find-made, length, is_some, ap, keys_of}
+use meaning.Prelude.{map-map, NameView, NodeView, same_key, append_assoc, take_more, insert_entry}
+use meaning.Prelude.{first_of_each, ComponentName, list_any, map-append, same_text, Collection, collisions}
+use meaning.Prelude.{entry_laws, each_after-push, component_name, ComponentOrigin, insert_entry-last}
+use meaning.Prelude.{first_of_each-push_new, first_of_each-push_old, same_component_name}
+use meaning.Prelude.{list_any-first_of_each, find-first_of_each, keys_of-first_of_each}
 
 pub component_name_laws : IsEquivalence same_component_name
 component_name_laws = on_equiv (λ c. c.name) name_laws

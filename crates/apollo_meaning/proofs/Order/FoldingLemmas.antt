@@ -1,19 +1,13 @@
 -- Extensions that are folded one after another.
 use Rattle.apollo_meaning.proofs.Prelude.{◌≡◌, get_or, Bool, List, ◌++◌, length, true, refl, of_kind, Sourced}
-use Rattle.apollo_meaning.proofs.Prelude.{ℕ, ◌+◌, ◌<◌, ◌≤◌, [], ◌∷◌, map, sym, ap, ◌∙◌, take, append_assoc}
+use Rattle.apollo_meaning.proofs.Prelude.{ℕ, ◌+◌, ◌<◌, ◌≤◌, [], ◌∷◌, sym, ap, ◌∙◌, take}
 use Rattle.apollo_meaning.proofs.Prelude.{map-append, take_more, Definition, type_of_kind, drop, TypeKind}
-use Rattle.apollo_meaning.proofs.Prelude.{TypePart, same_kind, type_from, numbered, type_kind, length-append}
-use Rattle.apollo_meaning.proofs.Prelude.{arith, filter-append, extended_parts, extension_part}
-use Rattle.apollo_meaning.proofs.Prelude.{take-append-drop, filter_map-append, enumerate_from-append, kind_of}
+use Rattle.apollo_meaning.proofs.Prelude.{TypePart, same_kind, type_from, type_kind, length-append}
+use Rattle.apollo_meaning.proofs.Prelude.{arith, filter-append, extended_parts}
+use Rattle.apollo_meaning.proofs.Prelude.{take-append-drop, filter_map-append, kind_of}
 use Rattle.graphql_nodes.specs.declared.type_kind.TypeKind.TheVariants as kinds
 use Rattle.apollo_component.specs.declared.extension.ComponentOrigin.TheVariants as origins
 use Rattle.apollo_types.specs.TypeWriteOut.{type_description, type_name, type_location}
-
--- more extensions have the next numbers
-pub numbered-more : (done : List Sourced) (start : ℕ) (ps qs : List TypePart)
-    → done ++ map extension_part (numbered start (ps ++ qs)) ≡ (done ++ map extension_part
-    (numbered start ps)) ++ map extension_part (numbered (start + length ps) qs)
-numbered-more done start ps qs = rw (enumerate_from-append start ps qs, map-append, append_assoc)
 
 pub extended_parts-append : (xs ys : List Definition)
     → extended_parts (xs ++ ys) ≡ extended_parts xs ++ extended_parts ys

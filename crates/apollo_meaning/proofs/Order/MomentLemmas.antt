@@ -1,18 +1,16 @@
 -- The order of folding by places is the order in which the code folds: moment by moment.
-use Rattle.apollo_meaning.proofs.Prelude.{◌≡◌, ℕ, ◌<◌, ◌∷◌, map, refl, sym, ap, ◌∙◌, same, max, true, false}
-use Rattle.apollo_meaning.proofs.Prelude.{◌==◌, List, ◌++◌, arith, first, folded, types, Placed, []}
-use Rattle.apollo_meaning.proofs.Prelude.{option_map_or, SchemaExtended, extended_schema, types_folded_at}
-use Rattle.apollo_meaning.proofs.Prelude.{length, Option, filter, key_of, OfType, of_kind, schemas, map-map}
-use Rattle.apollo_meaning.proofs.Prelude.{all-kept, SchemaDefined, extended_part, first_schema, folding_order}
-use Rattle.apollo_meaning.proofs.Prelude.{is_folded, met_when, flat_map, SchemaPart, folded_at, first_place}
-use Rattle.apollo_meaning.proofs.Prelude.{folded_when, schemas_folded_at, extension_places}
-use Rattle.apollo_meaning.proofs.Prelude.{snoc_ind, TypePart, kind_of, ListItem, Defined, Extended, OfSchema}
+use Rattle.apollo_meaning.proofs as meaning
+use meaning.Prelude.{◌≡◌, ℕ, ◌<◌, ◌∷◌, map, refl, sym, ap, ◌∙◌, same, max, true, false, ◌==◌, List, ◌++◌}
+use meaning.Prelude.{arith, first, folded, types, Placed, [], option_map_or, SchemaExtended, extended_schema}
+use meaning.Prelude.{types_folded_at, length, Option, filter, key_of, OfType, of_kind, schemas, map-map}
+use meaning.Prelude.{all-kept, SchemaDefined, extended_part, first_schema, folding_order, is_folded, met_when}
+use meaning.Prelude.{flat_map, SchemaPart, folded_at, first_place, folded_when, schemas_folded_at}
+use meaning.Prelude.{extension_places, snoc_ind, TypePart, kind_of, ListItem, Defined, Extended, OfSchema}
+use meaning.Items.ItemLemmas.{folded-push}
+use meaning.Order.PlaceLemmas.{chosen-forget, first-gives, first_schema-gives, said_of, said_when, said-push}
+use meaning.Order.PlaceLemmas.{said-other, said-extended, said-defined}
 use Rattle.std.proofs.lemmas.List.Concat.{flat_map_single}
 use Rattle.apollo_component.proofs.Lists.Each.{moments-push}
-use Rattle.apollo_meaning.proofs.Items.ItemLemmas.{folded-push}
-use Rattle.apollo_meaning.proofs.Order.PlaceLemmas.{chosen-forget, first-gives, first_schema-gives, said_of}
-use Rattle.apollo_meaning.proofs.Order.PlaceLemmas.{said_when, said-push, said-other, said-extended}
-use Rattle.apollo_meaning.proofs.Order.PlaceLemmas.{said-defined}
 
 -- of an extension of the definition's kind it is said that it is folded, and so of each of the schema
 abbrev of_type : TypePart → List ListItem → List ℕ → TypePart → List TypePart

@@ -1,21 +1,20 @@
 -- The first definitions of keys by their places, and what stands before a place. What is said of extensions
 -- by places, moment by moment, is what is said of them item by item.
-use Rattle.apollo_meaning.proofs.Prelude.{cons_option, append_assoc, first_schema, first_place, flat_map-each}
-use Rattle.apollo_meaning.proofs.Prelude.{◌≡◌, ℕ, ◌+◌, ◌<◌, ◌∷◌, map, Some, None, refl, sym, same, find, ◌==◌}
-use Rattle.apollo_meaning.proofs.Prelude.{Bool, filter_map-numbered, definition_places, enumerate_from-append}
-use Rattle.apollo_meaning.proofs.Prelude.{true, cond, List, ◌++◌, take, arith, first, types, eq-eqb}
-use Rattle.apollo_meaning.proofs.Prelude.{false, flat_map, snoc_ind, TypePart, ListItem, same-true, same-flip}
-use Rattle.apollo_meaning.proofs.Prelude.{[], enumerate_from, AllByRecursion, defined_schema, flat_map-append}
-use Rattle.apollo_meaning.proofs.Prelude.{length, filter_map, option_map, append-nil, map-append, each-weaken}
-use Rattle.apollo_meaning.proofs.Prelude.{take-append_seam, lookup-keyed, filter_map-append, extension_places}
-use Rattle.apollo_meaning.proofs.Prelude.{find-made, placed_by, slice_get, option_or, each_after, SchemaPart}
-use Rattle.apollo_meaning.proofs.Prelude.{lookup-append, length-append, option_map_or, filter-append, or-none}
-use Rattle.apollo_meaning.proofs.Prelude.{Option, filter, lookup, Family, schemas, Placed, ne_eqb, met_when}
-use Rattle.apollo_meaning.proofs.Prelude.{ap, ◌∙◌, max, bool_cases}
+use Rattle.apollo_meaning.proofs as meaning
+use meaning.Prelude.{cons_option, append_assoc, first_schema, first_place, flat_map-each, ◌≡◌, ℕ, ◌+◌, ◌<◌}
+use meaning.Prelude.{◌∷◌, map, Some, None, refl, sym, same, find, ◌==◌, Bool, filter_map-numbered}
+use meaning.Prelude.{definition_places, enumerate_from-append, true, cond, List, ◌++◌, take, arith, first}
+use meaning.Prelude.{types, eq-eqb, false, flat_map, snoc_ind, TypePart, ListItem, same-true, same-flip, []}
+use meaning.Prelude.{enumerate_from, AllByRecursion, defined_schema, flat_map-append, length, filter_map}
+use meaning.Prelude.{option_map, append-nil, map-append, each-weaken, take-append_seam, lookup-keyed}
+use meaning.Prelude.{filter_map-append, extension_places, find-made, placed_by, slice_get, option_or}
+use meaning.Prelude.{each_after, SchemaPart, lookup-append, length-append, option_map_or, filter-append}
+use meaning.Prelude.{or-none, Option, filter, lookup, Family, schemas, Placed, ne_eqb, met_when, ap, ◌∙◌, max}
+use meaning.Prelude.{bool_cases}
+use meaning.Lists.{flat_map-filter, flat_map-none, nothing}
 use Rattle.std.specs.Option.{IfSome}
 use Rattle.std.proofs.lemmas.List.{take-append-le}
 use Rattle.apollo_component.proofs.Lists.Each.{each-append, filter-map}
-use Rattle.apollo_meaning.proofs.Lists.{flat_map-filter, flat_map-none, nothing}
 
 -- a place below n
 abbrev pub IsBelow : {P : Type 0} → ℕ → Placed P → Type 0

@@ -1,22 +1,19 @@
 -- The type of a name with one more item, and the extensions that are folded into it.
-use Rattle.apollo_meaning.proofs.Prelude.{arith, ◌≡◌, ℕ, ◌+◌, Bool, true, false, cond, List, [], ◌∷◌, ◌++◌}
-use Rattle.apollo_meaning.proofs.Prelude.{length, map, Option, Some, None, filter, refl, ap, subst, ◌∙◌}
-use Rattle.apollo_meaning.proofs.Prelude.{filter_map, option_map_or, option_or, append-nil, filter-append}
-use Rattle.apollo_meaning.proofs.Prelude.{filter_map-append, or-none, snoc_ind, TypeKind, TypePart, kind_of}
-use Rattle.apollo_meaning.proofs.Prelude.{key_of, ListItem, Defined, Extended, Folding, OfType}
-use Rattle.apollo_meaning.proofs.Prelude.{OfSchema, extended_part, same, first, extensions_of, of_kind}
-use Rattle.apollo_meaning.proofs.Prelude.{types_folded_at, schemas_folded_at, folded_at, folded}
-use Rattle.apollo_meaning.proofs.Prelude.{type_from, extension_part, numbered, extensions_with_origin, parts}
-use Rattle.apollo_meaning.proofs.Prelude.{same-true, AllByRecursion, each-filter, each-weaken, filter-all}
-use Rattle.apollo_meaning.proofs.Prelude.{filter_map-made, filter_map-unmade}
+use Rattle.apollo_meaning.proofs as meaning
+use meaning.Prelude.{arith, ◌≡◌, ℕ, ◌+◌, Bool, true, false, cond, List, [], ◌∷◌, ◌++◌, length, map, Option}
+use meaning.Prelude.{Some, None, filter, refl, ap, subst, ◌∙◌, filter_map, option_map_or, option_or}
+use meaning.Prelude.{append-nil, filter-append, filter_map-append, or-none, snoc_ind, TypeKind, TypePart}
+use meaning.Prelude.{kind_of, key_of, ListItem, Defined, Extended, Folding, OfType, OfSchema, extended_part}
+use meaning.Prelude.{same, first, extensions_of, of_kind, types_folded_at, schemas_folded_at, folded_at}
+use meaning.Prelude.{folded, type_from, extension_part, numbered, extensions_with_origin, parts, same-true}
+use meaning.Prelude.{AllByRecursion, each-filter, each-weaken, filter-all, filter_map-made, filter_map-unmade}
+use meaning.Lists.{map-empty}
+use meaning.Items.ItemLemmas.{first-push_definition, extensions_with_origin-append, first-push_undefined}
+use meaning.Items.ItemLemmas.{extensions_of-push_unextended, folded-push, extensions_of-push_extension}
 use Rattle.std.proofs.lemmas.List.Elements.{filter_passes, recursion_from_All}
 use Rattle.apollo_component.specs.declared.extension.ComponentOrigin.TheVariants as origins
 use Rattle.apollo_component.proofs.Lists.Each.{filter-fails}
-use Rattle.apollo_meaning.proofs.Lists.{map-empty}
 use Rattle.apollo_meaning.specs.Types.Meaning.{type_of}
-use Rattle.apollo_meaning.proofs.Items.ItemLemmas.{first-push_definition, extensions_with_origin-append}
-use Rattle.apollo_meaning.proofs.Items.ItemLemmas.{first-push_undefined, extensions_of-push_unextended}
-use Rattle.apollo_meaning.proofs.Items.ItemLemmas.{folded-push, extensions_of-push_extension}
 
 -- each part has the name
 abbrev pub Own : List ℕ → List TypePart → Type 0

@@ -1,14 +1,13 @@
 -- The components that are dropped from a type of a list, by places, are those that are dropped from its
 -- parts, joined.
-use Rattle.apollo_meaning.proofs.Prelude.{◌≡◌, Bool, true, false, cond, ◌&&◌, List, [], ◌∷◌, ◌++◌, take, Some}
-use Rattle.apollo_meaning.proofs.Prelude.{filter, refl, sym, ap, ◌∙◌, arith, filter_map, flat_map, each_after}
-use Rattle.apollo_meaning.proofs.Prelude.{each_after-start, TypePart, kind_of, key_of, same_kind, ListItem}
-use Rattle.apollo_meaning.proofs.Prelude.{extended_part, same, extensions_of, of_kind, types, Placed}
-use Rattle.apollo_meaning.proofs.Prelude.{extension_places, first_place, Fault, part_faults, same-true}
-use Rattle.apollo_meaning.proofs.Prelude.{is_folded, joined_faults}
+use Rattle.apollo_meaning.proofs as meaning
+use meaning.Prelude.{◌≡◌, Bool, true, false, cond, ◌&&◌, List, [], ◌∷◌, ◌++◌, take, Some, filter, refl, sym}
+use meaning.Prelude.{ap, ◌∙◌, arith, filter_map, flat_map, each_after, each_after-start, TypePart, kind_of}
+use meaning.Prelude.{key_of, same_kind, ListItem, extended_part, same, extensions_of, of_kind, types, Placed}
+use meaning.Prelude.{extension_places, first_place, Fault, part_faults, same-true, is_folded, joined_faults}
+use meaning.Lists.{flat_map-filter}
+use meaning.Order.PlaceLemmas.{placed-after}
 use Rattle.apollo_meaning.specs.Faults.ListFaults.{faults_of_extension, found_of_type}
-use Rattle.apollo_meaning.proofs.Lists.{flat_map-filter}
-use Rattle.apollo_meaning.proofs.Order.PlaceLemmas.{placed-after}
 
 module _ (d : TypePart) where
   -- an extension of the name and of the kind of this definition

@@ -21,6 +21,7 @@ use Rattle.graphql_nodes.specs.OperationTexts.{default_type_text}
 use Rattle.graphql_nodes.specs.declared.operation_type.OperationType.{OperationType}
 use Rattle.graphql_nodes.specs.declared.operation_type.OperationType.TheVariants.{Query, Mutation}
 use Rattle.graphql_nodes.specs.declared.operation_type.OperationType.TheVariants.{Subscription}
+use Rattle.graphql_ast.specs.Parts.{no_parts}
 use Rattle.apollo_types.specs.SchemaDefinitionWriteOut.{default_name}
 use Rattle.apollo_meaning.specs.Items.Parts.{SchemaPart, kind_of, same_kind, Root, roots_in}
 use Rattle.apollo_meaning.specs.Items.ListItems.{ListItem, SchemaDefined}
@@ -47,7 +48,11 @@ implicit_roots xs = flat_map (implicit_root xs) (Query ∷ Mutation ∷ Subscrip
 
 -- a schema definition of roots alone
 abbrev pub schema_of_roots : List Root → SchemaPart
-schema_of_roots roots = record { location = None; description = None; directives = []; roots = roots }
+schema_of_roots roots = record {
+  location = None;
+  description = None;
+  parts = record no_parts { roots = roots };
+}
 
 -- the implied definition with adoption: it is always there, and has the implicit roots only if no extension
 -- of the schema names a root

@@ -1,8 +1,13 @@
 -- What `==` compares of the errors of a build (GraphQL specification of October 2021, section 3): names
 -- without their locations, the locations of what is kept with them.
 use Rattle.graphql_nodes.specs.Comparing.{bare_name}
+use Rattle.graphql_nodes.specs.NameView.{NameView}
 use Rattle.apollo_meaning.specs.declared.build_error.BuildError.{BuildError}
 use Rattle.apollo_meaning.specs.declared.build_error.BuildError.TheVariants as e
+
+-- an error of two names, these without their locations
+abbrev pub bare_names : (NameView → NameView → BuildError) → NameView → NameView → BuildError
+bare_names error kept ty = error (bare_name kept) (bare_name ty)
 
 -- an error of a build, its names without their locations
 abbrev pub bare_build_error : BuildError → BuildError
@@ -19,15 +24,11 @@ bare_build_error (e.TypeExtensionKindMismatch name extension location definition
     e.TypeExtensionKindMismatch (bare_name name) extension location definition
 bare_build_error (e.DuplicateRootOperation previous operation) = e.DuplicateRootOperation previous operation
 bare_build_error (e.DuplicateImplementsInterfaceInObject kept ty) =
-    e.DuplicateImplementsInterfaceInObject (bare_name kept) (bare_name ty)
+    bare_names e.DuplicateImplementsInterfaceInObject kept ty
 bare_build_error (e.DuplicateImplementsInterfaceInInterface kept ty) =
-    e.DuplicateImplementsInterfaceInInterface (bare_name kept) (bare_name ty)
-bare_build_error (e.ObjectFieldNameCollision kept ty) =
-    e.ObjectFieldNameCollision (bare_name kept) (bare_name ty)
-bare_build_error (e.InterfaceFieldNameCollision kept ty) =
-    e.InterfaceFieldNameCollision (bare_name kept) (bare_name ty)
-bare_build_error (e.EnumValueNameCollision kept ty) = e.EnumValueNameCollision (bare_name kept) (bare_name ty)
-bare_build_error (e.UnionMemberNameCollision kept ty) =
-    e.UnionMemberNameCollision (bare_name kept) (bare_name ty)
-bare_build_error (e.InputFieldNameCollision kept ty) =
-    e.InputFieldNameCollision (bare_name kept) (bare_name ty)
+    bare_names e.DuplicateImplementsInterfaceInInterface kept ty
+bare_build_error (e.ObjectFieldNameCollision kept ty) = bare_names e.ObjectFieldNameCollision kept ty
+bare_build_error (e.InterfaceFieldNameCollision kept ty) = bare_names e.InterfaceFieldNameCollision kept ty
+bare_build_error (e.EnumValueNameCollision kept ty) = bare_names e.EnumValueNameCollision kept ty
+bare_build_error (e.UnionMemberNameCollision kept ty) = bare_names e.UnionMemberNameCollision kept ty
+bare_build_error (e.InputFieldNameCollision kept ty) = bare_names e.InputFieldNameCollision kept ty

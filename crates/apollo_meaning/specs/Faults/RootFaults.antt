@@ -48,7 +48,7 @@ dropped_root kept r = (
 
 -- the roots that are dropped where a part joins these parts
 abbrev pub schema_faults : List SchemaPart → SchemaPart → List Fault
-schema_faults parts s = root_faults (roots_in parts) s.roots
+schema_faults parts s = root_faults (roots_in parts) s.parts.roots
 
 -- the fault of a further definition of the schema, with this first one
 abbrev pub further_schema : SchemaPart → SchemaPart → Fault

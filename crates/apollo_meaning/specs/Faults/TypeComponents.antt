@@ -37,13 +37,11 @@ components_of = flat_map part_components
 -- a number for what a collection holds, whatever the kind of the type: interfaces or members, fields, values,
 -- input fields
 abbrev pub what_is_held : Collection → ℕ
-what_is_held c.ObjectInterfaces = 0
-what_is_held c.InterfaceInterfaces = 0
-what_is_held c.UnionMembers = 0
 what_is_held c.ObjectFields = 1
 what_is_held c.InterfaceFields = 1
 what_is_held c.EnumValues = 2
 what_is_held c.InputFields = 3
+what_is_held _ = 0
 
 -- components are the same if both are interfaces, or both fields, and so on, and by the texts of their names
 abbrev pub same_component : TypeComponent → TypeComponent → Bool

@@ -16,7 +16,7 @@
 --
 -- **Orphan.** `orphan`: an extension whose name has no definition in the whole list.
 -- `OrphanTypeExtension`, at the extension's name, with that name. With adoption there is none.
-use Rattle.std.specs.Prelude.{List, [], ◌∷◌, ◌++◌, map, if◌then◌else◌, codes}
+use Rattle.std.specs.Prelude.{List, [], ◌∷◌, ◌++◌, ◌&&◌, map, if◌then◌else◌, codes}
 use Rattle.std.specs.List.{flat_map}
 use Rattle.graphql_nodes.specs.NameView.{NameView}
 use Rattle.graphql_nodes.specs.NodeView.{NodeView}
@@ -98,20 +98,17 @@ joining_fault d parts e = if same_kind (kind_of d) (kind_of e) then part_faults 
 abbrev pub extension_faults : TypePart → List TypePart → TypePart → List Fault
 extension_faults d before e = joining_fault d (d ∷ of_kind (kind_of d) before) e
 
--- the fault of a further definition of a name with this first one
-abbrev pub redefinition : TypePart → TypePart → Fault
-redefinition d e = (e.name.location, errors.TypeDefinitionCollision d.name.location e.name)
-
--- the fault of a further definition of a built-in type; where it defines a scalar it has an error of its own
-abbrev pub built_in_redefinition : TypePart → TypePart → Fault
-built_in_redefinition d e = if same_kind kinds.Scalar (kind_of e)
-    then (e.location, errors.BuiltInScalarTypeRedefinition) else redefinition d e
+-- the fault of a further definition of a name with this first one; a scalar of a built-in type's name has an
+-- error of its own
+abbrev pub further_type : TypePart → TypePart → Fault
+further_type d e =
+    if is_built_in d.location && same_kind kinds.Scalar (kind_of e)
+    then (e.location, errors.BuiltInScalarTypeRedefinition)
+    else (e.name.location, errors.TypeDefinitionCollision d.name.location e.name)
 
 -- what is wrong with a further definition of a name with this first one: nothing if it is ignored
 abbrev pub further_definition : TypePart → TypePart → List Fault
-further_definition d e =
-    if is_built_in d.location then (if e.ignorable then [] else built_in_redefinition d e ∷ [])
-    else redefinition d e ∷ []
+further_definition d e = if is_built_in d.location && e.ignorable then [] else further_type d e ∷ []
 
 -- the fault of an extension of a name without a definition
 abbrev pub orphan : TypePart → Fault

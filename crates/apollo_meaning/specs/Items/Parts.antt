@@ -15,10 +15,10 @@ use Rattle.graphql_nodes.specs.declared.type_kind.TypeKind.{TypeKind}
 use Rattle.graphql_nodes.specs.declared.type_kind.TypeKind.TheVariants.{Scalar, Object, Interface, Union}
 use Rattle.graphql_nodes.specs.declared.type_kind.TypeKind.TheVariants.{Enum, InputObject}
 use Rattle.graphql_nodes.specs.NodeView.{NodeView}
-use Rattle.graphql_ast.specs.Parts.{of_type}
+use Rattle.graphql_ast.specs.Parts.{directed, of_type}
 use Rattle.graphql_ast.specs.declared.declaration.SchemaDeclaration.{SchemaDeclaration}
 use Rattle.graphql_ast.specs.declared.declaration.TypeDeclaration.{TypeDeclaration}
-use Rattle.graphql_ast.specs.declared.directive.Directive.{Directive}
+use Rattle.graphql_ast.specs.declared.directive.DirectiveList.{DirectiveList}
 use Rattle.graphql_ast.specs.declared.parts.Parts.{Parts}
 use Rattle.graphql_ast.specs.declared.type_system.SchemaDefinition.{SchemaDefinition}
 use Rattle.graphql_ast.specs.declared.type_system.SchemaExtension.{SchemaExtension}
@@ -41,12 +41,16 @@ Root = NodeView (OperationType × NameView)
 pub record SchemaPart : Type 0 where
   pub location : Option SourceSpan
   pub description : Option NameView
-  pub directives : List (NodeView Directive)
-  pub roots : List (NodeView (OperationType × NameView))
+  -- what it holds
+  pub parts : Parts
+
+-- these directives and roots
+abbrev pub rooted : DirectiveList → List Root → Parts
+rooted directives roots = record (directed directives) { roots = roots }
 
 -- the roots of these parts, joined
 abbrev pub roots_in : List SchemaPart → List Root
-roots_in = flat_map (λ s. s.roots)
+roots_in = flat_map (λ s. s.parts.roots)
 
 -- a definition or extension of a type
 pub record TypePart : Type 0 where
@@ -76,20 +80,14 @@ type_part t = record {
 
 -- what a declaration says of the schema
 abbrev pub schema_part : SchemaDeclaration → SchemaPart
-schema_part s = record {
-  location = s.location;
-  description = s.description;
-  directives = s.parts.directives;
-  roots = s.parts.roots;
-}
+schema_part s = record { location = s.location; description = s.description; parts = s.parts }
 
 -- what a schema definition says of the schema: description, directives, roots
 abbrev pub schema_definition_part : NodeView SchemaDefinition → SchemaPart
 schema_definition_part n = record {
   location = n.location;
   description = n.value.description;
-  directives = n.value.directives.0;
-  roots = n.value.root_operations;
+  parts = rooted n.value.directives n.value.root_operations;
 }
 
 -- what a schema extension says of the schema: directives, roots
@@ -97,8 +95,7 @@ abbrev pub schema_extension_part : NodeView SchemaExtension → SchemaPart
 schema_extension_part n = record {
   location = n.location;
   description = None;
-  directives = n.value.directives.0;
-  roots = n.value.root_operations;
+  parts = rooted n.value.directives n.value.root_operations;
 }
 
 -- the kind of type that a part defines or extends

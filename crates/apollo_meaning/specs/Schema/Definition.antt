@@ -43,11 +43,11 @@ SourcedSchema = ComponentOrigin × SchemaPart
 
 -- the directives of a part, with their origin
 abbrev pub schema_directives_of : SourcedSchema → List (Component Directive)
-schema_directives_of s = map (component s.0) s.1.directives
+schema_directives_of s = map (component s.0) s.1.parts.directives
 
 -- the roots of a part, under the operations that they are named for
 abbrev pub roots_of : SourcedSchema → List (OperationType × ComponentName)
-roots_of s = map (λ r. (r.value.0, component_name s.0 r.value.1)) s.1.roots
+roots_of s = map (λ r. (r.value.0, component_name s.0 r.value.1)) s.1.parts.roots
 
 -- the first root that these parts name for an operation
 abbrev pub root_in : OperationType → List SourcedSchema → Option ComponentName

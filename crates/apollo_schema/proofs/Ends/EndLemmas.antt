@@ -1,16 +1,16 @@
 -- What the tables of a list end it with is what the list ends with.
-use Rattle.apollo_meaning.proofs.Prelude.{◌≡◌, ℕ, ◌+◌, ◌^◌, ◌≤◌, Bool, cond, List, [], ◌∷◌, ◌++◌, length, map}
-use Rattle.apollo_meaning.proofs.Prelude.{Some, None, is_some, true, refl, sym, ap, subst, ◌∙◌, arith}
-use Rattle.apollo_meaning.proofs.Prelude.{append_assoc, flat_map, lookup, option_map_or, option_or}
-use Rattle.apollo_meaning.proofs.Prelude.{append-nil, NodeView, OperationType, next_number, source_at}
-use Rattle.apollo_meaning.proofs.Prelude.{SchemaDefinition, TypePart, SchemaPart, TypeKind}
-use Rattle.apollo_meaning.proofs.Prelude.{schema_extension_part, kind_of, same_kind, roots_in, ListItem}
-use Rattle.apollo_meaning.proofs.Prelude.{SchemaDefined, extended_parts, first_schema, schema_extensions}
-use Rattle.apollo_meaning.proofs.Prelude.{Sourced, type_of_kind, type_from, AreTypesOf, orphan, schema_orphan}
-use Rattle.apollo_meaning.proofs.Prelude.{further_schema, extended_names, orphans_of, schema_orphans}
-use Rattle.apollo_meaning.proofs.Prelude.{schema_for, implied_schema, schema_begun, schema_begun_faults}
-use Rattle.apollo_meaning.proofs.Prelude.{by_text, schema_of, directive_definitions, AreDirectivesOf, folded}
-use Rattle.apollo_meaning.proofs.Prelude.{found_at, found}
+use Rattle.apollo_meaning.proofs as meaning
+use meaning.Prelude.{◌≡◌, ℕ, ◌+◌, ◌^◌, ◌≤◌, Bool, cond, List, [], ◌∷◌, ◌++◌, length, map, Some, None, is_some}
+use meaning.Prelude.{true, refl, sym, ap, subst, ◌∙◌, arith, append_assoc, flat_map, lookup, option_map_or}
+use meaning.Prelude.{option_or, append-nil, NodeView, OperationType, next_number, source_at, SchemaDefinition}
+use meaning.Prelude.{TypePart, SchemaPart, TypeKind, schema_extension_part, kind_of, same_kind, roots_in}
+use meaning.Prelude.{ListItem, SchemaDefined, extended_parts, first_schema, schema_extensions, Sourced}
+use meaning.Prelude.{type_of_kind, type_from, AreTypesOf, orphan, schema_orphan, further_schema}
+use meaning.Prelude.{extended_names, orphans_of, schema_orphans, schema_for, implied_schema, schema_begun}
+use meaning.Prelude.{schema_begun_faults, by_text, schema_of, directive_definitions, AreDirectivesOf, folded}
+use meaning.Prelude.{found_at, found}
+use meaning.Items.ItemLemmas.{first_schema-push_definition}
+use meaning.Completion.OrphanLemmas.{held-orphans}
 use Rattle.std.specs.Map.{values_of}
 use Rattle.std.proofs.lemmas.List.Folds.{flat_map-map}
 use Rattle.graphql_nodes.specs.declared.type_kind.TypeKind.TheVariants as kinds
@@ -22,8 +22,6 @@ use Rattle.apollo_folding.specs.HeldRoots.{held_root, held_roots}
 use Rattle.apollo_folding.specs.Noting.{noting, having_folded}
 use Rattle.apollo_folding.specs.declared.fold.Fold.{Fold}
 use Rattle.apollo_schema.specs.Stands.{Stands, Ends}
-use Rattle.apollo_meaning.proofs.Items.ItemLemmas.{first_schema-push_definition}
-use Rattle.apollo_meaning.proofs.Completion.OrphanLemmas.{held-orphans}
 use Rattle.apollo_schema.proofs.Stands.SchemaStandsLemmas.{schema_known, schema_unknown, Stands-schema_new}
 use Rattle.apollo_schema.proofs.Stands.SchemaStandsLemmas.{schema_new-spent}
 

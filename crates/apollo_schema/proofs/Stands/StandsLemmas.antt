@@ -1,19 +1,24 @@
 -- Tables that stand for a list stand for it with one more item, once the code has taken the item.
-use Rattle.apollo_meaning.proofs.Prelude.{◌≡◌, ℕ, ◌+◌, ◌^◌, ◌≤◌, Bool, true, false, cond, List, [], ◌∷◌, ◌++◌}
-use Rattle.apollo_meaning.proofs.Prelude.{length, map, Option, Some, None, is_some, refl, sym, ap, subst, ◌∙◌}
-use Rattle.apollo_meaning.proofs.Prelude.{arith, length-append, filter_map, lookup, keys_of, set_value}
-use Rattle.apollo_meaning.proofs.Prelude.{append-nil, map-append, filter_map-append, keys-set_value}
-use Rattle.apollo_meaning.proofs.Prelude.{insert_entry, same_text, same, by_text, Definition, next_number}
-use Rattle.apollo_meaning.proofs.Prelude.{source_at, ExtendedType, TypePart, SchemaPart}
-use Rattle.apollo_meaning.proofs.Prelude.{schema_extension_part, kind_of, key_of, ListItem, Defined, Extended}
-use Rattle.apollo_meaning.proofs.Prelude.{Other, OfType, OfSchema, defined_part, extended_part}
-use Rattle.apollo_meaning.proofs.Prelude.{defined_schema, extended_schema, items_held, first, extensions_of}
-use Rattle.apollo_meaning.proofs.Prelude.{of_kind, Sourced, type_from, extension_part, numbered, parts}
-use Rattle.apollo_meaning.proofs.Prelude.{AreTypesOf, type_kind, directive_definitions, AreDirectivesOf}
-use Rattle.apollo_meaning.proofs.Prelude.{Fault, part_faults, further_definition, other_faults, schema_of}
-use Rattle.apollo_meaning.proofs.Prelude.{schema_orphans, orphans_of, joining_faults, types_folded_at}
-use Rattle.apollo_meaning.proofs.Prelude.{schemas_folded_at, folded_at, folded, found_at, found, waited_at}
-use Rattle.apollo_meaning.proofs.Prelude.{waited, same-true, same-is}
+use Rattle.apollo_meaning.proofs as meaning
+use meaning.Prelude.{◌≡◌, ℕ, ◌+◌, ◌^◌, ◌≤◌, Bool, true, false, cond, List, [], ◌∷◌, ◌++◌, length, map, Option}
+use meaning.Prelude.{Some, None, is_some, refl, sym, ap, subst, ◌∙◌, arith, length-append, filter_map, lookup}
+use meaning.Prelude.{keys_of, set_value, append-nil, map-append, filter_map-append, keys-set_value}
+use meaning.Prelude.{insert_entry, same_text, same, by_text, Definition, next_number, source_at, ExtendedType}
+use meaning.Prelude.{TypePart, SchemaPart, schema_extension_part, kind_of, key_of, ListItem, Defined}
+use meaning.Prelude.{Extended, Other, OfType, OfSchema, defined_part, extended_part, defined_schema}
+use meaning.Prelude.{extended_schema, items_held, first, extensions_of, of_kind, Sourced, type_from}
+use meaning.Prelude.{extension_part, numbered, parts, AreTypesOf, type_kind, directive_definitions}
+use meaning.Prelude.{AreDirectivesOf, Fault, part_faults, further_definition, other_faults, schema_of}
+use meaning.Prelude.{schema_orphans, orphans_of, joining_faults, types_folded_at, schemas_folded_at}
+use meaning.Prelude.{folded_at, folded, found_at, found, waited_at, waited, same-true, same-is}
+use meaning.Items.ItemLemmas.{first-push_undefined, first_schema-push_undefined}
+use meaning.Items.ItemLemmas.{schema_extensions-push_unextended, folded-push, found-push, waited-push}
+use meaning.Schema.SchemaLemmas.{schema_of-same}
+use meaning.Completion.OrphanLemmas.{waited-early, waited-late}
+use meaning.Order.FoldingLemmas.{type_kind-from}
+use meaning.Types.TypeLemmas.{Own, Apart, Own-named, Own-of_kind, Apart-own, types_folded_at-new}
+use meaning.Types.TypeLemmas.{types_folded_at-again, types_folded_at-early, types_folded_at-late}
+use meaning.Types.TypeLemmas.{type_of-same, type_of-more, type_of-new}
 use Rattle.std.proofs.lemmas.List.{length-map}
 use Rattle.apollo_component.specs.declared.extension.ComponentOrigin.TheVariants as origins
 use Rattle.apollo_schema.specs.declared.tables.Tables.{Tables}
@@ -28,18 +33,8 @@ use Rattle.apollo_folding.proofs.NotingLemmas.{noting-none}
 use Rattle.apollo_folding.specs.Joins.{ForFirst}
 use Rattle.apollo_folding.specs.Noting.{noting}
 use Rattle.apollo_folding.specs.declared.fold.Fold.{Fold}
-use Rattle.apollo_meaning.proofs.Items.ItemLemmas.{first-push_undefined, first_schema-push_undefined}
-use Rattle.apollo_meaning.proofs.Items.ItemLemmas.{schema_extensions-push_unextended, folded-push, found-push}
-use Rattle.apollo_meaning.proofs.Items.ItemLemmas.{waited-push}
-use Rattle.apollo_meaning.proofs.Schema.SchemaLemmas.{schema_of-same}
 use Rattle.apollo_schema.proofs.Stands.FaultLemmas.{found_at-new, found_at-again, found_at-early}
 use Rattle.apollo_schema.proofs.Stands.FaultLemmas.{found_at-late, parts-forget}
-use Rattle.apollo_meaning.proofs.Completion.OrphanLemmas.{waited-early, waited-late}
-use Rattle.apollo_meaning.proofs.Order.FoldingLemmas.{type_kind-from}
-use Rattle.apollo_meaning.proofs.Types.TypeLemmas.{Own, Apart, Own-named, Own-of_kind, Apart-own}
-use Rattle.apollo_meaning.proofs.Types.TypeLemmas.{types_folded_at-new, types_folded_at-again}
-use Rattle.apollo_meaning.proofs.Types.TypeLemmas.{types_folded_at-early, types_folded_at-late, type_of-same}
-use Rattle.apollo_meaning.proofs.Types.TypeLemmas.{type_of-more, type_of-new}
 use Rattle.apollo_schema.proofs.Stands.WaitingLemmas.{orphans_of-undefined, type_names-new, type_names-again}
 use Rattle.apollo_schema.proofs.Stands.WaitingLemmas.{type_names-undefined, first-again, first-other}
 use Rattle.apollo_schema.proofs.Stands.WaitingLemmas.{first-own, orphans_of-new, orphans_of-again}

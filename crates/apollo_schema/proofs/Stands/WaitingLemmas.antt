@@ -1,16 +1,14 @@
 -- The names and the waiting extensions of a list with one more item.
-use Rattle.apollo_meaning.proofs.Prelude.{arith, ◌≡◌, ℕ, true, false, cond, List, [], ◌∷◌, ◌++◌, Some, None}
-use Rattle.apollo_meaning.proofs.Prelude.{is_some, refl, sym, ◌∙◌, IsEquivalence, on_equiv, nat_list_eq_equiv}
-use Rattle.apollo_meaning.proofs.Prelude.{append-nil, map-append, same_key, is_some-lookup}
-use Rattle.apollo_meaning.proofs.Prelude.{first_of_each-push_new, first_of_each-push_old, TypePart, key_of}
-use Rattle.apollo_meaning.proofs.Prelude.{ListItem, Defined, Extended, defined_part, extended_part, same}
-use Rattle.apollo_meaning.proofs.Prelude.{first, extensions_of, type_names, orphans_of, same-true, same-is}
-use Rattle.apollo_meaning.proofs.Prelude.{or-none}
+use Rattle.apollo_meaning.proofs as meaning
+use meaning.Prelude.{arith, ◌≡◌, ℕ, true, false, cond, List, [], ◌∷◌, ◌++◌, Some, None, is_some, refl, sym}
+use meaning.Prelude.{◌∙◌, IsEquivalence, on_equiv, nat_list_eq_equiv, append-nil, map-append, same_key}
+use meaning.Prelude.{is_some-lookup, first_of_each-push_new, first_of_each-push_old, TypePart, key_of}
+use meaning.Prelude.{ListItem, Defined, Extended, defined_part, extended_part, same, first, extensions_of}
+use meaning.Prelude.{type_names, orphans_of, same-true, same-is, or-none}
+use meaning.Items.ItemLemmas.{definitions-push_definition, definitions-push_undefined, first-push_definition}
+use meaning.Items.ItemLemmas.{first-push_undefined, extensions_of-push_extension}
+use meaning.Items.ItemLemmas.{extensions_of-push_unextended}
 use Rattle.apollo_meaning.specs.Items.Named.{definitions}
-use Rattle.apollo_meaning.proofs.Items.ItemLemmas.{definitions-push_definition, definitions-push_undefined}
-use Rattle.apollo_meaning.proofs.Items.ItemLemmas.{first-push_definition, first-push_undefined}
-use Rattle.apollo_meaning.proofs.Items.ItemLemmas.{extensions_of-push_extension}
-use Rattle.apollo_meaning.proofs.Items.ItemLemmas.{extensions_of-push_unextended}
 
 by_key : IsEquivalence (same_key {V = TypePart} same)
 by_key = on_equiv (λ e. e.0) nat_list_eq_equiv

@@ -1,9 +1,9 @@
 //! Types by name, and references to types: GraphQL specification of October 2021, section 3.4.
 ghost use Rattle.std.specs.Prelude.{◌≡◌};
 ghost use Rattle.std.specs.Option.{option_copied};
-ghost use Rattle.apollo_types.specs.TypeKinds.{is_input_type, is_output_type};
-ghost use Rattle.apollo_schema.specs.Lookups.{type_at, scalar_node, object_node, interface_node, union_node};
-ghost use Rattle.apollo_schema.specs.Lookups.{enum_node, input_object_node, refers_to};
+ghost use Rattle.apollo_types.specs.TypeKinds.{as_scalar, as_object, as_interface, as_union, as_enum};
+ghost use Rattle.apollo_types.specs.TypeKinds.{as_input_object, is_input_type, is_output_type};
+ghost use Rattle.apollo_schema.specs.Lookups.{type_at, node_if, refers_to};
 
 use super::Schema;
 use apollo_types::enum_type::EnumType;
@@ -20,7 +20,7 @@ use graphql_nodes::node::Node;
 impl Schema {
     /// The scalar type of this name, if the name's type is one.
     pub fn get_scalar(&self, name: &Name) -> Option<&Node<ScalarType>>
-        ensures { option_copied result ≡ scalar_node (type_at self.now.types name.now) }
+        ensures { option_copied result ≡ node_if as_scalar (type_at self.now.types name.now) }
     {
         match self.types.get(name) {
             Some(ExtendedType::Scalar(node)) => Some(node),
@@ -30,7 +30,7 @@ impl Schema {
 
     /// The object type of this name, if the name's type is one.
     pub fn get_object(&self, name: &Name) -> Option<&Node<ObjectType>>
-        ensures { option_copied result ≡ object_node (type_at self.now.types name.now) }
+        ensures { option_copied result ≡ node_if as_object (type_at self.now.types name.now) }
     {
         match self.types.get(name) {
             Some(ExtendedType::Object(node)) => Some(node),
@@ -40,7 +40,7 @@ impl Schema {
 
     /// The interface type of this name, if the name's type is one.
     pub fn get_interface(&self, name: &Name) -> Option<&Node<InterfaceType>>
-        ensures { option_copied result ≡ interface_node (type_at self.now.types name.now) }
+        ensures { option_copied result ≡ node_if as_interface (type_at self.now.types name.now) }
     {
         match self.types.get(name) {
             Some(ExtendedType::Interface(node)) => Some(node),
@@ -50,7 +50,7 @@ impl Schema {
 
     /// The union type of this name, if the name's type is one.
     pub fn get_union(&self, name: &Name) -> Option<&Node<UnionType>>
-        ensures { option_copied result ≡ union_node (type_at self.now.types name.now) }
+        ensures { option_copied result ≡ node_if as_union (type_at self.now.types name.now) }
     {
         match self.types.get(name) {
             Some(ExtendedType::Union(node)) => Some(node),
@@ -60,7 +60,7 @@ impl Schema {
 
     /// The enum type of this name, if the name's type is one.
     pub fn get_enum(&self, name: &Name) -> Option<&Node<EnumType>>
-        ensures { option_copied result ≡ enum_node (type_at self.now.types name.now) }
+        ensures { option_copied result ≡ node_if as_enum (type_at self.now.types name.now) }
     {
         match self.types.get(name) {
             Some(ExtendedType::Enum(node)) => Some(node),
@@ -70,7 +70,7 @@ impl Schema {
 
     /// The input object type of this name, if the name's type is one.
     pub fn get_input_object(&self, name: &Name) -> Option<&Node<InputObjectType>>
-        ensures { option_copied result ≡ input_object_node (type_at self.now.types name.now) }
+        ensures { option_copied result ≡ node_if as_input_object (type_at self.now.types name.now) }
     {
         match self.types.get(name) {
             Some(ExtendedType::InputObject(node)) => Some(node),

@@ -196,8 +196,7 @@ abbrev pub schema_extension_of : ExtensionId × Parts → SchemaPart
 schema_extension_of e = record {
   location = extension_location e.0;
   description = None;
-  directives = e.1.directives;
-  roots = e.1.roots;
+  parts = of_schema e.1;
 }
 
 abbrev pub written_extensions : SchemaDefinition → List SchemaPart
@@ -213,11 +212,14 @@ pub root-made : (head : SchemaPart) (es : List (ℕ × SchemaPart)) (op : Operat
 root-made head es Query = refl
 root-made head es op = refl
 
+-- what a part of the schema holds
+abbrev pub schema_held : SchemaPart → Parts
+schema_held s = of_schema s.parts
+
 -- the part has what is written of the definition
 pub record IsWrittenHead (d : SchemaDefinition) (head : SchemaPart) : Type 0 where
   pub description : head.description ≡ d.description
-  pub directives : head.directives ≡ (written_parts_of d).definition.directives
-  pub roots : head.roots ≡ (written_parts_of d).definition.roots
+  pub parts : schema_held head ≡ (written_parts_of d).definition
 
 -- another schema definition has the same parts and says the same
 pub record IsSchemaAgain (d u : SchemaDefinition) : Type 0 where
@@ -247,15 +249,11 @@ equal-again d u a = λ i. record {
         → option_map bare_component_name (root_of u op) ≡ option_map bare_component_name (root_of d op)
     root op = simp option_map-twice at (ap (option_map bare_name) (a.roots op))
 
--- what a part of the schema holds
-abbrev pub schema_held : SchemaPart → Parts
-schema_held s = record no_parts { directives = s.directives; roots = s.roots }
-
 -- the directives stand in the order of the definition and the extensions
 pub directives-in_parts : (head : SchemaPart) (es : List (ℕ × SchemaPart))
     → map node_with_origin (flat_map schema_directives_of ((Definition, head) ∷ map schema_extension_source
     es)) ≡ joined (λ d. d.directives) (with_origins (parts_from (λ s. s.location) schema_held head es))
-directives-in_parts head es = nodes-shown (λ (s : SchemaPart). s.directives) ((Definition, head)
+directives-in_parts head es = nodes-shown (λ (s : SchemaPart). s.parts.directives) ((Definition, head)
     ∷ map schema_extension_source es) ∙ shown-parts _ schema_held (λ d. d.directives) head es
 
 perm-entries : (op : OperationType) (n : Option ComponentName) (ys : List Root)
@@ -289,12 +287,8 @@ module _ (d : SchemaDefinition) (m : IsMadeBy made_schema d) (head : SchemaPart)
   same_exts : map (λ e. e.1) p.extensions ≡ map (λ e. e.1) (written_parts_of d).extensions
   same_exts = same-located (λ w. w.1) p.extensions (written_parts_of d).extensions placed_there
 
-  definition_there : p.definition ≡ (written_parts_of d).definition
-  definition_there = (λ i. record no_parts { directives = h.directives i; roots = h.roots i })
-      ∙ (schema-row d Definition).own
-
   same_definition : p.definition ≡ of_origin Definition (in_sections s)
-  same_definition = simp (definition_there, schema-components)
+  same_definition = simp (h.parts, schema-components)
 
   same_parts : map (λ e. e.1) p.extensions ≡ map (λ e. e.1) (of_extensions (in_sections s))
   same_parts = simp (same_exts, schema-components)
@@ -302,7 +296,8 @@ module _ (d : SchemaDefinition) (m : IsMadeBy made_schema d) (head : SchemaPart)
   roots-listed : flat_map roots_of ((Definition, head) ∷ map schema_extension_source es)
       ≡ map named_entry (joined (λ d. d.roots) (with_origins p))
   roots-listed = simp (
-    made-shown root_under (λ (s : SchemaPart). s.roots) ((Definition, head) ∷ map schema_extension_source es),
+    made-shown root_under (λ (s : SchemaPart). s.parts.roots)
+        ((Definition, head) ∷ map schema_extension_source es),
     shown-parts (λ (s : SchemaPart). s.location) schema_held (λ d. d.roots) head es,
   )
 
@@ -336,7 +331,7 @@ module _ (d : SchemaDefinition) (m : IsMadeBy made_schema d) (head : SchemaPart)
   rows-again : written_parts_of u ≡ p
   rows-again = ap by_origin (schema-components u ∙ ap in_sections (λ i s. sections-again s i))
       ∙ schema-parts_again p (parts-distinct _ schema_held head es apart)
-      (subst IsSchemaRow (sym definition_there) (schema-row d Definition)) (each-from_map IsSchemaRow _
+      (subst IsSchemaRow (sym h.parts) (schema-row d Definition)) (each-from_map IsSchemaRow _
       p.extensions (subst (AllByRecursion IsSchemaRow) (sym same_exts)
       (each-map IsSchemaRow _ (written_parts_of d).extensions each-row)))
       (ap (in_order schema_sorts) same_exts ∙ schema-in_order d)
@@ -344,7 +339,7 @@ module _ (d : SchemaDefinition) (m : IsMadeBy made_schema d) (head : SchemaPart)
   pub schema-again : IsSchemaAgain d u
   schema-again = record {
     description = h.description;
-    definition = ap (λ q. q.definition) rows-again ∙ definition_there;
+    definition = ap (λ q. q.definition) rows-again ∙ h.parts;
     extensions = ap (λ q. placed q.extensions) rows-again ∙ placed_there;
     directives = nodes u.directives.0 ∙ ap (map (λ x. x.1)) (directives-in_parts head es)
         ∙ (directives-in_order s (parts_from (λ s. s.location) schema_held m.head m.extensions) p

@@ -17,7 +17,6 @@ use Rattle.apollo_schema_laws.proofs.Rearranged.Words.{is_handed_in, last_or}
 use Rattle.std.proofs.lemmas.Option.{slice_get-map}
 use Rattle.graphql_nodes.specs.Comparing.{bare_name, bare_node}
 use Rattle.graphql_nodes.specs.declared.source.SourceSpan.{SourceSpan}
-use Rattle.graphql_ast.specs.Bare.{bare_directive}
 use Rattle.graphql_ast.specs.BareDeclarations.{bare_parts}
 use Rattle.graphql_ast.specs.BareDocuments.{bare_definition}
 use Rattle.graphql_ast.specs.BareTypeSystem.{bare_directive_definition, bare_root_operation}
@@ -68,8 +67,7 @@ module _ (marks : Bool) where
   unplaced_schema_part s = record {
     location = cond marks (mark s.location) None;
     description = option_map bare_name s.description;
-    directives = map (bare_node bare_directive) s.directives;
-    roots = map (bare_node bare_root_operation) s.roots;
+    parts = bare_parts s.parts;
   }
 
   -- what a definition says

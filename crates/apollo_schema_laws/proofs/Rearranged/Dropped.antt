@@ -22,7 +22,8 @@ use Rattle.apollo_meaning.proofs.Order.PlaceLemmas.{first-forget, first-none, fi
 use Rattle.apollo_meaning.proofs.Order.PlaceLemmas.{first_place-push, first_schema-none, first_schema-some}
 use Rattle.apollo_schema_laws.specs.Dropped.{after_first, Dropped, executable_fault, first_before}
 use Rattle.apollo_schema_laws.specs.Dropped.{further_directive, further_directives, further_schemas}
-use Rattle.apollo_schema_laws.specs.Dropped.{further_type, further_types, handed_in, is_passed_over}
+use Rattle.apollo_schema_laws.specs.Dropped.{further_types, handed_in, is_passed_over}
+use Rattle.apollo_meaning.specs.Faults.TypeFaults.{further_type}
 use Rattle.apollo_schema_laws.specs.Dropped.{orphans_by_name, undefined_places}
 use Rattle.graphql_ast.specs.declared.definition.Definition.TheVariants as ast
 use Rattle.apollo_schema_laws.specs.Reported.{Executable, FurtherDirective, FurtherSchema, FurtherType}

@@ -108,8 +108,8 @@ roots-of = each_after-always root_fault _ (λ before r. one-of RepeatedRoot _ (�
 
 -- and so they are where definitions and extensions of the schema join one after another
 begun-of : (s : SchemaPart) (es : List SchemaPart) → AllOf RepeatedRoot (schema_begun_faults s es)
-begun-of s es = each-append _ _ _ (roots-of [] s.roots) (each_after-always schema_faults _
-    (λ parts e. roots-of _ e.roots) (s ∷ []) es)
+begun-of s es = each-append _ _ _ (roots-of [] s.parts.roots) (each_after-always schema_faults _
+    (λ parts e. roots-of _ e.parts.roots) (s ∷ []) es)
 
 -- the fault of a further definition is of its own sort
 further-of : (d e : TypePart) → AllOf FurtherType (further_definition d e)
@@ -237,7 +237,7 @@ found_at-is before (SchemaDefined s) = defined-at (SchemaDefined s) refl (λ f. 
     ∷ []) (first_schema before) _ (falls before (SchemaDefined s))
     (from _ _ (begun-of s (schema_extensions before)))
 found_at-is before (SchemaExtended e) = extended-at (SchemaExtended e) refl _ (first_schema before)
-    (λ s. from _ _ (roots-of _ e.roots))
+    (λ s. from _ _ (roots-of _ e.parts.roots))
 found_at-is before (Other d) = Falls (falls before (Other d)) refl
 
 -- nothing that is dropped from a subject is found at an item of another one

@@ -97,10 +97,10 @@ bare_root r = (r.0, bare_component_name r.1)
 -- the first root that parts name for an operation, and their directives
 abbrev plain_root : OperationType → List SchemaPart → Option NameView
 plain_root op ps = option_map (λ r. r.1) (find (λ r. same_operation op r.0)
-    (flat_map (λ s. map (λ r. r.value) s.roots) ps))
+    (flat_map (λ s. map (λ r. r.value) s.parts.roots) ps))
 
 abbrev plain_schema_directives : List SchemaPart → List Directive
-plain_schema_directives = flat_map (λ s. map (λ d. d.value) s.directives)
+plain_schema_directives = flat_map (λ s. map (λ d. d.value) s.parts.directives)
 
 -- they are what is compared of the root and the directives that the parts are joined to
 find-root : (op : OperationType) (rs : List (OperationType × ComponentName))

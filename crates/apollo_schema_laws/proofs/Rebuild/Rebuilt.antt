@@ -8,11 +8,11 @@ pub use laws.Words.{is_implied, adopting_schema, implicit_roots, IsPermutation-a
 pub use laws.Words.{DirectiveNamed, faults_in, further_schema, found, drop, bare_directive_definition}
 pub use laws.Words.{entries_from_lookups, AreOf, MeansSchema, write_held_type, write_schema, type_of}
 pub use laws.Words.{faults_of, each-append, or-none, adopted_by, orphans_of, with_adopted, is_object_name}
-use laws.Words.{IsDistinct}
+use laws.Words.{IsDistinct, Definition, no_parts}
 pub use laws.Definitions.{equal-again, implied-unwritten, left-out, left-out-equal, left-out-written}
 pub use laws.Definitions.{IsWrittenHead, extension_written, schema-again, IsMeantSchema, first_schema-append}
 pub use laws.Definitions.{meant-schema, node-of, schema_node, schema_numbers-parts, SameImplied, no-own}
-pub use laws.Definitions.{written-alike, roots_where, implied-distinct}
+pub use laws.Definitions.{written-alike, roots_where, implied-distinct, schema-row}
 pub use laws.Lists.{distinct-filter, flat_map-none}
 pub use laws.Types.{schema_numbers, schema_numbers-rise, once-in_parts, once}
 pub use laws.Items.{faultless-by_topic, type-faultless, chosen-implied}
@@ -181,7 +181,7 @@ module _ (schema : Schema) (list : IsMeantByList schema) (c : Bool) where
       defined s e = ap (λ o. option_map_or (λ _. []) o (schema_extensions zs)) e
 
       at : is_written types d ≡ false → (s : SchemaPart) → ends ≡ SchemaDefined s ∷ []
-          → IsDistinct same_root (s.roots ++ roots_in exts)
+          → IsDistinct same_root (s.parts.roots ++ roots_in exts)
           → (each_after found_at ys ends ≡ []) × (schema_orphans zs ≡ [])
       at e s is d = (
         ap (each_after found_at ys) is ∙ append-nil _
@@ -306,8 +306,10 @@ module _ (schema : Schema) (list : IsMeantByList schema) (c : Bool) where
           written-head : (rs : List Root) → rs ≡ [] → IsWrittenHead d (schema_of_roots rs)
           written-head rs empty = record {
             description = sym (m.description own);
-            directives = sym (m.directives own);
-            roots = empty ∙ sym (no-own d own);
+            parts = (λ i. record no_parts {
+              directives = sym (m.directives own) i;
+              roots = (empty ∙ sym (no-own d own)) i;
+            }) ∙ (schema-row d Definition).own;
           }
 
           unwritten : {A : Type 0} → is_written types d ≡ true → A
@@ -316,7 +318,7 @@ module _ (schema : Schema) (list : IsMeantByList schema) (c : Bool) where
     -- the schema definition is equal and written out alike
     same_definition : Same (schema_node again zs)
     same_definition = bool_cases _ (λ e. from-head head (first-written e)
-        (record { description = refl; directives = refl; roots = refl }) (λ _. refl))
+        (record { description = refl; parts = (schema-row d Definition).own }) (λ _. refl))
         (λ e. bool_cases _ (where-left-out e) (where-extended e))
 
     same_directives : (keys_of rebuilt.directive_definitions ≡ keys_of schema.directive_definitions)

@@ -57,9 +57,9 @@ module _ (P : SourcedPart → Type 0) where
 
   -- the schema's definition
   module _ (ps : List SourcedSchema)
-      (a : AllByRecursion (λ q. AllByRecursion (λ d. P (q.0, part_of Directives d)) q.1.directives) ps)
-      (b : AllByRecursion (λ q. AllByRecursion (λ r. Roots-hold (component_name q.0 r.value.1)) q.1.roots)
-      ps) where
+      (a : AllByRecursion (λ q. AllByRecursion (λ d. P (q.0, part_of Directives d)) q.1.parts.directives) ps)
+      (b : AllByRecursion (λ q. AllByRecursion (λ r. Roots-hold (component_name q.0 r.value.1))
+      q.1.parts.roots) ps) where
     -- the first of an operation, if there is one, and the rest
     root : (op : OperationType) (rest : List (OperationType × ComponentName))
         → AllByRecursion (λ r. P (of_root r)) rest
@@ -90,4 +90,5 @@ module _ (P : ComponentOrigin → Type 0) where
   pub each-of_schema : (ps : List SourcedSchema) → AllByRecursion (λ s. P s.0) ps → (head : SchemaPart)
       → AllByRecursion (λ c. P c.0) (schema_components (schema_definition_of head ps))
   each-of_schema ps a =
-      schema-made _ ps (each-from _ ps a) (each-weaken _ _ (λ s h. each-of _ (λ _ op. h) s.1.roots) ps a)
+      schema-made _ ps (each-from _ ps a)
+      (each-weaken _ _ (λ s h. each-of _ (λ _ op. h) s.1.parts.roots) ps a)

@@ -1,5 +1,6 @@
 use Rattle.apollo_meaning.proofs.Prelude.{◌≡◌, ◌==◌, true, false, None, [], ◌∷◌, length, sym, ap, ◌∙◌, rules}
 use Rattle.apollo_meaning.proofs.Prelude.{SchemaPart, schema_definition_part, SchemaDefined}
+use Rattle.graphql_ast.specs.Parts.{no_parts}
 use Rattle.apollo_meaning.specs.Completion.ImpliedSchema.{schema_of_roots}
 use Rattle.apollo_folding.specs.HeldRoots.{held_roots}
 use Rattle.apollo_folding.proofs.CompletionLemmas.{implied-adopting, implied-some}
@@ -14,7 +15,11 @@ returns c =
     let implicit = held_roots c.args.types.now in
     let made : schema_definition_part c.in_ok-new.field-0 ≡ schema_of_roots roots =
     ap schema_definition_part c.in_ok-new.ensures
-    ∙ λ i. record { location = None; description = None; directives = c.new.ensures i; roots = roots } in
+    ∙ λ i. record {
+      location = None;
+      description = None;
+      parts = record no_parts { directives = c.new.ensures i; roots = roots };
+    } in
     ap (λ (s : SchemaPart). SchemaDefined s ∷ []) made ∙ elim c.else-not-adopts.branch [
       | else-not-adopts-via-then-not-adopts+else-is_empty w ↦
           let some : (length roots == 0) ≡ false = sym w.is_empty.ensures ∙ w.if-is_empty.false in

@@ -24,8 +24,8 @@ folded-longer adopts xs more =
     (added_items xs) (added_items more) in
     omega (arith, front, folded-completed adopts (added_items xs ++ added_items more)))
 
-pub returns-clause-folds : goal.returns-clause-folds
-returns-clause-folds c = folded-longer
-
-pub returns-clause-spends : goal.returns-clause-spends
-returns-clause-spends c = λ start adopts xs more spent. omega (arith, spent, folded-longer adopts xs more)
+pub returns : goal.returns
+returns c = record {
+  folds = folded-longer;
+  spends = λ start adopts xs more spent. omega (arith, spent, folded-longer adopts xs more);
+}

@@ -21,6 +21,7 @@ pub use laws.Items.{directives-about, first_schema-about, is_about, schema_exten
 pub use laws.Items.{by_implied, items, distinct-front, new-after, none-added, none-made, items-split}
 pub use laws.Sections.{joined-values, written-keeps}
 pub use Rattle.graphql_ast.specs.Parts.{Roots}
+use Rattle.graphql_ast.specs.Parts.{of_schema}
 pub use Rattle.apollo_meaning.proofs.Faults.DroppedLemmas.{same_root_laws}
 use Rattle.graphql_nodes.specs.declared.type_kind.TypeKind.TheVariants as kinds
 use Rattle.graphql_ast.specs.declared.definition.Definition.TheVariants as ast
@@ -54,8 +55,7 @@ abbrev pub written_head : SchemaDefinition → Option SourceSpan → SchemaPart
 written_head d location = record {
   location = location;
   description = d.description;
-  directives = (written_parts_of d).definition.directives;
-  roots = (written_parts_of d).definition.roots;
+  parts = of_schema (written_parts_of d).definition;
 }
 
 module _ (c : Bool) (d : SchemaDefinition) (location : Option SourceSpan)
@@ -206,8 +206,8 @@ roots-none = none-added root_fault (IsDistinct same_root) (λ done r rest d. ap 
 schema-none : (ps : List SchemaPart) (p : SchemaPart) (rest : List SchemaPart)
     → IsDistinct same_root (roots_in (ps ++ p ∷ rest)) → schema_faults ps p ≡ []
 schema-none ps p rest d =
-    roots-none _ p.roots (distinct-front same_root _ _ (subst (IsDistinct same_root) (flat_map-append _ ps _
-    ∙ sym (append_assoc _ p.roots _)) d))
+    roots-none _ p.parts.roots (distinct-front same_root _ _ (subst (IsDistinct same_root)
+    (flat_map-append _ ps _ ∙ sym (append_assoc _ p.parts.roots _)) d))
 
 -- extensions that join a definition
 pub joining-none : (parts es : List SchemaPart) → IsDistinct same_root (roots_in (parts ++ es))

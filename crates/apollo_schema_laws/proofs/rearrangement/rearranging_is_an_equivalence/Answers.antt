@@ -2,11 +2,5 @@ use Rattle.apollo_schema_laws.proofs.Rearranged.Found.{rearranged-refl, rearrang
 use Rattle.apollo_schema_laws.proofs.Rearranged.Found.{rearranged-trans}
 use Rattle.apollo_schema_laws.proofs.rearrangement.rearranging_is_an_equivalence.Goals as goal
 
-pub returns-clause-itself : goal.returns-clause-itself
-returns-clause-itself c = rearranged-refl
-
-pub returns-clause-back : goal.returns-clause-back
-returns-clause-back c = rearranged-sym
-
-pub returns-clause-twice : goal.returns-clause-twice
-returns-clause-twice c = rearranged-trans
+pub returns : goal.returns
+returns c = record { itself = rearranged-refl; back = rearranged-sym; twice = rearranged-trans }

@@ -3,8 +3,8 @@ use Rattle.apollo_schema_laws.specs.Reported.{OtherKind}
 use Rattle.apollo_schema_laws.proofs.Rearranged.Sorts.{no-type, reported-others}
 use Rattle.apollo_schema_laws.proofs.rearrangement.reported_mismatches_are_the_extensions_of_another_kind.Goals as goal
 
-pub returns-clause-dropped : goal.returns-clause-dropped
-returns-clause-dropped c = reported-others
-
-pub returns-clause-none : goal.returns-clause-none
-returns-clause-none c = λ adopts xs n. no-type (OtherKind n) refl adopts xs n refl
+pub returns : goal.returns
+returns c = record {
+  dropped = reported-others;
+  none = λ adopts xs n. no-type (OtherKind n) refl adopts xs n refl;
+}

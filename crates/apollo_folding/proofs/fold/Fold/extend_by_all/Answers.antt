@@ -1,11 +1,13 @@
-use Rattle.apollo_meaning.proofs.Prelude.{◌≡◌, ℕ, ◌+◌, [], ◌∷◌, ◌++◌, map, length, take, sym, ap, ◌∙◌}
-use Rattle.apollo_meaning.proofs.Prelude.{append_assoc, arith, length-append, TypeKind, next_number}
+use Rattle.apollo_meaning.proofs.Prelude.{◌≡◌, ℕ, ◌+◌, [], ◌∷◌, ◌++◌, map, length, take, ap, ◌∙◌}
+use Rattle.apollo_meaning.proofs.Prelude.{arith, length-append, TypeKind, TypePart, next_number}
 use Rattle.apollo_meaning.proofs.Prelude.{source_at, extended_parts, kind_of, of_kind, type_from}
 use Rattle.apollo_meaning.proofs.Prelude.{extension_part, numbered, joining_faults, type_kind}
-use Rattle.apollo_meaning.proofs.Order.FoldingLemmas.{numbered-more, of_kind-turn, of_kind-past}
+use Rattle.apollo_meaning.proofs.Order.FoldingLemmas.{of_kind-turn, of_kind-past}
 use Rattle.apollo_meaning.proofs.Order.FoldingLemmas.{type_kind-from}
-use Rattle.apollo_folding.proofs.JoiningLemmas.{parts-numbered, joining-turn}
+use Rattle.apollo_folding.proofs.JoiningLemmas.{found-turn, joined-turn, joining-turn}
 use Rattle.apollo_folding.proofs.RefusalLemmas.{RefusedAs-through}
+use Rattle.apollo_component.specs.Extensions.{extension_id}
+use Rattle.apollo_component.specs.declared.extension.ComponentOrigin.TheVariants.{Extension}
 use Rattle.apollo_folding.proofs.fold.Fold.extend_by_all.Goals as goal
 
 pub loop-extension-preserved : goal.loop-extension-preserved
@@ -15,6 +17,7 @@ loop-extension-preserved c =
     let x = c.extension-item.result in
     let start = next_number c.args.self.now.ids in
     let k = type_kind c.args.ty.now in
+    let origin = λ (e : ℕ × TypePart). Extension (extension_id e.0 e.1.location) in
     let before = λ (k : TypeKind). of_kind k (extended_parts (take i xs)) in
     let these = λ (k : TypeKind). of_kind k (extended_parts (x ∷ [])) in
     let was = c.loop-extension.invariant in
@@ -25,22 +28,15 @@ loop-extension-preserved c =
       folded = λ head done h.
           let kinds : k ≡ kind_of head = ap type_kind h ∙ type_kind-from head done in
           now.folded head (done ++ map extension_part (numbered start (before (kind_of head))))
-          (was.folded head done h) ∙ ap (λ (n : ℕ). type_from head
-          ((done ++ map extension_part (numbered start (before (kind_of head)))) ++ map extension_part
-          (numbered n (these (kind_of head))))) (at ∙ ap (λ k. start + length (before k)) kinds)
-          ∙ ap (type_from head) (sym (numbered-more done start (before (kind_of head)) (these (kind_of head)))
-          ∙ ap (λ l. done ++ map extension_part (numbered start l)) (sym (turn (kind_of head))));
+          (was.folded head done h)
+          ∙ joined-turn origin done start (before (kind_of head)) (type_from head) _ (these (kind_of head)) _
+          (at ∙ ap (λ k. start + length (before k)) kinds) (turn (kind_of head));
       faults = λ head done h.
-          let base = map (λ s. s.1) done in
-          let early = extended_parts (take i xs) in
-          let this = extended_parts (x ∷ []) in
-          let faults = c.args.self.now.faults in
           now.faults head (done ++ map extension_part (numbered start (before (kind_of head))))
-          (was.folded head done h) ∙ (λ i. was.faults head done h i ++ joining_faults head
-          (parts-numbered done start (before (kind_of head)) i) this)
-          ∙ append_assoc faults (joining_faults head base early)
-          (joining_faults head (base ++ before (kind_of head)) this)
-          ∙ ap (λ l. faults ++ l) (sym (joining-turn head base xs i x (omega arith) c.extension-item.is));
+          (was.folded head done h)
+          ∙ found-turn origin done start (before (kind_of head)) (λ parts. joining_faults head parts
+          (extended_parts (x ∷ []))) _ _ _ _ (was.faults head done h)
+          (joining-turn head (map (λ s. s.1) done) xs i x (omega arith) c.extension-item.is);
       kind = now.kind ∙ was.kind;
       next =
           let kinds : type_kind c.loop-extension.ty ≡ k = was.kind in

@@ -7,8 +7,8 @@ use Rattle.apollo_folding.proofs.fold.Fold.extend_schema.Goals as goal
 pub returns-clause-folded : goal.returns-clause-folded
 returns-clause-folded c = λ head done was.
     let part = schema_extension_part c.args.extension.now in
-    let directives : part.directives ≡ c.as_slice.result.now = cc in
-    let roots : part.roots ≡ c.as_slice-2.result.now = cc in
+    let directives : part.parts.directives ≡ c.as_slice.result.now = cc in
+    let roots : part.parts.roots ≡ c.as_slice-2.result.now = cc in
     let ok : IsOk c.make_mut.result = search rules in
     let lent : c.make_mut.follows.lender c.fold_schema.new.definition
     ≡ record { value = c.fold_schema.new.definition; location = c.args.node.now.location } =
@@ -23,6 +23,6 @@ returns-clause-folded c = λ head done was.
 pub returns-clause-faults : goal.returns-clause-faults
 returns-clause-faults c = λ head done was.
     let part = schema_extension_part c.args.extension.now in
-    let roots : part.roots ≡ c.as_slice-2.result.now = cc in
+    let roots : part.parts.roots ≡ c.as_slice-2.result.now = cc in
     c.in_ok-fold_schema.ensures.faults head part done roots (c.in_ok-make_mut.ensures.value
     ∙ ap (λ (n : NodeView SchemaDefinition). n.value) was)

@@ -18,8 +18,8 @@ pub returns-clause-made : goal.returns-clause-made
 returns-clause-made c =
     let n = c.args.node.now in
     let head = schema_definition_part n in
-    let directives : head.directives ≡ c.as_slice.result.now = cc in
-    let roots : head.roots ≡ c.as_slice-2.result.now = cc in
+    let directives : head.parts.directives ≡ c.as_slice.result.now = cc in
+    let roots : head.parts.roots ≡ c.as_slice-2.result.now = cc in
     let folded : c.fold_schema.new.definition ≡ schema_definition_of head ((Definition, head) ∷ []) =
     c.in_ok-fold_schema.ensures.folded head head [] directives roots (bare_definition c) in
     c.in_ok-made.ensures ∙ λ i. record { value = folded i; location = n.location }
@@ -27,6 +27,6 @@ returns-clause-made c =
 pub returns-clause-faults : goal.returns-clause-faults
 returns-clause-faults c =
     let head = schema_definition_part c.args.node.now in
-    let roots : head.roots ≡ c.as_slice-2.result.now = cc in
+    let roots : head.parts.roots ≡ c.as_slice-2.result.now = cc in
     let found = c.in_ok-fold_schema.ensures.faults head head [] roots (bare_definition c) in
     c.in_ok-fold_schema.ensures.rest ∙ (λ i. record c.args.self.now { faults = found i })

@@ -32,10 +32,9 @@ loop-root-preserved c =
           ∙ ap (λ l. before ++ l) (sym (held_faults-turn rs o xs i x (omega arith) c.root-item.is));
     }
 
-pub returns-clause-named : goal.returns-clause-named
-returns-clause-named c =
-    rw (take_all c.loop-root.root-index c.args.roots.now (omega arith)) at c.loop-root.invariant.named
-
-pub returns-clause-faults : goal.returns-clause-faults
-returns-clause-faults c =
-    rw (take_all c.loop-root.root-index c.args.roots.now (omega arith)) at c.loop-root.invariant.faults
+pub returns : goal.returns
+returns c = record {
+  named = rw (take_all c.loop-root.root-index c.args.roots.now (omega arith)) at c.loop-root.invariant.named;
+  faults = rw (take_all c.loop-root.root-index c.args.roots.now (omega arith))
+      at c.loop-root.invariant.faults;
+}

@@ -1,14 +1,12 @@
-use Rattle.apollo_meaning.proofs.Prelude.{◌∙◌}
 use Rattle.graphql_nodes.specs.declared.type_kind.TypeKind.TheVariants as kinds
 use Rattle.apollo_meaning.specs.declared.collision.Collection.TheVariants as collections
 use Rattle.apollo_folding.specs.DeclaredParts.{part_as}
-use Rattle.apollo_folding.proofs.PartNames.{names-joined, fields-joined, found-before, found-last}
+use Rattle.apollo_folding.proofs.PartNames.{names-joined, fields-joined, found-both}
 use Rattle.apollo_folding.proofs.from_ast.kinds.ObjectTypeKind.fold.Goals as goal
 
 pub returns-clause-faults : goal.returns-clause-faults
-returns-clause-faults c = λ head done was.
-    let part = part_as kinds.Object c.args.part.now.of.now in
-    found-last collections.ObjectFields done part _ _ _ (fields-joined done)
+returns-clause-faults c = λ head done was. found-both collections.ObjectInterfaces
+    collections.ObjectFields done (part_as kinds.Object c.args.part.now.of.now) _ _ _ _ _
+    (names-joined done) (fields-joined done)
+    (c.in_ok-fold_names.ensures.faults _ (λ i. (was i).implements_interfaces))
     (c.in_ok-fold_named.ensures.faults _ (λ i. (was i).fields))
-    ∙ found-before collections.ObjectInterfaces done part _ _ _ (names-joined done)
-    (c.in_ok-fold_names.ensures.faults _ (λ i. (was i).implements_interfaces)) _
