@@ -183,7 +183,7 @@ pub use Rattle.apollo_document.specs.TypedDefinitions.{stripped_operation}
 pub use Rattle.apollo_document.specs.declared.build_error.BuildError.{BuildError}
 pub use Rattle.apollo_document.specs.declared.selection_path.SelectionPath.{SelectionPath}
 pub use Rattle.apollo_canonical.specs.DocumentTextLaws.{DocumentTextLaws, ListLaws}
-pub use Rattle.apollo_canonical.specs.DocumentTexts.{AddedDocumentText, BuildDocumentAgain, IsDocumentOfTexts}
+pub use Rattle.apollo_canonical.specs.DocumentTexts.{BuildDocumentAgain, IsDocumentOfTexts}
 pub use Rattle.apollo_canonical.specs.DocumentTexts.{IsReadingOfDocument, added_documents, document_text}
 pub use Rattle.apollo_canonical.specs.EqualDocuments.{AreEqualDocuments, AreEqualInOrder, AreEqualItems}
 pub use Rattle.apollo_canonical.specs.EqualDocuments.{bare_entry, bare_faults}

@@ -1,7 +1,6 @@
 -- Typed documents that are built of texts, and their texts: GraphQL specification of October 2021, sections
 -- 2.2 to 2.8.
 use Rattle.std.specs.Prelude.{◌≡◌, ◌⊎◌, ℕ, Bool, List, [], Option, None, flat_map}
-use Rattle.std.specs.List.{AllByRecursion}
 use Rattle.graphql_ast.specs.declared.definition.Definition.{Definition}
 use Rattle.graphql_printing.specs.Documents.{definitions_text}
 use Rattle.apollo_schema.specs.declared.schema.Schema.{Schema}
@@ -11,28 +10,18 @@ use Rattle.apollo_document.specs.AddedDefinitions.{DocumentItem, document_list}
 use Rattle.apollo_document.specs.DocumentFaults.{document_faults}
 use Rattle.apollo_document.specs.Documents.{IsDocumentOf}
 use Rattle.apollo_document.specs.WrittenAgain.{ambiguous_again}
-use Rattle.apollo_canonical.specs.SchemaTexts.{IsReadingOfDefinitions, Reading, Reads}
+use Rattle.apollo_canonical.specs.SchemaTexts.{AddedText, AreRead, IsReadingOfDefinitions, Reading}
 use Rattle.apollo_canonical.specs.EqualDocuments.{AreEqualDocuments, AreEqualInOrder, bare_faults}
 
--- a text that is added to a document: how it is read and what it is read as. The flag says whether
--- definitions of the type system in it are at fault
-pub record AddedDocumentText : Type 0 where
-  pub reading : Reading
-  pub definitions : List Definition
-  pub errors : Bool
-
--- each text is read as its definitions
-abbrev pub AreRead : List AddedDocumentText → Type 0
-AreRead = AllByRecursion (λ t. Reads t.reading t.definitions)
-
--- what texts add, one after the other
-abbrev pub added_documents : List AddedDocumentText → List DocumentItem
-added_documents = flat_map (λ t. document_list t.errors t.definitions)
+-- what texts add to a document, one after the other: the setting of each says whether definitions of the type
+-- system in it are at fault
+abbrev pub added_documents : List AddedText → List DocumentItem
+added_documents = flat_map (λ t. document_list t.setting t.definitions)
 
 -- a document that is built of texts, typed over this schema value or without one, whole or what could be
 -- built of texts with faults
 pub record IsDocumentOfTexts (schema : Option Schema) (document : ExecutableDocument) : Type 0 where
-  pub texts : List AddedDocumentText
+  pub texts : List AddedText
   pub read : AreRead texts
   pub means : IsDocumentOf schema (added_documents texts) document
 

@@ -27,20 +27,21 @@ pub record Reads (r : Reading) (definitions : List Definition) : Type 0 where
   pub handed_in : r.file.0 ≢ 0
   pub spelled : spells_document r.file r.depth definitions (words_of r.allowed r.text)
 
--- a text that is added to a schema: how it is read, what it is read as, and whether redefinitions of
--- built-in types are ignored
+-- a text that is added to a schema or a document: how it is read, what it is read as, and the setting under
+-- which that is added
 pub record AddedText : Type 0 where
   pub reading : Reading
   pub definitions : List Definition
-  pub ignores : Bool
+  pub setting : Bool
 
 -- each text is read as its definitions
 abbrev pub AreRead : List AddedText → Type 0
 AreRead = AllByRecursion (λ t. Reads t.reading t.definitions)
 
--- what texts add, one after the other
+-- what texts add to a schema, one after the other: the setting of each says whether redefinitions of built-in
+-- types are ignored
 abbrev pub added_texts : List AddedText → List Added
-added_texts = flat_map (λ t. added t.ignores t.definitions)
+added_texts = flat_map (λ t. added t.setting t.definitions)
 
 -- a schema that is built of texts, with extensions numbered from some number and any setting of adoption. It
 -- is whole or what could be built of texts with faults

@@ -292,20 +292,17 @@ module _ (sets : TypedSetsLaw) (s : Option Schema) where
 
     self_document : IsDocumentOf s (written_of b document) document
     self_document = record {
-      anonymous = subst (λ k. AllZip (IsOperationOf s) (listed k) (listed document.operations.anonymous))
-          (sym kept_again.anonymous)
-          (self_option (IsOperationOf s) erase_operation self_operation (kept_anonymous s xs) _ h.anonymous);
-      named = subst (λ ks. AllZip (IsUnderName (IsOperationOf s)) ks document.operations.named)
-          (sym kept_again.named) (self_list (IsUnderName (IsOperationOf s)) (λ e. (e.0, erase_operation e.1))
+      anonymous = rw kept_again.anonymous (self_option (IsOperationOf s) erase_operation self_operation
+          (kept_anonymous s xs) _ h.anonymous);
+      named = rw kept_again.named (self_list (IsUnderName (IsOperationOf s)) (λ e. (e.0, erase_operation e.1))
           (λ k e g. (refl, self_operation k.1 e.1 g.1)) (kept_named s xs) _ h.named);
-      fragments = subst (λ ks. AllZip (IsUnderName (IsFragmentOf s)) ks document.fragments)
-          (sym kept_again.fragments)
-          (self_list (IsUnderName (IsFragmentOf s)) (λ e. (e.0, erase_fragment e.1))
-          (λ k e g. (refl, self_fragment k.1 e.1 g.1)) (kept_fragments s xs) _ h.fragments);
+      fragments = rw kept_again.fragments (self_list (IsUnderName (IsFragmentOf s))
+          (λ e. (e.0, erase_fragment e.1)) (λ k e g. (refl, self_fragment k.1 e.1 g.1))
+          (kept_fragments s xs) _ h.fragments);
     }
 
     pub document_is_itself : IsDocumentOf s (document_list b (erased_definitions document)) document
-    document_is_itself = subst (λ ys. IsDocumentOf s ys document) (sym (is_written b document)) self_document
+    document_is_itself = rw (is_written b document) self_document
 
     pub document_is_again : (again : ExecutableDocument)
         → IsDocumentOf s (document_list b (erased_definitions document)) again

@@ -7,7 +7,6 @@ use Rattle.graphql_ast.specs.declared.selection.Selection as ast
 use Rattle.apollo_schema.specs.declared.schema.Schema.{Schema}
 use Rattle.apollo_executable.specs.Listed.{listed}
 use Rattle.apollo_executable.specs.Erasure.{erased_set}
-use Rattle.apollo_executable.specs.declared.operation.Fragment.{Fragment}
 use Rattle.apollo_document.specs.SelectionFaults.{faults_of_selections}
 use Rattle.apollo_document.specs.Typable.{Fault, has_type}
 use Rattle.apollo_document.specs.declared.selection_path.SelectionPath.{SelectionPath}

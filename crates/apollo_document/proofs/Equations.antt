@@ -20,7 +20,7 @@ use Rattle.apollo_schema.specs.declared.schema.Schema.{Schema}
 use Rattle.apollo_executable.specs.SelectionParts.{response_key_of}
 use Rattle.apollo_executable.specs.declared.selection.Selection.{Selection}
 use Rattle.apollo_executable.specs.declared.selection.Field.{Field}
-use Rattle.apollo_executable.specs.declared.selection.InlineFragment.{InlineFragment, roll-InlineFragment}
+use Rattle.apollo_executable.specs.declared.selection.InlineFragment.{InlineFragment}
 use Rattle.apollo_executable.specs.declared.selection.SelectionSet.{SelectionSet}
 use Rattle.apollo_document.specs.Typable.{Fault, Wrong, child_of, field_judged, is_bare, typable_field}
 use Rattle.apollo_document.specs.Typable.{typable_fragment, if_typable}
@@ -29,7 +29,7 @@ use Rattle.apollo_document.specs.SelectionFaults.{fragment_faults_step, below_or
 use Rattle.apollo_document.specs.SelectionFaults.{faults_of_selections, faults_of_field, faults_of_fragment}
 use Rattle.apollo_document.specs.SelectionFaults.{faults_of_selection}
 use Rattle.apollo_document.specs.Elaborated.{TS, TF, TI, selection_step, field_step, fragment_step}
-use Rattle.apollo_document.specs.Elaborated.{field_over, typed_field, typed_inline_fragment}
+use Rattle.apollo_document.specs.Elaborated.{field_over, inline_over, typed_field, typed_inline_fragment}
 use Rattle.apollo_document.specs.Elaborated.{elaborated_selection, elaborated_field, elaborated_fragment}
 use Rattle.apollo_document.specs.Elaborated.{elaborated}
 use Rattle.apollo_document.specs.Within.{faults_within}
@@ -128,15 +128,12 @@ module _ (s : Option Schema) where
     pub fragment_made : (f g : ast_inline.InlineFragment) (below : List ast.Selection) (t : NameView)
         (set : SelectionSet) (made : InlineFragment)
         → Some t ≡ if_typable (λ t. t) (typable_fragment s ty f.type_condition)
-        → g ≡ f → below ≡ f.selection_set → set ≡ elaborated s t below → made ≡ roll-InlineFragment (record {
-          type_condition = g.type_condition;
-          directives = g.directives;
-          selection_set = set;
-        }) → Some made ≡ elaborated_fragment s ty f
+        → g ≡ f → below ≡ f.selection_set → set ≡ elaborated s t below
+        → made ≡ inline_over g.type_condition g.directives set → Some made ≡ elaborated_fragment s ty f
     fragment_made f g below t set made h same selections typed m =
-        let over : ast_inline.InlineFragment → SelectionSet → InlineFragment = λ f set. roll-InlineFragment
-        (record { type_condition = f.type_condition; directives = f.directives; selection_set = set }) in
-        ap Some (m ∙ (λ i. over (same i) (typed i)) ∙ (λ i. over f (elaborated s t (selections i))))
+        let over = inline_over f.type_condition f.directives in
+        ap Some (m ∙ (λ i. inline_over (same i).type_condition (same i).directives (typed i))
+        ∙ (λ i. over (elaborated s t (selections i))))
         ∙ (λ i. if_typable (typed_inline_fragment f.type_condition f.directives
         (typed_in f.selection_set)) (sym (is_ok _ t h) i)) ∙ sym (elaborated-fragment f)
 

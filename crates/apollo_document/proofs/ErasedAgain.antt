@@ -1,6 +1,6 @@
 -- A typed tree, erased and elaborated again, gives itself and no fault. So of typed sets from one type no two
 -- are erased to one list.
-use Rattle.std.proofs.Common.{◌≡◌, ◌∙◌, ap, sym, subst, refl, List, [], ◌∷◌, ◌++◌, map, Option, Some}
+use Rattle.std.proofs.Common.{◌≡◌, ◌∙◌, ap, sym, refl, List, [], ◌∷◌, ◌++◌, map, Option, Some}
 use Rattle.std.proofs.Common.{option_map, Ok}
 use Rattle.std.specs.List.{AllByRecursion, cons_option}
 use Rattle.graphql_nodes.specs.NameView.{NameView}
@@ -32,44 +32,40 @@ use Rattle.apollo_document.specs.TypedSelections.{IsTyped, IsTypedField, IsTyped
 use Rattle.apollo_document.specs.declared.selection_path.SelectionPath.{SelectionPath}
 use Rattle.apollo_document.proofs.Equations.{is_bare-map, typed_in, elaborated-field, elaborated-fragment}
 use Rattle.apollo_document.proofs.Equations.{faults-field, faults-fragment}
-use Rattle.apollo_document.proofs.ErasureLemmas.{elaborated-roll, erased-typed-field, erased-typed-spread}
-use Rattle.apollo_document.proofs.ErasureLemmas.{erased-typed-fragment, erased_is_stripped}
+use Rattle.apollo_document.proofs.ErasureLemmas.{rolled, elaborated-roll, erased-typed-field}
+use Rattle.apollo_document.proofs.ErasureLemmas.{erased-typed-spread, erased-typed-fragment}
+use Rattle.apollo_document.proofs.ErasureLemmas.{erased_is_stripped}
 use Rattle.apollo_document.proofs.TypingLemmas.{along, selection-roll, field-roll, fragment-roll, set-roll}
 use Rattle.apollo_document.proofs.TypingLemmas.{elaborated_is_typed}
 
 -- ---- one level, erased
 
-erased-set : (x : typed_layer.SelectionSet-F Selection Field InlineFragment SelectionSet)
-    → erased_set (roll-SelectionSet x) ≡ map erased x.selections
-erased-set x = typed_folds.fold-roll-SelectionSet _ _ _ _ _ _ _ _ x
-
 abbrev Level : Type 0
 Level = typed_layer.Field-F Selection Field InlineFragment SelectionSet
 
-abbrev field_erased : Level → ast_field.Field
-field_erased x = ast_field.roll-Field (record {
+abbrev FragmentLevel : Type 0
+FragmentLevel = typed_layer.InlineFragment-F Selection Field InlineFragment SelectionSet
+
+erased-set : (x : typed_layer.SelectionSet-F Selection Field InlineFragment SelectionSet)
+    → erased_set (roll-SelectionSet x) ≡ map erased x.selections
+erased-set = typed_folds.fold-roll-SelectionSet _ _ _ _ _ _ _ _
+
+erased-field : (x : Level) → erased_field (roll-Field x) ≡ ast_field.roll-Field (record {
   alias = x.alias;
   name = x.name;
   arguments = x.arguments;
   directives = x.directives;
   selection_set = erased_set x.selection_set;
 })
+erased-field = typed_folds.fold-roll-Field _ _ _ _ _ _ _ _
 
-erased-field : (x : Level) → erased_field (roll-Field x) ≡ field_erased x
-erased-field x = typed_folds.fold-roll-Field _ _ _ _ _ _ _ _ x
-
-abbrev FragmentLevel : Type 0
-FragmentLevel = typed_layer.InlineFragment-F Selection Field InlineFragment SelectionSet
-
-abbrev fragment_erased : FragmentLevel → ast_inline.InlineFragment
-fragment_erased x = ast_inline.roll-InlineFragment (record {
-  type_condition = x.type_condition;
-  directives = x.directives;
-  selection_set = erased_set x.selection_set;
-})
-
-erased-fragment : (x : FragmentLevel) → erased_inline_fragment (roll-InlineFragment x) ≡ fragment_erased x
-erased-fragment x = typed_folds.fold-roll-InlineFragment _ _ _ _ _ _ _ _ x
+erased-fragment : (x : FragmentLevel)
+    → erased_inline_fragment (roll-InlineFragment x) ≡ ast_inline.roll-InlineFragment (record {
+      type_condition = x.type_condition;
+      directives = x.directives;
+      selection_set = erased_set x.selection_set;
+    })
+erased-fragment = typed_folds.fold-roll-InlineFragment _ _ _ _ _ _ _ _
 
 -- ---- erased and elaborated again
 
@@ -80,8 +76,7 @@ module _ (s : Option Schema) where
       ≡ faults_step (folds.map-Selection ast.Selection ast_field.Field ast_inline.InlineFragment FS FN FN
       (λ y t p. faults_of_selection s t p y) (λ y t l p. faults_of_field s t l p y)
       (λ y t l p. faults_of_fragment s t l p y) x) ty path
-  faults-roll ty path x = λ i. folds.fold-roll-Selection FS FN FN faults_step (field_faults_step s)
-      (fragment_faults_step s) x i ty path
+  faults-roll ty path x = λ i. rolled faults_step (field_faults_step s) (fragment_faults_step s) ty x i path
 
   abbrev PS : Selection → Type 0
   PS x = (ty : NameView) → IsTyped s ty x → (elaborated_selection s ty (erased x) ≡ Some x)
@@ -189,10 +184,10 @@ module _ (s : Option Schema) where
       )
 
   set_is_again : (x : SelectionSet) → PL x
-  set_is_again = typed_folds.ind-SelectionSet PS PF PI PL (λ x y is. subst (λ z. PS (roll-Selection z)) is
-      (selection_again y)) (λ x y is. subst (λ z. PF (roll-Field z)) is (field_again _ y.selection_set.1))
-      (λ x y is. subst (λ z. PI (roll-InlineFragment z)) is (fragment_again _ y.selection_set.1))
-      (λ x y is. subst (λ z. PL (roll-SelectionSet z)) is (set_again y.ty y.selections))
+  set_is_again = typed_folds.ind-SelectionSet PS PF PI PL (λ x y is. rw (← is) (selection_again y))
+      (λ x y is. rw (← is) (field_again _ y.selection_set.1))
+      (λ x y is. rw (← is) (fragment_again _ y.selection_set.1))
+      (λ x y is. rw (← is) (set_again y.ty y.selections))
 
   pub stripped_again : (ty : NameView) (x : SelectionSet) → IsTypedSet s ty x
       → stripped s ty (erased_set x) ≡ erased_set x

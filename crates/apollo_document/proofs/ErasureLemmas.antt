@@ -1,5 +1,5 @@
 -- What elaboration gives, erased, is the untyped list stripped.
-use Rattle.std.proofs.Common.{arith, ◌≡◌, ◌∙◌, ap, sym, subst, refl, List, [], ◌∷◌, map, Option, Some}
+use Rattle.std.proofs.Common.{arith, ◌≡◌, ◌∙◌, ap, sym, refl, List, map, Option, Some}
 use Rattle.std.proofs.Common.{option_map, Result}
 use Rattle.std.specs.List.{cons_option}
 use Rattle.graphql_nodes.specs.NameView.{NameView}
@@ -31,6 +31,7 @@ use Rattle.apollo_document.specs.Elaborated.{TS, TF, TI, selection_step, field_s
 use Rattle.apollo_document.specs.Elaborated.{typed_field, typed_inline_fragment, elaborated_selection}
 use Rattle.apollo_document.specs.Elaborated.{elaborated_field, elaborated_fragment, elaborated}
 use Rattle.apollo_document.proofs.Equations.{below-each, typed_in, elaborated-field, elaborated-fragment}
+use Rattle.apollo_document.proofs.SyntaxInduction.{Layer, field, spread, inline, of_selections}
 
 -- ---- what is left of a field and of a fragment, by what is left of what is below
 
@@ -112,8 +113,17 @@ option_fuse g f k h e o = grind (arith, e)
 
 -- ---- what elaboration gives, erased
 
-abbrev Layer : Type 0
-Layer = layer.Selection-F ast.Selection ast_field.Field ast_inline.InlineFragment
+-- what is given of a selection in each type, by its one level
+module _ {X Y Z : Type 0} (one : layer.Selection-F (NameView → X) (NameView → Y) (NameView → Z) → NameView
+    → X) (in_field : layer.Field-F (NameView → X) (NameView → Y) (NameView → Z) → NameView
+    → Y) (in_fragment : layer.InlineFragment-F (NameView → X) (NameView → Y) (NameView → Z) → NameView
+    → Z) where
+  pub rolled : (ty : NameView) (x : Layer)
+      → folds.fold-Selection _ _ _ one in_field in_fragment (ast.roll-Selection x) ty
+      ≡ one (folds.map-Selection _ _ _ _ _ _ (folds.fold-Selection _ _ _ one in_field in_fragment)
+      (folds.fold-Field _ _ _ one in_field in_fragment)
+      (folds.fold-InlineFragment _ _ _ one in_field in_fragment) x) ty
+  rolled ty x = λ i. folds.fold-roll-Selection _ _ _ one in_field in_fragment x i ty
 
 module _ (s : Option Schema) where
   pub elaborated-roll : (ty : NameView) (x : Layer)
@@ -121,87 +131,53 @@ module _ (s : Option Schema) where
       ≡ selection_step (folds.map-Selection ast.Selection ast_field.Field ast_inline.InlineFragment TS TF TI
       (λ y t. elaborated_selection s t y) (λ y t. elaborated_field s t y) (λ y t. elaborated_fragment s t y)
       x) ty
-  elaborated-roll ty x = λ i. folds.fold-roll-Selection TS TF TI selection_step (field_step s)
-      (fragment_step s) x i ty
+  elaborated-roll = rolled selection_step (field_step s) (fragment_step s)
 
-  stripped-roll : (ty : NameView) (x : Layer)
-      → stripped_selection s ty (ast.roll-Selection x)
-      ≡ strip_step (folds.map-Selection ast.Selection ast_field.Field ast_inline.InlineFragment SS SF SI
-      (λ y t. stripped_selection s t y) (λ y t. stripped_field s t y) (λ y t. stripped_inline_fragment s t y)
-      x) ty
-  stripped-roll ty x = λ i. folds.fold-roll-Selection SS SF SI strip_step (strip_field_step s)
-      (strip_fragment_step s) x i ty
+  abbrev IsSame : ast.Selection → Type 0
+  IsSame x = (ty : NameView) → option_map erased (elaborated_selection s ty x) ≡ stripped_selection s ty x
 
-  -- a spread stays as it is
-  pub stripped-spread : (ty : NameView) (n : NodeView syntax_spread.FragmentSpread)
-      → stripped_selection s ty (variant.FragmentSpread n) ≡ Some (variant.FragmentSpread n)
-  stripped-spread ty n = ap (stripped_selection s ty) (sym (variant.rolls-FragmentSpread n))
-      ∙ stripped-roll ty _ ∙ ap Some (variant.rolls-FragmentSpread n)
+  abbrev AreSame : List ast.Selection → Type 0
+  AreSame xs = (ty : NameView) → map erased (typed_in s xs ty) ≡ stripped s ty xs
 
-  abbrev PS : ast.Selection → Type 0
-  PS x = (ty : NameView) → option_map erased (elaborated_selection s ty x) ≡ stripped_selection s ty x
-
-  abbrev PF : ast_field.Field → Type 0
-  PF f = (ty : NameView) → option_map erased_field (elaborated_field s ty f) ≡ stripped_field s ty f
-
-  abbrev PI : ast_inline.InlineFragment → Type 0
-  PI f = (ty : NameView) → option_map erased_inline_fragment (elaborated_fragment s ty f)
-      ≡ stripped_inline_fragment s ty f
-
-  abbrev WS : Type 0
-  WS = (x : ast.Selection) × PS x
-
-  abbrev AreSame : NameView → List ast.Selection → Type 0
-  AreSame t xs = map erased (typed_in s xs t) ≡ stripped s t xs
-
-  -- the elements come with their proofs
-  below_same : (ys : List WS) (t : NameView) → AreSame t (map (λ (y : WS). y.0) ys)
-  below_same [] t = refl
-  below_same (y ∷ ys) t = map-cons_option erased _ _ ∙ (λ i. cons_option (y.1 t i) (below_same ys t i))
-
-  field_same : (f : ast_field.Field) → ((t : NameView) → AreSame t f.selection_set) → PF f
+  field_same : (f : ast_field.Field) → AreSame f.selection_set → (ty : NameView)
+      → option_map erased_field (elaborated_field s ty f) ≡ stripped_field s ty f
   field_same f h ty = ap (option_map erased_field) (elaborated-field s ty f) ∙ map-if_typable erased_field _ _
       (λ d. erased-typed_field f.alias f.name f.arguments f.directives (typed_in s f.selection_set) d
       ∙ (λ i. kept_field f.alias f.name f.arguments f.directives (λ t. h t i) d)) _
       ∙ sym (stripped-field s ty f)
 
-  fragment_same : (f : ast_inline.InlineFragment) → ((t : NameView) → AreSame t f.selection_set) → PI f
+  fragment_same : (f : ast_inline.InlineFragment) → AreSame f.selection_set → (ty : NameView)
+      → option_map erased_inline_fragment (elaborated_fragment s ty f) ≡ stripped_inline_fragment s ty f
   fragment_same f h ty = ap (option_map erased_inline_fragment) (elaborated-fragment s ty f)
       ∙ map-if_typable erased_inline_fragment _ _ (λ c. erased-typed_inline_fragment f.type_condition
       f.directives (typed_in s f.selection_set) c ∙ (λ i. kept_fragment f.type_condition f.directives
       (λ t. h t i) c)) _ ∙ sym (stripped-fragment s ty f)
 
-  selection_same : (y : layer.Selection-F WS ((f : ast_field.Field) × PF f) ((f : ast_inline.InlineFragment)
-      × PI f))
-      → PS (ast.roll-Selection (folds.map-Selection WS ((f : ast_field.Field) × PF f)
-      ((f : ast_inline.InlineFragment) × PI f) ast.Selection ast_field.Field ast_inline.InlineFragment
-      (λ y. y.0) (λ y. y.0) (λ y. y.0) y))
-  selection_same (layer.Selection-F.Field n) ty =
-      let m = in_place_of n n.value.0 in
-      ap (option_map erased) (elaborated-roll ty _) ∙ option_fuse erased _ _ erased_field
-      (λ (f : Field). erased-typed-field _) _
-      ∙ ap (option_map (λ (f : ast_field.Field). ast.roll-Selection
-      (layer.Selection-F.Field (in_place_of m f)))) (n.value.1 ty) ∙ sym (stripped-roll ty _)
-  selection_same (layer.Selection-F.FragmentSpread n) ty = ap (option_map erased) (elaborated-roll ty _)
-      ∙ ap Some (erased-typed-spread _) ∙ sym (stripped-roll ty _)
-  selection_same (layer.Selection-F.InlineFragment n) ty =
-      let m = in_place_of n n.value.0 in
-      ap (option_map erased) (elaborated-roll ty _) ∙ option_fuse erased _ _ erased_inline_fragment
-      (λ (f : InlineFragment). erased-typed-fragment _) _
-      ∙ ap (option_map (λ (f : ast_inline.InlineFragment). ast.roll-Selection
-      (layer.Selection-F.InlineFragment (in_place_of m f)))) (n.value.1 ty) ∙ sym (stripped-roll ty _)
+  of_field : (n : NodeView ast_field.Field) → AreSame n.value.selection_set → IsSame (field n)
+  of_field n h ty = ap (option_map erased) (elaborated-roll ty _)
+      ∙ option_fuse erased _ _ erased_field (λ _. erased-typed-field _) _
+      ∙ ap (option_map (λ f. field (in_place_of n f))) (field_same n.value h ty)
+      ∙ sym (rolled strip_step (strip_field_step s) (strip_fragment_step s) ty _)
 
-  all_same : (x : ast.Selection) → PS x
-  all_same = ast.ind-Selection PS PF PI (λ x y is. subst (λ z. PS (ast.roll-Selection z)) is
-      (selection_same y)) (λ x y is. subst (λ z. PF (ast_field.roll-Field z)) is
-      (field_same _ (below_same y.selection_set))) (λ x y is. subst
-      (λ z. PI (ast_inline.roll-InlineFragment z)) is (fragment_same _ (below_same y.selection_set)))
+  -- a spread stays as it is
+  of_spread : (n : NodeView syntax_spread.FragmentSpread) → IsSame (spread n)
+  of_spread n ty = ap (option_map erased) (elaborated-roll ty _) ∙ ap Some (erased-typed-spread _)
+      ∙ sym (rolled strip_step (strip_field_step s) (strip_fragment_step s) ty _)
 
-  list_same : (ty : NameView) (xs : List ast.Selection) → AreSame ty xs
-  list_same ty [] = refl
-  list_same ty (x ∷ xs) = map-cons_option erased _ _
-      ∙ (λ i. cons_option (all_same x ty i) (list_same ty xs i))
+  of_inline : (n : NodeView ast_inline.InlineFragment) → AreSame n.value.selection_set → IsSame (inline n)
+  of_inline n h ty = ap (option_map erased) (elaborated-roll ty _)
+      ∙ option_fuse erased _ _ erased_inline_fragment (λ _. erased-typed-fragment _) _
+      ∙ ap (option_map (λ f. inline (in_place_of n f))) (fragment_same n.value h ty)
+      ∙ sym (rolled strip_step (strip_field_step s) (strip_fragment_step s) ty _)
 
   pub erased_is_stripped : (ty : NameView) (xs : List ast.Selection)
       → erased_set (elaborated s ty xs) ≡ stripped s ty xs
-  erased_is_stripped ty xs = erased-set_of ty _ ∙ list_same ty xs
+  erased_is_stripped ty xs = erased-set_of ty _ ∙ of_selections IsSame AreSame (λ _. refl)
+      (λ x others one rest t. map-cons_option erased _ _ ∙ (λ i. cons_option (one t i) (rest t i)))
+      of_field of_spread of_inline xs ty
+
+  pub stripped-spread : (ty : NameView) (n : NodeView syntax_spread.FragmentSpread)
+      → stripped_selection s ty (variant.FragmentSpread n) ≡ Some (variant.FragmentSpread n)
+  stripped-spread ty n = ap (stripped_selection s ty) (sym (variant.rolls-FragmentSpread n))
+      ∙ rolled strip_step (strip_field_step s) (strip_fragment_step s) ty _
+      ∙ ap Some (variant.rolls-FragmentSpread n)

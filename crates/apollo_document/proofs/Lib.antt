@@ -8,5 +8,6 @@ pub mod LeafLemmas
 mod ListLemmas
 mod OperationLemmas
 mod StandsLemmas
+pub mod SyntaxInduction
 pub mod TypingLemmas
 mod WrittenLemmas

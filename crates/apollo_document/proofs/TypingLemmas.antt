@@ -6,9 +6,8 @@ use Rattle.std.specs.Option.{IfSome}
 use Rattle.graphql_nodes.specs.NameView.{NameView}
 use Rattle.graphql_nodes.specs.NodeView.{NodeView}
 use Rattle.graphql_ast.specs.declared.selection.Selection as ast
-use Rattle.graphql_ast.specs.declared.selection.Selection.TheOpen as layer
-use Rattle.graphql_ast.specs.declared.selection.Selection.TheFolds as folds
 use Rattle.graphql_ast.specs.declared.selection.Field as ast_field
+use Rattle.graphql_ast.specs.declared.selection.FragmentSpread as syntax_spread
 use Rattle.graphql_ast.specs.declared.selection.InlineFragment as ast_inline
 use Rattle.graphql_ast.specs.declared.type_system.FieldDefinition.{FieldDefinition}
 use Rattle.apollo_schema.specs.declared.schema.Schema.{Schema}
@@ -19,13 +18,13 @@ use Rattle.apollo_executable.specs.declared.selection.Field.{Field, roll-Field}
 use Rattle.apollo_executable.specs.declared.selection.InlineFragment.{InlineFragment, roll-InlineFragment}
 use Rattle.apollo_executable.specs.declared.selection.SelectionSet.{SelectionSet, roll-SelectionSet}
 use Rattle.apollo_document.specs.Typable.{child_of, is_bare, typable_field, typable_fragment, if_typable}
-use Rattle.apollo_document.specs.Stripped.{in_place_of}
 use Rattle.apollo_document.specs.Elaborated.{set_of, elaborated_selection, elaborated_field}
 use Rattle.apollo_document.specs.Elaborated.{elaborated_fragment, elaborated}
 use Rattle.apollo_document.specs.TypedSelections.{In, selection_in, typed_field_in, typed_fragment_in, set_in}
 use Rattle.apollo_document.specs.TypedSelections.{IsTyped, IsTypedField, IsTypedFragment, IsTypedSet}
 use Rattle.apollo_document.proofs.Equations.{bare-nil, typed_in, elaborated-field, elaborated-fragment}
 use Rattle.apollo_document.proofs.ErasureLemmas.{elaborated-roll}
+use Rattle.apollo_document.proofs.SyntaxInduction.{field, spread, inline, of_selections}
 
 all-map : {X Y : Type 0} (v : X → Y) (P : Y → Type 0) (xs : List X)
     → AllByRecursion (λ (x : X). P (v x)) xs ≡ AllByRecursion P (map v xs)
@@ -108,62 +107,39 @@ bare_kept h xs p = ap (λ l. is_bare (filter_map h l)) (bare-nil xs p)
 -- ---- what elaboration gives is typed
 
 module _ (s : Option Schema) where
-  abbrev PS : ast.Selection → Type 0
-  PS x = (ty : NameView) → IfSome (elaborated_selection s ty x) (λ t. IsTyped s ty t)
+  abbrev IsRight : ast.Selection → Type 0
+  IsRight x = (ty : NameView) → IfSome (elaborated_selection s ty x) (λ t. IsTyped s ty t)
 
-  abbrev PF : ast_field.Field → Type 0
-  PF f = (ty : NameView) → IfSome (elaborated_field s ty f) (λ t. IsTypedField s ty t)
+  abbrev AreRight : List ast.Selection → Type 0
+  AreRight xs = (ty : NameView) → AllByRecursion (λ (x : Selection). IsTyped s ty x) (typed_in s xs ty)
 
-  abbrev PI : ast_inline.InlineFragment → Type 0
-  PI f = (ty : NameView) → IfSome (elaborated_fragment s ty f) (λ t. IsTypedFragment s ty t)
-
-  abbrev WS : Type 0
-  WS = (x : ast.Selection) × PS x
-
-  abbrev AreTyped : NameView → List ast.Selection → Type 0
-  AreTyped ty xs = AllByRecursion (λ (x : Selection). IsTyped s ty x) (typed_in s xs ty)
-
-  below_typed : (ys : List WS) (t : NameView) → AreTyped t (map (λ (y : WS). y.0) ys)
-  below_typed [] t = tt
-  below_typed (y ∷ ys) t = all_cons _ _ _ (y.1 t) (below_typed ys t)
-
-  field_holds : (f : ast_field.Field) → ((t : NameView) → AreTyped t f.selection_set) → PF f
-  field_holds f h ty = subst (λ o. IfSome o (λ t. IsTypedField s ty t)) (sym (elaborated-field s ty f))
-      (holds_typable _ _ _ (λ d e. along (sym (field-roll s ty _)) (
+  field_right : (f : ast_field.Field) → AreRight f.selection_set → (ty : NameView)
+      → IfSome (elaborated_field s ty f) (λ t. IsTypedField s ty t)
+  field_right f h ty = rw (elaborated-field s ty f) (holds_typable _ _ _
+      (λ d e. along (sym (field-roll s ty _)) (
         typable-more s ty f.name _ _ d (bare_kept _ f.selection_set) e,
         set-typed s _ _ (h (child_of d)),
       )))
 
-  fragment_holds : (f : ast_inline.InlineFragment) → ((t : NameView) → AreTyped t f.selection_set) → PI f
-  fragment_holds f h ty = subst (λ o. IfSome o (λ t. IsTypedFragment s ty t))
-      (sym (elaborated-fragment s ty f)) (holds_typable _ _ (typable_fragment s ty f.type_condition)
-      (λ c e. along (sym (fragment-roll s ty _)) (c, (e, set-typed s c _ (h c)))))
+  fragment_right : (f : ast_inline.InlineFragment) → AreRight f.selection_set → (ty : NameView)
+      → IfSome (elaborated_fragment s ty f) (λ t. IsTypedFragment s ty t)
+  fragment_right f h ty = rw (elaborated-fragment s ty f)
+      (holds_typable _ _ (typable_fragment s ty f.type_condition)
+      (λ c e. rw (fragment-roll s ty _) (c, (e, set-typed s c _ (h c)))))
 
-  selection_holds : (y : layer.Selection-F WS ((f : ast_field.Field) × PF f) ((f : ast_inline.InlineFragment)
-      × PI f))
-      → PS (ast.roll-Selection (folds.map-Selection WS ((f : ast_field.Field) × PF f)
-      ((f : ast_inline.InlineFragment) × PI f) ast.Selection ast_field.Field ast_inline.InlineFragment
-      (λ y. y.0) (λ y. y.0) (λ y. y.0) y))
-  selection_holds (layer.Selection-F.Field n) ty =
-      let m = in_place_of n n.value.0 in
-      subst (λ o. IfSome o (λ t. IsTyped s ty t)) (sym (elaborated-roll s ty _)) (holds_map _ _ _
-      (λ f h. along (sym (selection-roll s ty _)) h) (elaborated_field s ty n.value.0) (n.value.1 ty))
-  selection_holds (layer.Selection-F.FragmentSpread n) ty = subst (λ o. IfSome o (λ t. IsTyped s ty t))
-      (sym (elaborated-roll s ty _)) (along (sym (selection-roll s ty _)) tt)
-  selection_holds (layer.Selection-F.InlineFragment n) ty =
-      let m = in_place_of n n.value.0 in
-      subst (λ o. IfSome o (λ t. IsTyped s ty t)) (sym (elaborated-roll s ty _)) (holds_map _ _ _
-      (λ f h. along (sym (selection-roll s ty _)) h) (elaborated_fragment s ty n.value.0) (n.value.1 ty))
+  of_field : (n : NodeView ast_field.Field) → AreRight n.value.selection_set → IsRight (field n)
+  of_field n h ty = rw (elaborated-roll s ty _) (holds_map _ _ _
+      (λ f t. along (sym (selection-roll s ty _)) t) (elaborated_field s ty n.value)
+      (field_right n.value h ty))
 
-  all_typed : (x : ast.Selection) → PS x
-  all_typed = ast.ind-Selection PS PF PI (λ x y is. subst (λ z. PS (ast.roll-Selection z)) is
-      (selection_holds y)) (λ x y is. subst (λ z. PF (ast_field.roll-Field z)) is
-      (field_holds _ (below_typed y.selection_set))) (λ x y is. subst
-      (λ z. PI (ast_inline.roll-InlineFragment z)) is (fragment_holds _ (below_typed y.selection_set)))
+  of_spread : (n : NodeView syntax_spread.FragmentSpread) → IsRight (spread n)
+  of_spread n ty = rw (elaborated-roll s ty _) (along (sym (selection-roll s ty _)) tt)
 
-  list_typed : (ty : NameView) (xs : List ast.Selection) → AreTyped ty xs
-  list_typed ty [] = tt
-  list_typed ty (x ∷ xs) = all_cons _ _ _ (all_typed x ty) (list_typed ty xs)
+  of_inline : (n : NodeView ast_inline.InlineFragment) → AreRight n.value.selection_set → IsRight (inline n)
+  of_inline n h ty = rw (elaborated-roll s ty _) (holds_map _ _ _
+      (λ f t. along (sym (selection-roll s ty _)) t) (elaborated_fragment s ty n.value)
+      (fragment_right n.value h ty))
 
   pub elaborated_is_typed : (ty : NameView) (xs : List ast.Selection) → IsTypedSet s ty (elaborated s ty xs)
-  elaborated_is_typed ty xs = set-typed s ty _ (list_typed ty xs)
+  elaborated_is_typed ty xs = set-typed s ty _ (of_selections IsRight AreRight (λ _. tt)
+      (λ x others one rest t. all_cons _ _ _ (one t) (rest t)) of_field of_spread of_inline xs ty)

@@ -68,15 +68,16 @@ typed_field alias name arguments directives below d = roll-Field (record {
   selection_set = set_of (child_of d) (below (child_of d));
 })
 
+-- an inline fragment with this condition, these directives and this set
+abbrev pub inline_over : Option NameView → DirectiveList → SelectionSet → InlineFragment
+inline_over condition directives set =
+    roll-InlineFragment (record { type_condition = condition; directives = directives; selection_set = set })
+
 -- an inline fragment with this child type, and with what stands for its selections in that
 abbrev pub typed_inline_fragment : Option NameView → DirectiveList → (NameView → List Selection) → NameView
     → InlineFragment
 typed_inline_fragment condition directives below child =
-    roll-InlineFragment (record {
-      type_condition = condition;
-      directives = directives;
-      selection_set = set_of child (below child);
-    })
+    inline_over condition directives (set_of child (below child))
 
 -- one level of a selection
 abbrev pub selection_step : layer.Selection-F TS TF TI → TS

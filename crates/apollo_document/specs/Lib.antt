@@ -6,6 +6,7 @@ pub mod DocumentFaults
 pub mod Documents
 pub mod Elaborated
 pub mod FieldSets
+pub mod InParents
 pub mod KeptDefinitions
 pub mod Noted
 pub mod Parents

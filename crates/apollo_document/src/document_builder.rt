@@ -17,6 +17,7 @@ use graphql_ast::document::Document;
 use graphql_nodes::collections::hash_keys::HashKeys;
 use graphql_nodes::collections::table::Table;
 use graphql_nodes::source::merge_sources;
+use graphql_nodes::take_apart;
 use std::alloc::Global;
 use std::marker::Model;
 use std::mem;
@@ -40,11 +41,7 @@ pub struct ExecutableDocumentBuilder<'schema> {
 
 impl<'schema> Drop for ExecutableDocumentBuilder<'schema> {
     fn drop(self) {
-        let Self {
-            schema: _,
-            state: _,
-            added: _,
-        } = self;
+        take_apart!(self: schema, state, added);
     }
 }
 

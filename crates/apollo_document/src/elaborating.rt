@@ -2,18 +2,16 @@
 //!
 //! Input nodes are borrowed. The key of a field is pushed and popped; the whole path is copied for a fault
 //! alone. Arguments and directives are shared with the input.
-ghost use Rattle.std.specs.Prelude.{◌≡◌, ◌++◌, [], IfOk, OnOk, option_map};
+ghost use Rattle.std.specs.Prelude.{◌≡◌, ◌++◌, [], IfOk, OnOk};
 ghost use Rattle.std.specs.List.{cons_option, filter_map};
 ghost use Rattle.std.specs.Option.{option_copied};
 ghost use Rattle.apollo_executable.specs.SelectionParts.{response_key_of};
 ghost use Rattle.apollo_document.specs.Elaborated as spec;
-ghost use Rattle.apollo_document.specs.Elaborated.{elaborated, elaborated_selection, elaborated_field};
-ghost use Rattle.apollo_document.specs.Elaborated.{elaborated_fragment};
+ghost use Rattle.apollo_document.specs.Elaborated.{elaborated, elaborated_selection};
+ghost use Rattle.apollo_document.specs.InParents.{field_kept, fragment_kept, noting_field, noting_fragment};
+ghost use Rattle.apollo_document.specs.InParents.{noting_within};
 ghost use Rattle.apollo_document.specs.Noted.{noting};
-ghost use Rattle.apollo_document.specs.Stripped.{in_place_of};
 ghost use Rattle.apollo_document.specs.SelectionFaults.{faults_of_selections, faults_of_selection};
-ghost use Rattle.apollo_document.specs.SelectionFaults.{faults_of_field, faults_of_fragment};
-ghost use Rattle.apollo_document.specs.Within.{faults_within};
 
 use crate::build_error::{Fault, Faults};
 use crate::parent::Parent;
@@ -27,7 +25,11 @@ use graphql_ast::type_system::FieldDefinition;
 use graphql_nodes::collections::items::Items;
 use graphql_nodes::name::{Name, NamedType};
 use graphql_nodes::node::Node;
+use graphql_nodes::take_apart;
 use std::alloc::{AllocError, Global};
+
+/// What is typed of a node, if it is typable, where the node stands.
+type Kept<T> = Result<Option<Node<T>>, AllocError>;
 
 /// The key of a field in a response: its alias, or else its name (section 2.7).
 fn response_key(field: &ast::Field) -> &Name
@@ -86,11 +88,7 @@ fn inline_fragment_over(
     selection_set: SelectionSet,
 ) -> Result<InlineFragment, AllocError>
     ensures { IfOk result (λ typed. typed
-        ≡ record {
-          type_condition = fragment.now.type_condition;
-          directives = fragment.now.directives;
-          selection_set = selection_set;
-        }) }
+        ≡ spec.inline_over fragment.now.type_condition fragment.now.directives selection_set) }
 {
     Ok(InlineFragment {
         type_condition: fragment.type_condition.clone()?,
@@ -109,11 +107,7 @@ pub struct Elaboration {
 
 impl Drop for Elaboration {
     fn drop(self) {
-        let Self {
-            alloc: _,
-            path: _,
-            faults: _,
-        } = self;
+        take_apart!(self: alloc, path, faults);
     }
 }
 
@@ -239,17 +233,9 @@ impl Elaboration {
 
     /// The field, typed, if it is typable. While it is looked at, its key is the last of the path.
     #[cycle(elaborate)]
-    fn elaborate_field(
-        &mut self,
-        parent: &Parent,
-        node: &Node<ast::Field>,
-    ) -> Result<Option<Node<Field>>, AllocError>
-        ensures typed { IfOk result (λ kept. kept
-            ≡ option_map (in_place_of node.now)
-            (elaborated_field (option_copied parent.now.schema) parent.now.ty.now node.now.value)) }
-        ensures faults { OnOk result (self.new
-            ≡ noting (faults_of_field (option_copied parent.now.schema) parent.now.ty.now node.now.location
-            self.old.path node.now.value) self.old) }
+    fn elaborate_field(&mut self, parent: &Parent, node: &Node<ast::Field>) -> Kept<Field>
+        ensures typed { IfOk result (λ kept. kept ≡ field_kept parent.now node.now) }
+        ensures faults { OnOk result (self.new ≡ noting_field parent.now node.now self.old) }
         ensures path { self.new.path ≡ self.old.path }
     {
         self.path.nested_fields.push(response_key(node).clone()?)?;
@@ -261,17 +247,9 @@ impl Elaboration {
 
     /// The field, typed, if it is typable, where its key is the last of the path.
     #[cycle(elaborate)]
-    fn elaborate_within(
-        &mut self,
-        parent: &Parent,
-        node: &Node<ast::Field>,
-    ) -> Result<Option<Node<Field>>, AllocError>
-        ensures typed { IfOk result (λ kept. kept
-            ≡ option_map (in_place_of node.now)
-            (elaborated_field (option_copied parent.now.schema) parent.now.ty.now node.now.value)) }
-        ensures faults { OnOk result (self.new
-            ≡ noting (faults_within (option_copied parent.now.schema) parent.now.ty.now node.now.location
-            self.old.path node.now.value) self.old) }
+    fn elaborate_within(&mut self, parent: &Parent, node: &Node<ast::Field>) -> Kept<Field>
+        ensures typed { IfOk result (λ kept. kept ≡ field_kept parent.now node.now) }
+        ensures faults { OnOk result (self.new ≡ noting_within parent.now node.now self.old) }
         ensures path { self.new.path ≡ self.old.path }
     {
         let Some(definition) = self.typable_field(parent, node)? else {
@@ -290,13 +268,9 @@ impl Elaboration {
         &mut self,
         parent: &Parent,
         node: &Node<ast::InlineFragment>,
-    ) -> Result<Option<Node<InlineFragment>>, AllocError>
-        ensures typed { IfOk result (λ kept. kept
-            ≡ option_map (in_place_of node.now)
-            (elaborated_fragment (option_copied parent.now.schema) parent.now.ty.now node.now.value)) }
-        ensures faults { OnOk result (self.new
-            ≡ noting (faults_of_fragment (option_copied parent.now.schema) parent.now.ty.now node.now.location
-            self.old.path node.now.value) self.old) }
+    ) -> Kept<InlineFragment>
+        ensures typed { IfOk result (λ kept. kept ≡ fragment_kept parent.now node.now) }
+        ensures faults { OnOk result (self.new ≡ noting_fragment parent.now node.now self.old) }
         ensures path { self.new.path ≡ self.old.path }
     {
         let Some(child) = self.typable_fragment(parent.schema, &*parent.ty, node)? else {

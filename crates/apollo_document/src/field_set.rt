@@ -18,6 +18,7 @@ use graphql_nodes::collections::table::Table;
 use graphql_nodes::name::NamedType;
 use graphql_nodes::operation_type::OperationType;
 use graphql_nodes::source::SourceMap;
+use graphql_nodes::{clone_fields, take_apart};
 use std::alloc::{AllocError, Global};
 
 /// Selections from a type of a schema, without a definition around them, and the files that they come from. A
@@ -30,10 +31,7 @@ pub struct FieldSet {
 
 impl Drop for FieldSet {
     fn drop(self) {
-        let Self {
-            sources: _,
-            selection_set: _,
-        } = self;
+        take_apart!(self: sources, selection_set);
     }
 }
 
@@ -41,10 +39,7 @@ impl Clone for FieldSet {
     ghost is_clone = { λ a b. b ≡ a };
 
     fn clone(&self) -> Result<FieldSet, AllocError> {
-        Ok(FieldSet {
-            sources: self.sources.clone()?,
-            selection_set: self.selection_set.clone()?,
-        })
+        clone_fields!(self: sources, selection_set)
     }
 }
 

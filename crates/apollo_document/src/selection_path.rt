@@ -5,6 +5,7 @@ ghost use Rattle.apollo_document.specs.PathTexts.{definition_name_text, path_tex
 use graphql_nodes::collections::items::Items;
 use graphql_nodes::name::Name;
 use graphql_nodes::operation_type::OperationType;
+use graphql_nodes::{clone_fields, take_apart};
 use std::alloc::AllocError;
 use std::fmt;
 
@@ -33,10 +34,7 @@ pub struct SelectionPath {
 
 impl Drop for SelectionPath {
     fn drop(self) {
-        let Self {
-            root: _,
-            nested_fields: _,
-        } = self;
+        take_apart!(self: root, nested_fields);
     }
 }
 
@@ -62,10 +60,7 @@ impl Clone for SelectionPath {
     ghost is_clone = { λ a b. b ≡ a };
 
     fn clone(&self) -> Result<SelectionPath, AllocError> {
-        Ok(SelectionPath {
-            root: self.root.clone()?,
-            nested_fields: self.nested_fields.clone()?,
-        })
+        clone_fields!(self: root, nested_fields)
     }
 }
 

@@ -31,6 +31,7 @@ use graphql_nodes::collections::table::Table;
 use graphql_nodes::name::Name;
 use graphql_nodes::node::Node;
 use graphql_nodes::source::{SourceMap, SourceSpan};
+use graphql_nodes::take_apart;
 use std::alloc::{AllocError, Global};
 
 /// What a builder of documents holds until it fails: the kept operations and fragments, typed, and the
@@ -46,13 +47,7 @@ pub struct Tables {
 
 impl Drop for Tables {
     fn drop(self) {
-        let Self {
-            alloc: _,
-            operations: _,
-            fragments: _,
-            multiple_anonymous: _,
-            faults: _,
-        } = self;
+        take_apart!(self: alloc, operations, fragments, multiple_anonymous, faults);
     }
 }
 

@@ -1,5 +1,5 @@
 -- Equality of typed selections, fields, inline fragments and sets.
-use Rattle.std.proofs.Common.{rules, ◌≡◌, Bool, true, false, ◌&&◌, List, refl, sym, ◌∙◌, map, ap, subst}
+use Rattle.std.proofs.Common.{rules, ◌≡◌, Bool, true, false, ◌&&◌, List, refl, sym, ◌∙◌, map, ap}
 use Rattle.std.proofs.Common.{nat_eq}
 use Rattle.std.specs.Option.{option_map, option_eq}
 use lib.Pointwise.{pointwise}
@@ -166,34 +166,27 @@ remade : {A B : Type 0} {p : Bool} {x y : A} (to : A → B) (back : B → A) →
     → Says p x y → Says p (to x) (to y)
 remade {x = x} {y = y} to back r s = (λ h. ap to (s.0 h), λ h. s.1 (sym (r x) ∙ ap back h ∙ r y))
 
+-- what is to be shown of a value: the test E says whether f gives it and another one value
+abbrev Told : {A : Type 0} → (A → A → Bool) → (A → A) → A → Type 0
+Told {A} E f a = (b : A) → At E f a b
+
 -- from one level to the values
-met : {A L : Type 0} (E : A → A → Bool) (f : A → A) (roll : L → A) (out : A → L) (e : L → L → Bool) (g : L
-    → L) → ((a b : A) → E a b ≡ e (out a) (out b)) → ((z : L) → f (roll z) ≡ roll (g z))
-    → ((z : L) → out (roll z) ≡ z) → ((a : A) → roll (out a) ≡ a) → (x : L) (b : A) → At e g x (out b)
-    → At E f (roll x) b
-met E f roll out e g er fr or ro x b s =
+met : {A L : Type 0} (E : A → A → Bool) (f : A → A) (roll : L → A) (out : A → L) (e : L → L → Bool)
+    (g : L → L) → ((a b : A) → E a b ≡ e (out a) (out b)) → ((z : L) → f (roll z) ≡ roll (g z))
+    → ((z : L) → out (roll z) ≡ z) → ((a : A) → roll (out a) ≡ a) → (x : L) → ((z : L) → At e g x z)
+    → Told E f (roll x)
+met E f roll out e g er fr or ro x s b =
     let one = er (roll x) b ∙ ap (λ l. e l (out b)) (or x) in
     let bare = ap f (sym (ro b)) ∙ fr (out b) in (
-      λ h. fr x ∙ ap roll (s.0 (sym one ∙ h)) ∙ sym bare,
-      λ h. one ∙ s.1 (sym (or (g x)) ∙ ap out (sym (fr x) ∙ h ∙ bare) ∙ or (g (out b))),
+      λ h. fr x ∙ ap roll ((s (out b)).0 (sym one ∙ h)) ∙ sym bare,
+      λ h. one ∙ (s (out b)).1 (sym (or (g x)) ∙ ap out (sym (fr x) ∙ h ∙ bare) ∙ or (g (out b))),
     )
-
-abbrev OfSelection : Selection → Type 0
-OfSelection a = (b : Selection) → At selection_eq bare_selection a b
-
-abbrev OfField : Field → Type 0
-OfField a = (b : Field) → At field_eq bare_field a b
-
-abbrev OfInline : InlineFragment → Type 0
-OfInline a = (b : InlineFragment) → At inline_eq bare_inline_fragment a b
-
-abbrev OfSet : SelectionSet → Type 0
-OfSet a = (b : SelectionSet) → At set_eq bare_selection_set a b
 
 -- one level, whose parts have what is to be shown of them
 abbrev Level : Type 0
-Level = Selection-F ((d : Selection) × OfSelection d) ((d : Field) × OfField d) ((d : InlineFragment)
-    × OfInline d) ((d : SelectionSet) × OfSet d)
+Level = Selection-F ((d : Selection) × Told selection_eq bare_selection d)
+    ((d : Field) × Told field_eq bare_field d) ((d : InlineFragment) × Told inline_eq bare_inline_fragment d)
+    ((d : SelectionSet) × Told set_eq bare_selection_set d)
 
 abbrev alone : Level → SL
 alone (Selection-F.Field n) = Selection-F.Field (record { value = n.value.0; location = n.location })
@@ -225,70 +218,61 @@ module _ (parts : ComparedParts) where
 
   field_level : (y z : FL) → At set_eq bare_selection_set y.selection_set z.selection_set
       → At field_layer_eq bare_field_layer y z
-  field_level y z s = remade {B = FL} (λ p. record {
-    definition = p.0;
-    alias = p.1.0;
-    name = p.1.1.0;
-    arguments = p.1.1.1.0;
-    directives = p.1.1.1.1.0;
-    selection_set = p.1.1.1.1.1;
-  }) (λ l. (l.definition, (l.alias, (l.name, (l.arguments, (l.directives, l.selection_set))))))
-      (λ _. refl) (both ((nodes parts.field_definitions).at y.definition z.definition)
+  field_level y z s = remade {B = FL} _
+      (λ l. (l.definition, (l.alias, (l.name, (l.arguments, (l.directives, l.selection_set)))))) (λ _. refl)
+      (both ((nodes parts.field_definitions).at y.definition z.definition)
       (both ((options names).at y.alias z.alias) (both (name_at y.name z.name)
       (both ((lists (nodes parts.arguments)).at y.arguments z.arguments)
       (both (parts.directive_lists.at y.directives z.directives) s)))))
 
   inline_level : (y z : IL) → At set_eq bare_selection_set y.selection_set z.selection_set
       → At inline_layer_eq bare_inline_layer y z
-  inline_level y z s = remade {B = IL}
-      (λ p. record { type_condition = p.0; directives = p.1.0; selection_set = p.1.1 })
-      (λ l. (l.type_condition, (l.directives, l.selection_set))) (λ _. refl)
-      (both ((options names).at y.type_condition z.type_condition)
+  inline_level y z s = remade {B = IL} _ (λ l. (l.type_condition, (l.directives, l.selection_set)))
+      (λ _. refl) (both ((options names).at y.type_condition z.type_condition)
       (both (parts.directive_lists.at y.directives z.directives) s))
 
   set_level : (y z : TL) → At (pointwise selection_eq) (map bare_selection) y.selections z.selections
       → At set_layer_eq bare_set_layer y z
-  set_level y z s = remade {B = TL} (λ p. record { ty = p.0; selections = p.1 }) (λ l. (l.ty, l.selections))
-      (λ _. refl) (both (name_at y.ty z.ty) s)
+  set_level y z s = remade {B = TL} _ (λ l. (l.ty, l.selections)) (λ _. refl) (both (name_at y.ty z.ty) s)
 
-  selection_met : (y : Level) → OfSelection (roll-Selection (alone y))
-  selection_met y b = met selection_eq bare_selection roll-Selection out-Selection selection_layer_eq
-      bare_selection_layer selection-is bare-selection views.out-roll-Selection views.roll-out-Selection
-      (alone y) b (selection_level y (out-Selection b))
+  selection_met : (y : Level) → Told selection_eq bare_selection (roll-Selection (alone y))
+  selection_met y = met _ bare_selection _ _ selection_layer_eq bare_selection_layer selection-is
+      bare-selection views.out-roll-Selection views.roll-out-Selection (alone y) (selection_level y)
 
-  field_met : (y : FL) → OfSet y.selection_set → OfField (roll-Field y)
-  field_met y s b = met _ bare_field _ _ field_layer_eq bare_field_layer field-is (folds.fold-roll-Field _ _ _
-      _ _ _ _ _) views.out-roll-Field views.roll-out-Field y b (field_level y (out-Field b)
-      (s (out-Field b).selection_set))
+  field_met : (y : FL) → Told set_eq bare_selection_set y.selection_set
+      → Told field_eq bare_field (roll-Field y)
+  field_met y s = met _ bare_field _ _ field_layer_eq bare_field_layer field-is
+      (folds.fold-roll-Field _ _ _ _ _ _ _ _) views.out-roll-Field views.roll-out-Field y
+      (λ z. field_level y z (s z.selection_set))
 
-  inline_met : (y : IL) → OfSet y.selection_set → OfInline (roll-InlineFragment y)
-  inline_met y s b = met _ bare_inline_fragment _ _ inline_layer_eq bare_inline_layer inline-is
+  inline_met : (y : IL) → Told set_eq bare_selection_set y.selection_set
+      → Told inline_eq bare_inline_fragment (roll-InlineFragment y)
+  inline_met y s = met _ bare_inline_fragment _ _ inline_layer_eq bare_inline_layer inline-is
       (folds.fold-roll-InlineFragment _ _ _ _ _ _ _ _) views.out-roll-InlineFragment
-      views.roll-out-InlineFragment y b (inline_level y _ (s (out-InlineFragment b).selection_set))
+      views.roll-out-InlineFragment y (λ z. inline_level y z (s z.selection_set))
 
   set_met : (y : TL)
       → ((zs : List Selection) → At (pointwise selection_eq) (map bare_selection) y.selections zs)
-      → OfSet (roll-SelectionSet y)
-  set_met y s b = met _ bare_selection_set _ _ set_layer_eq bare_set_layer set-is
+      → Told set_eq bare_selection_set (roll-SelectionSet y)
+  set_met y s = met _ bare_selection_set _ _ set_layer_eq bare_set_layer set-is
       (folds.fold-roll-SelectionSet _ _ _ _ _ _ _ _) views.out-roll-SelectionSet views.roll-out-SelectionSet y
-      b (set_level y (out-SelectionSet b) (s (out-SelectionSet b).selections))
+      (λ z. set_level y z (s z.selections))
 
-  set_at : (a : SelectionSet) → OfSet a
-  set_at = folds.ind-SelectionSet OfSelection OfField OfInline OfSet
-      (λ x y is. subst (λ z. OfSelection (roll-Selection z)) is (selection_met y))
-      (λ x y is. subst (λ z. OfField (roll-Field z)) is (field_met _ y.selection_set.1))
-      (λ x y is. subst (λ z. OfInline (roll-InlineFragment z)) is (inline_met _ y.selection_set.1))
-      (λ x y is. subst (λ z. OfSet (roll-SelectionSet z)) is
+  set_at : (a : SelectionSet) → Told set_eq bare_selection_set a
+  set_at = folds.ind-SelectionSet (Told selection_eq bare_selection) (Told field_eq bare_field)
+      (Told inline_eq bare_inline_fragment) (Told set_eq bare_selection_set)
+      (λ x y is. rw (← is) (selection_met y)) (λ x y is. rw (← is) (field_met _ y.selection_set.1))
+      (λ x y is. rw (← is) (inline_met _ y.selection_set.1)) (λ x y is. rw (← is)
       (set_met _ (list_at selection_eq bare_selection (λ e. e.0) (λ e z. e.1 z) y.selections)))
 
-  field_at : (a : Field) → OfField a
-  field_at a = subst OfField (views.roll-out-Field a) (field_met (out-Field a) (set_at a.selection_set))
+  field_at : (a : Field) → Told field_eq bare_field a
+  field_at a = rw (views.roll-out-Field a) at (field_met (out-Field a) (set_at a.selection_set))
 
-  inline_at : (a : InlineFragment) → OfInline a
-  inline_at a = subst OfInline (views.roll-out-InlineFragment a) (inline_met (out-InlineFragment a)
-      (set_at a.selection_set))
+  inline_at : (a : InlineFragment) → Told inline_eq bare_inline_fragment a
+  inline_at a = rw (views.roll-out-InlineFragment a) at
+      (inline_met (out-InlineFragment a) (set_at a.selection_set))
 
-  of_level : (x : SL) → OfSelection (roll-Selection x)
+  of_level : (x : SL) → Told selection_eq bare_selection (roll-Selection x)
   of_level (Selection-F.Field n) =
       selection_met (Selection-F.Field
       (record { value = (n.value, field_at n.value); location = n.location }))
@@ -299,7 +283,7 @@ module _ (parts : ComparedParts) where
 
   pub selections : Compares impl.ghosts.eq bare_selection
   unfolding selection_eq
-  selections = record { at = λ a. subst OfSelection (views.roll-out-Selection a) (of_level _) }
+  selections = record { at = λ a. rw (views.roll-out-Selection a) at (of_level (out-Selection a)) }
 
   pub fields : Compares field.ghosts.eq bare_field
   unfolding field_eq

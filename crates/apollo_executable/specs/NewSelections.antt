@@ -14,6 +14,7 @@ use Rattle.apollo_component.specs.declared.component.Component.{Component}
 use Rattle.apollo_schema.specs.Lookups.{field_at, IsMissingIn}
 use Rattle.apollo_schema.specs.declared.schema.Schema.{Schema}
 use Rattle.apollo_executable.specs.declared.selection.Field.{Field, roll-Field}
+use Rattle.apollo_executable.specs.declared.selection.FragmentSpread.{FragmentSpread}
 use Rattle.apollo_executable.specs.declared.selection.InlineFragment.{InlineFragment, roll-InlineFragment}
 use Rattle.apollo_executable.specs.declared.selection.SelectionSet.{SelectionSet, roll-SelectionSet}
 use Rattle.apollo_executable.specs.declared.new_field_error.NewFieldError.{NewFieldError}
@@ -56,6 +57,10 @@ inline_fragment_in ty =
 abbrev pub new_inline_fragment : NameView → Option NameView → InlineFragment
 new_inline_fragment ty (Some condition) = inline_fragment_on condition
 new_inline_fragment ty None = inline_fragment_in ty
+
+-- a spread of the fragment of this name, without directives
+abbrev pub new_spread : NameView → FragmentSpread
+new_spread name = record { fragment_name = name; directives = record { 0 = [] } }
 
 -- the field has the definition that the schema gives for its name in this type
 abbrev pub IsNewField : Schema → NameView → NameView → Field → Type 0

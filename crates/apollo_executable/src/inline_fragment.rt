@@ -3,7 +3,7 @@ ghost use Rattle.std.specs.Prelude.{◌≡◌, [], ◌∷◌, ◌++◌, IfOk};
 ghost use Rattle.std.specs.Option.{option_copied};
 ghost use Rattle.graphql_nodes.specs.SameText.{same_text};
 ghost use Rattle.graphql_nodes.specs.Tables.{lookup};
-ghost use Rattle.apollo_executable.specs.NewSelections.{inline_fragment_on, inline_fragment_in};
+ghost use Rattle.apollo_executable.specs.NewSelections.{inline_fragment_on, inline_fragment_in, new_spread};
 
 use crate::appending::append_directives;
 use crate::document::ExecutableDocument;
@@ -105,7 +105,7 @@ impl InlineFragment {
 impl FragmentSpread {
     /// A spread of the fragment of this name, without directives (section 2.8). It takes no memory.
     pub fn new(alloc: Global, fragment_name: Name) -> FragmentSpread
-        ensures { result ≡ record { fragment_name = fragment_name; directives = record { 0 = [] } } }
+        ensures { result ≡ new_spread fragment_name }
     {
         FragmentSpread {
             fragment_name,

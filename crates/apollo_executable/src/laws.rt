@@ -11,9 +11,8 @@ ghost use Rattle.apollo_executable.specs.BareErrors.{bare_new_field_error, bare_
 ghost use Rattle.apollo_executable.specs.BareDocuments.{bare_operation, bare_fragment, bare_operation_map};
 ghost use Rattle.apollo_executable.specs.BareDocuments.{bare_document};
 
+pub mod by_kind;
 pub mod calls_of_walks;
-pub mod fields_in;
-pub mod spreads_in;
 
 use crate::document::ExecutableDocument;
 use crate::new_field_error::NewFieldError;

@@ -1,4 +1,5 @@
 //! Why a field isn't made: GraphQL specification of October 2021, section 2.5.
+ghost use Rattle.std.specs.Prelude.{◌≡◌};
 
 use apollo_schema::field_lookup_error::FieldLookupError;
 use std::alloc::AllocError;
@@ -16,7 +17,6 @@ pub enum NewFieldError<'schema> {
 }
 
 impl<'schema> From<FieldLookupError<'schema>> for NewFieldError<'schema> {
-    ghost use Rattle.std.specs.Prelude.{◌≡◌};
     ghost use Rattle.apollo_executable.specs.declared.new_field_error.NewFieldError.TheVariants.{Lookup};
 
     ghost from_gives = { λ reason error. error ≡ Lookup reason };
@@ -28,7 +28,6 @@ impl<'schema> From<FieldLookupError<'schema>> for NewFieldError<'schema> {
 }
 
 impl<'schema> From<AllocError> for NewFieldError<'schema> {
-    ghost use Rattle.std.specs.Prelude.{◌≡◌};
     ghost use Rattle.apollo_executable.specs.declared.new_field_error.NewFieldError.TheVariants.{Memory};
 
     ghost from_gives = { λ _ error. error ≡ Memory };

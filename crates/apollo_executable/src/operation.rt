@@ -10,6 +10,7 @@ use graphql_nodes::collections::items::Items;
 use graphql_nodes::name::{Name, NamedType};
 use graphql_nodes::node::Node;
 use graphql_nodes::operation_type::OperationType;
+use graphql_nodes::{clone_fields, take_apart};
 use std::alloc::AllocError;
 
 /// A query, mutation or subscription, anonymous where it has no name (section 2.3).
@@ -26,13 +27,7 @@ pub struct Operation {
 
 impl Drop for Operation {
     fn drop(self) {
-        let Self {
-            operation_type: _,
-            name: _,
-            variables: _,
-            directives: _,
-            selection_set: _,
-        } = self;
+        take_apart!(self: operation_type, name, variables, directives, selection_set);
     }
 }
 
@@ -48,11 +43,7 @@ pub struct Fragment {
 
 impl Drop for Fragment {
     fn drop(self) {
-        let Self {
-            name: _,
-            directives: _,
-            selection_set: _,
-        } = self;
+        take_apart!(self: name, directives, selection_set);
     }
 }
 
@@ -104,11 +95,7 @@ impl Clone for Fragment {
     ghost is_clone = { λ a b. b ≡ a };
 
     fn clone(&self) -> Result<Fragment, AllocError> {
-        Ok(Fragment {
-            name: self.name.clone()?,
-            directives: self.directives.clone()?,
-            selection_set: self.selection_set.clone()?,
-        })
+        clone_fields!(self: name, directives, selection_set)
     }
 }
 

@@ -12,6 +12,7 @@ use graphql_nodes::collections::hash_keys::HashKeys;
 use graphql_nodes::collections::table::Table;
 use graphql_nodes::name::Name;
 use graphql_nodes::node::Node;
+use graphql_nodes::take_apart;
 use std::alloc::Global;
 
 /// The anonymous operation of a document, if there is one, and its named operations under their names, in
@@ -27,10 +28,7 @@ pub struct OperationMap {
 
 impl Drop for OperationMap {
     fn drop(self) {
-        let Self {
-            anonymous: _,
-            named: _,
-        } = self;
+        take_apart!(self: anonymous, named);
     }
 }
 

@@ -1,4 +1,5 @@
 //! Why no operation is answered for a request: GraphQL specification of October 2021, section 6.1.
+ghost use Rattle.std.specs.Prelude.{◌≡◌};
 
 use graphql_nodes::name::Name;
 use std::alloc::AllocError;
@@ -22,7 +23,6 @@ pub enum RequestError<'n> {
 }
 
 impl<'n> From<AllocError> for RequestError<'n> {
-    ghost use Rattle.std.specs.Prelude.{◌≡◌};
     ghost use Rattle.apollo_executable.specs.declared.request_error.RequestError.TheVariants.{Memory};
 
     ghost from_gives = { λ _ error. error ≡ Memory };

@@ -13,6 +13,7 @@ use graphql_ast::type_system::FieldDefinition;
 use graphql_nodes::collections::items::Items;
 use graphql_nodes::name::{Name, NamedType};
 use graphql_nodes::node::Node;
+use graphql_nodes::{clone_fields, take_apart};
 use std::alloc::AllocError;
 
 /// Selections from a type, in order (section 2.4).
@@ -27,10 +28,7 @@ pub struct SelectionSet {
 impl Drop for SelectionSet {
     #[cycle(drop_selection)]
     fn drop(self) {
-        let Self {
-            ty: _,
-            selections: _,
-        } = self;
+        take_apart!(self: ty, selections);
     }
 }
 
@@ -59,14 +57,7 @@ pub struct Field {
 impl Drop for Field {
     #[cycle(drop_selection)]
     fn drop(self) {
-        let Self {
-            definition: _,
-            alias: _,
-            name: _,
-            arguments: _,
-            directives: _,
-            selection_set: _,
-        } = self;
+        take_apart!(self: definition, alias, name, arguments, directives, selection_set);
     }
 }
 
@@ -79,10 +70,7 @@ pub struct FragmentSpread {
 
 impl Drop for FragmentSpread {
     fn drop(self) {
-        let Self {
-            fragment_name: _,
-            directives: _,
-        } = self;
+        take_apart!(self: fragment_name, directives);
     }
 }
 
@@ -98,11 +86,7 @@ pub struct InlineFragment {
 impl Drop for InlineFragment {
     #[cycle(drop_selection)]
     fn drop(self) {
-        let Self {
-            type_condition: _,
-            directives: _,
-            selection_set: _,
-        } = self;
+        take_apart!(self: type_condition, directives, selection_set);
     }
 }
 
@@ -110,10 +94,7 @@ impl Clone for SelectionSet {
     ghost is_clone = { λ a b. b ≡ a };
 
     fn clone(&self) -> Result<SelectionSet, AllocError> {
-        Ok(SelectionSet {
-            ty: self.ty.clone()?,
-            selections: self.selections.clone()?,
-        })
+        clone_fields!(self: ty, selections)
     }
 }
 
@@ -133,14 +114,7 @@ impl Clone for Field {
     ghost is_clone = { λ a b. b ≡ a };
 
     fn clone(&self) -> Result<Field, AllocError> {
-        Ok(Field {
-            definition: self.definition.clone()?,
-            alias: self.alias.clone()?,
-            name: self.name.clone()?,
-            arguments: self.arguments.clone()?,
-            directives: self.directives.clone()?,
-            selection_set: self.selection_set.clone()?,
-        })
+        clone_fields!(self: definition, alias, name, arguments, directives, selection_set)
     }
 }
 
@@ -148,10 +122,6 @@ impl Clone for InlineFragment {
     ghost is_clone = { λ a b. b ≡ a };
 
     fn clone(&self) -> Result<InlineFragment, AllocError> {
-        Ok(InlineFragment {
-            type_condition: self.type_condition.clone()?,
-            directives: self.directives.clone()?,
-            selection_set: self.selection_set.clone()?,
-        })
+        clone_fields!(self: type_condition, directives, selection_set)
     }
 }

@@ -1,7 +1,7 @@
 //! Selection sets: GraphQL specification of October 2021, section 2.4.
 ghost use Rattle.std.specs.Prelude.{◌≡◌, ◌==◌, [], ◌∷◌, ◌++◌, length, Some, IfOk, IfErr, OnOk, OnErr};
 ghost use Rattle.std.specs.Prelude.{filter_map};
-ghost use Rattle.apollo_executable.specs.NewSelections.{empty_set, new_field, new_inline_fragment};
+ghost use Rattle.apollo_executable.specs.NewSelections.{empty_set, new_field, new_inline_fragment, new_spread};
 ghost use Rattle.apollo_executable.specs.NewSelections.{IsNewField, IsNewFieldRefusal};
 ghost use Rattle.apollo_executable.specs.SelectionParts.{as_field, FieldsInOrder};
 
@@ -91,7 +91,7 @@ impl SelectionSet {
     /// A spread of the fragment of this name, without directives, to be added with
     /// [`push`](SelectionSet::push). It takes no memory.
     pub fn new_fragment_spread(&self, alloc: Global, fragment_name: Name) -> FragmentSpread
-        ensures { result ≡ record { fragment_name = fragment_name; directives = record { 0 = [] } } }
+        ensures { result ≡ new_spread fragment_name }
     {
         FragmentSpread::new(alloc, fragment_name)
     }

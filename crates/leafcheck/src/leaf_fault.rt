@@ -3,6 +3,7 @@
 use apollo_document::selection_path::SelectionPath;
 use graphql_nodes::name::{Name, NamedType};
 use graphql_nodes::source::SourceSpan;
+use graphql_nodes::take_apart;
 use thiserror::Error;
 
 /// In which way a field is at fault.
@@ -37,12 +38,6 @@ pub struct LeafFault {
 
 impl Drop for LeafFault {
     fn drop(self) {
-        let Self {
-            location: _,
-            parent_type: _,
-            response_key: _,
-            path: _,
-            kind: _,
-        } = self;
+        take_apart!(self: location, parent_type, response_key, path, kind);
     }
 }

@@ -1,6 +1,6 @@
 -- The text of a document of texts is read as definitions that build the document again.
 use Rattle.apollo_canonical.proofs as canonical
-use canonical.Prelude.{AddedDocumentText, AllByRecursion, AreEqualInOrder, AreEqualItems, Bool}
+use canonical.Prelude.{AddedText, AllByRecursion, AreEqualInOrder, AreEqualItems, Bool}
 use canonical.Prelude.{BuildDocumentAgain, Definition, DocumentItem, DocumentTextLaws, ExecutableDocument}
 use canonical.Prelude.{HasWellFormedExecutables, IsDocumentOf, IsDocumentOfTexts, IsFilledDocument}
 use canonical.Prelude.{IsReadingOfDocument, IsWellFormed, List, None, Option, Schema, []}
@@ -13,7 +13,7 @@ use canonical.Documents.AlikeTypable.{said}
 use canonical.Documents.PlainDocuments.{equal, in_order, written}
 use canonical.Documents.KeptDefinitions.{FragmentIsWell, OperationIsWell}
 use canonical.Documents.PlainListFaults.{list_faults}
-use Rattle.apollo_canonical.specs.DocumentTexts.{AreRead}
+use Rattle.apollo_canonical.specs.SchemaTexts.{AreRead}
 use Rattle.apollo_canonical.specs.EqualDocuments.{bare_item}
 use Rattle.std.proofs.lemmas.List.Elements.{filter_map-append}
 use Rattle.apollo_executable.specs.declared.operation_map.OperationMap.{OperationMap}
@@ -39,11 +39,11 @@ unambiguous m (inr none) = ap (λ es. flat_map (λ e. ambiguous_if (option_map (
 
 module _ (laws : DocumentTextLaws) where
   -- what texts add is well-formed
-  well_formed : (texts : List AddedDocumentText) → AreRead texts
+  well_formed : (texts : List AddedText) → AreRead texts
       → HasWellFormedExecutables (added_documents texts)
   well_formed [] a = record { each_operation = tt; each_fragment = tt }
   well_formed (t ∷ texts) a =
-      joined _ _ (laws.executables t.errors t.definitions (laws.reading.formed t.reading.file t.reading.depth
+      joined _ _ (laws.executables t.setting t.definitions (laws.reading.formed t.reading.file t.reading.depth
       t.reading.allowed t.reading.text t.definitions a.0.spelled)) (well_formed texts a.1)
 
   module _ (schema : Option Schema) (document : ExecutableDocument) (built : IsDocumentOfTexts schema

@@ -12,6 +12,7 @@ use canonical.Prelude.{roots_parts, true, ◌++◌, ◌∷◌}
 use canonical.Schemas.WellFormedLists.{each-chosen, each-from_flat_map, each-split}
 use Rattle.graphql_nodes.specs.declared.type_kind.TypeKind.TheVariants as k
 use Rattle.graphql_ast.specs.Declarations.{OfSchema, OfType}
+use Rattle.graphql_ast.specs.Parts.{of_schema}
 use Rattle.graphql_ast.specs.declared.definition.Definition.TheVariants as d
 use Rattle.apollo_meaning.specs.Items.ListItems.{ignorable_if, item_from}
 
@@ -38,9 +39,8 @@ pub record IsWellFormedType (p : TypePart) : Type 0 where
   pub parts : AreWellFormedParts (held_parts p)
 
 -- a definition or extension of the schema
-pub record IsWellFormedSchema (s : SchemaPart) : Type 0 where
-  pub directives : EachWellFormed (trees Directives) s.directives
-  pub roots : EachWellFormed (trees Roots) s.roots
+abbrev pub IsWellFormedSchema : SchemaPart → Type 0
+IsWellFormedSchema s = AreWellFormedParts (of_schema s.parts)
 
 -- an entry of a list
 abbrev pub IsWellFormedItem : ListItem → Type 0
@@ -88,6 +88,13 @@ module _ (ps : Parts) where
   behind_name k.InputObject h InputFields = (directed InputFields h).1
   behind_name _ h _ = tt
 
+  -- directives and roots of the schema
+  pub rooted : EachWellFormed (trees Directives) ps.directives → EachWellFormed (trees Roots) ps.roots
+      → (s : Sort) → EachWellFormed (trees s) (listed (of_schema ps) s)
+  rooted ds rs Directives = ds
+  rooted ds rs Roots = rs
+  rooted ds rs _ = tt
+
 -- what a well-formed definition says is well-formed
 declared : (x : Declaration) → IsWellFormed (declaration_parts x) → IsWellFormedItem (item_from x)
 declared (OfOperation n) h = h
@@ -104,13 +111,11 @@ declared (OfSchema s) h = by s.is_extension (split _ _ h.1).1
     by : (b : Bool)
         → IsWellFormed (directives_parts true (directive_list s.parts) ++ roots_parts b s.parts.roots)
         → IsWellFormedItem (item_from (OfSchema (record s { is_extension = b })))
-    by true g = let both = directed s.parts Roots g in record { directives = both.0; roots = both.1 }
+    by true g = let both = directed s.parts Roots g in rooted s.parts both.0 both.1
     by false g =
         let both = split _ _ g in
-        record {
-          directives = each (trees Directives) s.parts.directives both.0;
-          roots = each (trees Roots) s.parts.roots both.1.1;
-        }
+        rooted s.parts (each (trees Directives) s.parts.directives both.0)
+        (each (trees Roots) s.parts.roots both.1.1)
 
 -- whether a definition may be ignored makes no difference
 ignorable : (b : Bool) (x : ListItem) → IsWellFormedItem x → IsWellFormedItem (ignorable_if b x)

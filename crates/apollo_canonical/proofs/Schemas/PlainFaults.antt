@@ -98,7 +98,7 @@ pub schema-count : (ps : List SchemaPart) (s : SchemaPart)
     → count (schema_faults (map plain_schema_part ps) (plain_schema_part s)) ≡ count (schema_faults ps s)
 schema-count ps s = rw (
   roots-unplaced true ps,
-  each_after-carried root_fault root_fault _ blank blank root-count _ s.roots,
+  each_after-carried root_fault root_fault _ blank blank root-count _ s.parts.roots,
 )
 
 -- ---- the faults of a list

@@ -24,7 +24,7 @@ all-unmarked xs h = each-weaken _ _ unmarked xs (each-from_flat_map _ definition
 
 -- a schema definition names a root
 abbrev IsRooted : Definition → Type 0
-IsRooted x = IfSome (defined_schema (item_of x)) (λ s. s.roots ≢ [])
+IsRooted x = IfSome (defined_schema (item_of x)) (λ s. s.parts.roots ≢ [])
 
 rooted : (x : Definition) → IsWellFormedDefinition x → IsRooted x
 rooted (d.SchemaDefinition n) h =
@@ -70,6 +70,6 @@ module _ (nowhere : (file : FileId) (depth : ℕ) (words : List WordView) (x : L
         (λ xs n w. each-weaken _ _ rooted xs (all-well_formed xs w)) texts read))));
   }
     where
-      item : (a : Added) → IsRooted a.1 → IfSome (defined_schema (added_item a)) (λ s. s.roots ≢ [])
+      item : (a : Added) → IsRooted a.1 → IfSome (defined_schema (added_item a)) (λ s. s.parts.roots ≢ [])
       item (b, d.SchemaDefinition n) h = h
       item (b, x) h = tt

@@ -3,10 +3,10 @@ use Rattle.apollo_canonical.proofs as canonical
 use canonical.Prelude.{Added, AllByRecursion, AreWellFormed, Bool, Directives, IsName, List, ListItem}
 use canonical.Prelude.{Mutation, OperationType, Query, Roots, Sort, Subscription, TypePart, [], adopted_part}
 use canonical.Prelude.{codes, cond, default_root, false, has, held_parts, implicit_root, implicit_roots}
-use canonical.Prelude.{is_object_name, listed, no_parts, refl, true, whole, ◌∷◌}
+use canonical.Prelude.{is_object_name, listed, no_parts, refl, schema_of_roots, true, whole, ◌∷◌}
 use canonical.Schemas.BuiltIn.{named}
 use canonical.Schemas.WellFormedLists.{each-flat_map}
-use canonical.Schemas.Items.{EachWellFormed, IsWellFormedItem, IsWellFormedType, each-added, trees}
+use canonical.Schemas.Items.{EachWellFormed, IsWellFormedItem, IsWellFormedType, each-added, rooted, trees}
 use canonical.Schemas.Whole.{each-completed}
 use Rattle.graphql_nodes.specs.OperationTexts.{default_type_text}
 
@@ -44,4 +44,4 @@ implicit xs = each-flat_map _ (implicit_root xs) (Query ∷ Mutation ∷ Subscri
 pub each-whole : (adopts : Bool) (xs : List Added) → AreWellFormed xs
     → AllByRecursion IsWellFormedItem (whole adopts xs)
 each-whole adopts xs a = each-completed IsWellFormedItem adopted_one
-    (λ ys. record { directives = tt; roots = implicit ys }) adopts _ (each-added xs a)
+    (λ ys. rooted (schema_of_roots (implicit_roots ys)).parts tt (implicit ys)) adopts _ (each-added xs a)

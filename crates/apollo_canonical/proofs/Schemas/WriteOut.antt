@@ -93,8 +93,8 @@ pub schema_made : (ps : List SourcedSchema) → AllByRecursion (λ s. IsWellForm
     → (head : SchemaPart)
     → AllByRecursion (λ c. Suits schema_has c.1) (schema_components (schema_definition_of head ps))
 schema_made ps a = schema-made _ ps (each-weaken _ _ (λ q h. each-suits schema_has Directives refl
-    q.1.directives h.directives) ps a) (each-weaken _ _
-    (λ q h. each-weaken _ _ (λ r g op. (λ t. well Roots t _ g, refl)) q.1.roots h.roots) ps a)
+    q.1.parts.directives (h Directives)) ps a) (each-weaken _ _
+    (λ q h. each-weaken _ _ (λ r g op. (λ t. well Roots t _ g, refl)) q.1.parts.roots (h Roots)) ps a)
 
 -- the components of the schema's definition are well-formed
 abbrev IsSchema : NodeView SchemaDefinition → Type 0

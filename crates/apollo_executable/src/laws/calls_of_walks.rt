@@ -14,6 +14,7 @@ ghost use Rattle.apollo_executable.specs.declared.selection.SelectionSet.{Select
 /// are at most two for each selection in reach, and one (`turns`). A call that gives nothing ends it: then
 /// what came is a whole walk, and the turns are all of it (`whole`). After that, or after the one error, that
 /// memory ran out, each call gives nothing and leaves the walk as it is (`rests`).
+#[tactic(auto, using(crate::proofs::Walking::CallLemmas::beginning))]
 pub fn walks_by_their_calls()
     ensures beginning { (start now : WalkView) (fields : List (NodeView Field)) → HasGiven start fields now
         → fields ++ now.coming ≡ start.coming }

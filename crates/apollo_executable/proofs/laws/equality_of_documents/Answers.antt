@@ -1,4 +1,5 @@
-use Rattle.apollo_executable.proofs.DocumentEquality.{ComparedParts, operations, operation_maps, documents}
+use Rattle.apollo_executable.proofs.DocumentEquality.{ComparedParts, operations, fragments}
+use Rattle.apollo_executable.proofs.DocumentEquality.{operation_maps, documents}
 use Rattle.apollo_executable.proofs.laws.equality_of_documents.Goals as goal
 
 parts : goal.After-equality_of_selections → ComparedParts
@@ -8,11 +9,6 @@ parts c = record {
   selection_sets = record { at = c.equality_of_selections.ensures.selection_set };
 }
 
-pub returns-clause-operation : goal.returns-clause-operation
-returns-clause-operation c = (operations (parts c)).at
-
-pub returns-clause-operation_map : goal.returns-clause-operation_map
-returns-clause-operation_map c = (operation_maps (parts c)).at
-
-pub returns-clause-document : goal.returns-clause-document
-returns-clause-document c = (documents (parts c)).at
+pub returns : goal.returns
+returns c =
+    let p = parts c in search ((operations p).at, (fragments p).at, (operation_maps p).at, (documents p).at)

@@ -19,19 +19,19 @@ use Rattle.apollo_document.proofs.elaborating.Elaboration.+elaborate.Goals as go
 pub elaborate_field-returns-clause-faults : goal.elaborate_field-returns-clause-faults
 elaborate_field-returns-clause-faults t c =
     let s = option_copied c.args.parent.now.schema in
-    let ty = c.args.parent.now.ty.now in
     let e = c.args.self.now in
-    let location = c.args.node.now.location in
-    let f = c.args.node.now.value in
-    let key = response_key_of f.alias f.name in
+    let n = c.args.node.now in
+    let key = response_key_of n.value.alias n.value.name in
     let pushed : c.push.new.self ≡ e.path.nested_fields ++ key ∷ [] = search rules in
     let within = c.in_ok-field.ensures.faults in
     let there = c.deref_mut.ensures.value ∙ ap (λ (x : Elaboration). x.path.nested_fields) within ∙ pushed in
     let popped = unpushed e.path.nested_fields c.deref_mut.result.now.items c.pop.new.self.items key
     (vec_len c.deref_mut.result.now) (search rules) there c.pop.ensures.rest in
     (λ i. record (within i) { path = record { root = (within i).path.root; nested_fields = popped i } })
-    ∙ (λ i. noting (faults_within s ty location (record { root = e.path.root; nested_fields = pushed i })
-    f) e) ∙ ap (λ (l : List Fault). noting l e) (sym (faults-field s ty location e.path f))
+    ∙ (λ i. noting (faults_within s c.args.parent.now.ty.now n.location
+    (record { root = e.path.root; nested_fields = pushed i }) n.value) e)
+    ∙ ap (λ (l : List Fault). noting l e)
+    (sym (faults-field s c.args.parent.now.ty.now n.location e.path n.value))
 
 pub elaborate_fragment-returns-in_default-clause-faults :
     goal.elaborate_fragment-returns-in_default-clause-faults
@@ -61,20 +61,18 @@ elaborate_fragment-returns-clause-typed t c =
 pub elaborate_fragment-returns-clause-faults : goal.elaborate_fragment-returns-clause-faults
 elaborate_fragment-returns-clause-faults t c =
     let s = option_copied c.args.parent.now.schema in
-    let ty = c.args.parent.now.ty.now in
     let e = c.args.self.now in
-    let location = c.args.node.now.location in
-    let f = c.args.node.now.value in
+    let n = c.args.node.now in
     let child = c.in-Some.child.now in
     let found = rw c.deref.ensures at (sym (ap option_copied c.in-Some.is) ∙ c.in_ok-child.ensures.typable) in
-    let so_far = rw c.deref.ensures at (c.in_ok-child.ensures.faults location) in
-    let below : c.as_slice.result.now ≡ f.selection_set = c.as_slice.ensures
+    let so_far = rw c.deref.ensures at (c.in_ok-child.ensures.faults n.location) in
+    let below : c.as_slice.result.now ≡ n.value.selection_set = c.as_slice.ensures
     ∙ (λ i. (c.deref-2.ensures i).selection_set) in
     c.in_ok-set.ensures.faults ∙ (λ i. noting (faults_of_selections s child (so_far i).path (below i))
     (so_far i)) ∙ ap (λ (l : List Fault). record e { faults = l })
-    (one_found (λ t. faults_of_selections s t e.path f.selection_set) location e.path
-    (typable_fragment s ty f.type_condition) child e.faults found
-    ∙ ap (λ l. e.faults ++ l) (sym (faults-fragment s ty location e.path f)))
+    (one_found (λ t. faults_of_selections s t e.path n.value.selection_set) n.location e.path
+    (typable_fragment s c.args.parent.now.ty.now n.value.type_condition) child e.faults found
+    ∙ ap (λ l. e.faults ++ l) (sym (faults-fragment s c.args.parent.now.ty.now n.location e.path n.value)))
 
 pub elaborate_all-loop-selection-preserved : goal.elaborate_all-loop-selection-preserved
 elaborate_all-loop-selection-preserved t c =
@@ -116,17 +114,16 @@ elaborate_within-returns-clause-typed t c =
 pub elaborate_within-returns-clause-faults : goal.elaborate_within-returns-clause-faults
 elaborate_within-returns-clause-faults t c =
     let s = option_copied c.args.parent.now.schema in
-    let ty = c.args.parent.now.ty.now in
     let e = c.args.self.now in
-    let location = c.args.node.now.location in
-    let f = c.args.node.now.value in
+    let n = c.args.node.now in
     let d = c.in-Some.definition in
     let is : c.inner_named_type-child.result.now ≡ child_of d = c.inner_named_type-child.ensures
     ∙ (λ i. inner_name (c.deref.ensures i).ty) in
-    let below : c.as_slice.result.now ≡ f.selection_set = c.as_slice.ensures
+    let below : c.as_slice.result.now ≡ n.value.selection_set = c.as_slice.ensures
     ∙ (λ i. (c.deref-2.ensures i).selection_set) in
     let so_far = c.in_ok-definition.ensures.faults in
     c.in_ok-set.ensures.faults ∙ (λ i. noting (faults_of_selections s (is i) (so_far i).path (below i))
     (so_far i)) ∙ ap (λ (l : List Fault). record e { faults = l })
-    (one_found (λ d. faults_of_selections s (child_of d) e.path f.selection_set) location e.path
-    (field_judged s ty f) d e.faults (sym c.in-Some.is ∙ c.in_ok-definition.ensures.typable))
+    (one_found (λ d. faults_of_selections s (child_of d) e.path n.value.selection_set) n.location e.path
+    (field_judged s c.args.parent.now.ty.now n.value) d e.faults
+    (sym c.in-Some.is ∙ c.in_ok-definition.ensures.typable))

@@ -8,12 +8,9 @@ use Rattle.apollo_executable.proofs.document.ExecutableDocument.to_ast.Goals as 
 
 pub returns-in_err-push-2-clause-memory : goal.returns-in_err-push-2-clause-memory
 returns-in_err-push-2-clause-memory c =
-    let document = c.args.self.now in
     let l = c.loop-fragment in
-    let fragment = c.in-Some-fragment.fragment in
-    let turn = iter_turn deref (values_of document.fragments) l.yielded c.into_iter-fragment-iterator.result
-    l.fragment-iterator c.next-in-loop-fragment.new.self c.next-in-loop-fragment.result
+    let turn = iter_turn deref (values_of c.args.self.now.fragments) l.yielded _ l.fragment-iterator _ _
     (c.into_iter-fragment-iterator.ensures.into_iter_gives ∙ c.values-fragment-items.ensures.rest)
-    l.yielded_by fragment c.in-Some-fragment.is c.next-in-loop-fragment.ensures.steps in
+    l.yielded_by _ c.in-Some-fragment.is c.next-in-loop-fragment.ensures.steps in
     MatchResult-from_err c.from_residual-in_err-push-2.result _ _ c.from_residual-in_err-push-2.ensures.0
-    (λ _. fragments-erased document (length l.yielded) turn.0)
+    (λ _. fragments-erased c.args.self.now (length l.yielded) turn.0)

@@ -1,8 +1,5 @@
-use Rattle.apollo_executable.proofs.Walking.CallLemmas.{beginning, turns, whole}
+use Rattle.apollo_executable.proofs.Walking.CallLemmas.{turns, whole}
 use Rattle.apollo_executable.proofs.laws.calls_of_walks.walks_by_their_calls.Goals as goal
-
-pub returns-clause-beginning : goal.returns-clause-beginning
-returns-clause-beginning c = beginning
 
 pub returns-clause-turns : goal.returns-clause-turns
 returns-clause-turns c = turns

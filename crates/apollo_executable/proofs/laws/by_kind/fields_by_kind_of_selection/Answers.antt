@@ -1,6 +1,6 @@
 use Rattle.apollo_executable.proofs.Walking.ReadingLemmas.{of_fields, none-read, field-read, spread-read}
 use Rattle.apollo_executable.proofs.Walking.ReadingLemmas.{inline-read, joined-read}
-use Rattle.apollo_executable.proofs.laws.fields_in.fields_by_kind_of_selection.Goals as goal
+use Rattle.apollo_executable.proofs.laws.by_kind.fields_by_kind_of_selection.Goals as goal
 
 pub returns : goal.returns
 returns c =

@@ -1,6 +1,6 @@
 use Rattle.apollo_executable.proofs.Walking.ReadingLemmas.{of_spreads, none-read, field-read, spread-read}
 use Rattle.apollo_executable.proofs.Walking.ReadingLemmas.{inline-read, joined-read}
-use Rattle.apollo_executable.proofs.laws.spreads_in.spreads_by_kind_of_selection.Goals as goal
+use Rattle.apollo_executable.proofs.laws.by_kind.spreads_by_kind_of_selection.Goals as goal
 
 pub returns : goal.returns
 returns c =
