@@ -16,7 +16,7 @@ use Rattle.apollo_component.specs.FirstOfEach.{first_of_each}
 use Rattle.apollo_meaning.specs.Directives.{directive_definitions, directive_names, directive_of}
 use Rattle.apollo_meaning.specs.Faults.ListFaults.{faults_of, found_of_schema, found_of_type}
 use Rattle.apollo_meaning.specs.Faults.RootFaults.{further_schema, schema_orphan}
-use Rattle.apollo_meaning.specs.Faults.TypeFaults.{kind_mismatch, orphan}
+use Rattle.apollo_meaning.specs.Faults.TypeFaults.{further_type, kind_mismatch, orphan}
 use Rattle.apollo_meaning.specs.Items.ListItems.{Added, ListItem, defined_part}
 use Rattle.apollo_meaning.specs.Items.Named.{extensions_of, first, first_schema, of_kind, schema_extensions}
 use Rattle.apollo_meaning.specs.Items.Parts.{SchemaPart, TypePart, key_of, kind_of}
@@ -25,7 +25,7 @@ use Rattle.apollo_meaning.specs.Schema.Definition.{no_schema, schema_from, schem
 use Rattle.apollo_meaning.specs.Schema.Whole.{whole}
 use Rattle.apollo_meaning.specs.Types.Meaning.{parts, extensions_with_origin, type_from}
 use Rattle.apollo_schema_laws.specs.Dropped.{executable_fault, further_directive, further_directives}
-use Rattle.apollo_schema_laws.specs.Dropped.{further_schemas, further_type, further_types, is_passed_over}
+use Rattle.apollo_schema_laws.specs.Dropped.{further_schemas, further_types, is_passed_over}
 use Rattle.apollo_schema_laws.specs.Dropped.{of_another_kind, orphans_by_name, undefined_places}
 use Rattle.apollo_schema_laws.specs.Reported.{Executable, FurtherDirective, FurtherSchema, FurtherType}
 use Rattle.apollo_schema_laws.specs.Reported.{OrphanOfSchema, OrphanOfType, OtherKind, RepeatedComponent}

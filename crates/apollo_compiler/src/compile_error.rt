@@ -1,4 +1,6 @@
 //! Why nothing is compiled.
+ghost use Rattle.std.specs.Prelude.{◌≡◌};
+ghost use Rattle.apollo_compiler.specs.declared.compile_error.CompileError.{CompileError};
 
 use std::alloc::AllocError;
 use thiserror::Error;
@@ -15,9 +17,6 @@ pub enum CompileError {
 }
 
 impl From<AllocError> for CompileError {
-    ghost use Rattle.std.specs.Prelude.{◌≡◌};
-    ghost use Rattle.apollo_compiler.specs.declared.compile_error.CompileError.{CompileError};
-
     ghost from_gives = { λ _ error. error ≡ CompileError.Memory };
 
     /// `Memory`.

@@ -54,13 +54,11 @@ pub use apollo_schema_laws::rearrangement;
 
 // Schemas and builders: a list means one schema; every builder stands for a list or has failed; subtypes are
 // the implementers.
-pub use apollo_schema::laws as schema;
-pub use apollo_schema::laws::implementers;
+pub use apollo_schema::laws::{self as schema, implementers};
 
 // The write-out: it builds again without fault to an equal schema with the same write-out, and folds no more
 // extensions.
-pub use apollo_schema_laws::write_out;
-pub use apollo_schema_laws::write_out::canonical;
+pub use apollo_schema_laws::write_out::{self, canonical};
 
 // Well-formed goes through the schema: where each definition of a list could have come of a text, so could
 // each of its write-out.
@@ -79,12 +77,10 @@ pub use apollo_canonical::laws::{canonical_document_text, equal_definitions_mean
 
 // Builders of equal lists build equal schemas, those of rearranged lists also the same faults, and documents
 // one by one what one document would.
-pub use apollo_schema_laws::rearranged_builds;
-pub use apollo_schema_laws::rearranged_builds::{documents_one_by_one, rearranged};
+pub use apollo_schema_laws::rearranged_builds::{self, documents_one_by_one, rearranged};
 
 // Coordinates: what is printed of one is read as it, no text is that of two, and which texts are refused.
-pub use apollo_coordinate::laws as coordinate;
-pub use apollo_coordinate::laws::coordinates;
+pub use apollo_coordinate::laws::{self as coordinate, coordinates};
 
 // Walks over any selections: each field that is reached as often as it stands there, in one order, in at most
 // 2N + 1 turns.
@@ -109,8 +105,7 @@ pub use apollo_document::selection_laws as elaboration;
 use crate::compile_error::CompileError;
 use crate::compile_options::CompileOptions;
 use crate::executable_options::ExecutableOptions;
-pub use apollo_document::laws as document;
-pub use apollo_document::laws::document_again;
+pub use apollo_document::laws::{self as document, document_again};
 use apollo_document::laws::{every_list_means_a_document, kept_operations_are_rooted};
 use apollo_executable::selection::Field;
 use apollo_meaning::laws::{

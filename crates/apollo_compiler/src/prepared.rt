@@ -5,6 +5,7 @@ ghost use Rattle.apollo_compiler.specs.Lists.{building_of};
 use crate::compile_options::CompileOptions;
 use apollo_schema::schema_builder::SchemaBuilder;
 use graphql_nodes::collections::hash_keys::HashKeys;
+use graphql_nodes::take_apart;
 use std::alloc::{AllocError, Global};
 use std::marker::Model;
 
@@ -16,7 +17,7 @@ pub(crate) struct Prepared {
 
 impl Drop for Prepared {
     fn drop(self) {
-        let Self { bare: _ } = self;
+        take_apart!(self: bare);
     }
 }
 
@@ -32,8 +33,10 @@ impl Model for Prepared {
 }
 
 impl Prepared {
-    /// A builder that hashes by these keys, and draws its numbers from a new source. What it stands for is
-    /// said by the invariant of the type. The error is out of memory.
+    /// A builder that hashes by these keys, and draws its numbers from a new source. The error is out of
+    /// memory.
+    ///
+    /// No clause: the invariant of the type says what each value stands for, and no clause sees keys.
     pub fn new(alloc: Global, keys: HashKeys) -> Result<Prepared, AllocError> {
         let bare = SchemaBuilder::with_keys(alloc, keys)?;
         Ok(Prepared { bare })

@@ -1,7 +1,7 @@
 -- A text may be cut where a line of it begins, and where its characters end.
 use Rattle.std.proofs.Common.{◌≡◌, ◌⊎◌, ◌+◌, ◌-◌, ◌<◌, ◌≤◌, ◌||◌, ℕ, zero, suc, Bool, true, false, not, cond}
-use Rattle.std.proofs.Common.{List, [], ◌∷◌, length, drop, get_or, slice_index, inl, inr, refl, sym, ap, ◌∙◌}
-use Rattle.std.proofs.Common.{subst, arith, add-one, nat_eq, nat_lt, drop-cons}
+use Rattle.std.proofs.Common.{List, [], ◌∷◌, length, drop, get_or, slice_index, inl, inr, refl, sym}
+use Rattle.std.proofs.Common.{subst, arith, nat_eq, nat_lt}
 use Rattle.std.specs.List.{position_or_len}
 use Rattle.std.specs.Str.{IsCharBoundary, IsUtf8}
 use Rattle.std.proofs.lemmas.List.Sums.{prefix_len-le-length, prefix_len_stops}
@@ -138,12 +138,3 @@ ahead_boundary text at left within =
       λ less high. lead (get_or rest (ahead_by left rest) 0) (ahead_stops left rest less) high,
     ) in
     IsCharBoundary-from_rest text at (ahead_by left rest) within there
-
--- how many bytes are taken from an offset on, by the byte there
-pub ahead_step : (text : List ℕ) (left at : ℕ) → at < length text
-    → ahead_by left (drop at text) ≡ cond (stops_at left (slice_index text at)) zero
-    (suc (ahead_by (left_beside left (slice_index text at)) (drop (at + 1) text)))
-ahead_step text left at less =
-    let b = slice_index text at in
-    ap (ahead_by left) (drop-cons text at 0 less) ∙ ap (λ (n : ℕ). cond (stops_at left b) zero
-    (suc (ahead_by (left_beside left b) (drop n text)))) (sym (add-one at))

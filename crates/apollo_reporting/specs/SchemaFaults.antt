@@ -16,6 +16,13 @@ first_defined kind location = of_earlier kind (codes "first defined here") locat
 abbrev pub first_listed : List ℕ → Option SourceSpan → AboutView
 first_listed kind location = of_earlier kind (codes "first listed here") location
 
+-- a part of a type was defined before, or a name listed, under this name
+abbrev pub part_defined : List ℕ → NameView → AboutView
+part_defined kind kept = first_defined kind kept.location
+
+abbrev pub name_listed : List ℕ → NameView → AboutView
+name_listed kind kept = first_listed kind kept.location
+
 -- the name of the variant, and the place of what is kept, or of the definition of another kind
 abbrev pub schema_fault_about : BuildError → AboutView
 schema_fault_about (e.ExecutableDefinition _) = of_kind (codes "ExecutableDefinition")
@@ -33,19 +40,15 @@ schema_fault_about (e.TypeExtensionKindMismatch _ _ definition _) =
 schema_fault_about (e.DuplicateRootOperation previous _) =
     first_defined (codes "DuplicateRootOperation") previous
 schema_fault_about (e.DuplicateImplementsInterfaceInObject kept _) =
-    first_listed (codes "DuplicateImplementsInterfaceInObject") kept.location
+    name_listed (codes "DuplicateImplementsInterfaceInObject") kept
 schema_fault_about (e.DuplicateImplementsInterfaceInInterface kept _) =
-    first_listed (codes "DuplicateImplementsInterfaceInInterface") kept.location
-schema_fault_about (e.ObjectFieldNameCollision kept _) =
-    first_defined (codes "ObjectFieldNameCollision") kept.location
+    name_listed (codes "DuplicateImplementsInterfaceInInterface") kept
+schema_fault_about (e.ObjectFieldNameCollision kept _) = part_defined (codes "ObjectFieldNameCollision") kept
 schema_fault_about (e.InterfaceFieldNameCollision kept _) =
-    first_defined (codes "InterfaceFieldNameCollision") kept.location
-schema_fault_about (e.EnumValueNameCollision kept _) =
-    first_defined (codes "EnumValueNameCollision") kept.location
-schema_fault_about (e.UnionMemberNameCollision kept _) =
-    first_listed (codes "UnionMemberNameCollision") kept.location
-schema_fault_about (e.InputFieldNameCollision kept _) =
-    first_defined (codes "InputFieldNameCollision") kept.location
+    part_defined (codes "InterfaceFieldNameCollision") kept
+schema_fault_about (e.EnumValueNameCollision kept _) = part_defined (codes "EnumValueNameCollision") kept
+schema_fault_about (e.UnionMemberNameCollision kept _) = name_listed (codes "UnionMemberNameCollision") kept
+schema_fault_about (e.InputFieldNameCollision kept _) = part_defined (codes "InputFieldNameCollision") kept
 
 -- the place of the thing that is kept, where it is known
 abbrev pub previous_detail : Option SourceSpan → Detail

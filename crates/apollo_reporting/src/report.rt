@@ -18,6 +18,7 @@ use crate::writing::write_line_begin;
 use apollo_document::selection_path::SelectionPath;
 use graphql_nodes::line_column::LineColumn;
 use graphql_nodes::source::SourceSpan;
+use graphql_nodes::take_apart;
 use graphql_nodes::visible_text::visible;
 use std::alloc::{AllocError, Global};
 use std::fmt;
@@ -53,11 +54,7 @@ pub struct FaultReport<'s, 'f, S, E> {
 
 impl<S, E> Drop for FaultReport<'_, '_, S, E> {
     fn drop(self) {
-        let Self {
-            sources: _,
-            location: _,
-            fault: _,
-        } = self;
+        take_apart!(self: sources, location, fault);
     }
 }
 
@@ -128,11 +125,7 @@ struct LinesBehind<'s, 'b, 'p, S> {
 
 impl<S> Drop for LinesBehind<'_, '_, '_, S> {
     fn drop(self) {
-        let Self {
-            sources: _,
-            location: _,
-            about: _,
-        } = self;
+        take_apart!(self: sources, location, about);
     }
 }
 

@@ -4,6 +4,7 @@ ghost use Rattle.std.specs.Fmt.{DisplaysOnOk, HasWritten, IsPlainFormatter};
 ghost use Rattle.std.specs.Str.{IsUtf8};
 ghost use Rattle.graphql_nodes.specs.VisibleTexts.{visible};
 
+use graphql_nodes::take_apart;
 use graphql_nodes::visible_text::visible;
 use std::fmt;
 use std::fmt::{Display, Formatter, Write};
@@ -15,7 +16,7 @@ pub(crate) struct VisibleValue<'a, D> {
 
 impl<D> Drop for VisibleValue<'_, D> {
     fn drop(self) {
-        let Self { value: _ } = self;
+        take_apart!(self: value);
     }
 }
 

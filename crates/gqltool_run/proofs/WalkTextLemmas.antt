@@ -1,6 +1,6 @@
 -- The texts of walks, as they are said line by line and go out in pieces.
 use Rattle.std.proofs.Common.{◌≡◌, ◌-◌, ◌^◌, ℕ, Bool, List, [], ◌∷◌, ◌++◌, Option, min, refl, sym, subst, ◌∙◌}
-use Rattle.std.proofs.Common.{append_assoc}
+use Rattle.std.proofs.Common.{append_assoc, map}
 use Rattle.std.proofs.lemmas.List.{append-nil}
 use Rattle.std.specs.List.{flat_map}
 use Rattle.graphql_nodes.specs.NodeView.{NodeView}
@@ -75,38 +75,6 @@ module _ (deep : Bool) (word turns_word : List ℕ) (document : ExecutableDocume
   walk-end-cut middle new text coming was none cut =
       (cut.0, walk-end middle new text cut.0 coming was none cut.1)
 
--- with the texts of the sets that are left, the text is that of all, behind what was held
-abbrev pub LacksSets : ExecutableDocument → List (List ℕ × SelectionSet) → List (List ℕ × SelectionSet)
-    → Option (List ℕ) → Option (List ℕ) → List ℕ → List ℕ → Type 0
-LacksSets document all left begin new held text = (rest : List ℕ) → AreSetsText document left rest
-    → IsSaid (AreSetsText document all) begin new held (text ++ rest)
-
-pub sets-begin : (document : ExecutableDocument) (all left : List (List ℕ × SelectionSet)) (begin : Option
-    (List ℕ)) (held : List ℕ) → left ≡ all → LacksSets document all left begin begin held held
-sets-begin document all left begin held is = λ rest are. (rest, (rw is at are, goes-nowhere begin _))
-
--- one set is said below its line
-pub sets-turn : (document : ExecutableDocument) (all left : List (List ℕ × SelectionSet)) (set : List ℕ
-    × SelectionSet) (more : List (List ℕ × SelectionSet)) (begin middle new : Option (List ℕ))
-    (held text after : List ℕ) → LacksSets document all left begin middle held text → left ≡ set ∷ more
-    → IsSaid (IsSetText document set.1) middle new (text ++ set.0) after
-    → LacksSets document all more begin new held after
-sets-turn document all left set more begin middle new held text after lacks first says = λ rest are.
-    let said = says.0 in
-    let whole = lacks (set.0 ++ (said ++ rest)) (rw first (said, (says.1.0, (rest, (are, refl))))) in
-    let left_is : text ++ (set.0 ++ (said ++ rest)) ≡ ((text ++ set.0) ++ said) ++ rest =
-    sym (append_assoc text set.0 _) ∙ sym (append_assoc _ said rest) in
-    let before = subst (GoesOut (held ++ whole.0) begin middle) left_is whole.1.1 in (
-      whole.0,
-      (whole.1.0, goes-further _ begin middle new _ _ before (goes-with _ middle new after rest says.1.1)),
-    )
-
-pub sets-end : (document : ExecutableDocument) (all left : List (List ℕ × SelectionSet)) (begin new : Option
-    (List ℕ)) (held text : List ℕ) → LacksSets document all left begin new held text → left ≡ []
-    → IsSaid (AreSetsText document all) begin new held text
-sets-end document all left begin new held text lacks none =
-    subst (IsSaid (AreSetsText document all) begin new held) (append-nil text) (lacks [] (rw none refl))
-
 -- where each set has a text, so have some sets
 pub sets-text : (document : ExecutableDocument)
     → ((set : SelectionSet) → (text : List ℕ) × IsSetText document set text)
@@ -117,21 +85,50 @@ sets-text document texts (set ∷ sets) =
     let rest = sets-text document texts sets in
     (set.0 ++ (first.0 ++ rest.0), (first.0, (first.1, (rest.0, (rest.1, refl)))))
 
--- the texts are cut short where one of them is lacking
-pub sets-cut : (document : ExecutableDocument) (all left : List (List ℕ × SelectionSet)) (begin new : Option
-    (List ℕ)) (held text : List ℕ) → ((set : SelectionSet) → (text : List ℕ) × IsSetText document set text)
-    → LacksSets document all left begin new held text → IsCutShort (AreSetsText document all) begin new held
-sets-cut document all left begin new held text texts lacks =
-    let rest = sets-text document texts left in
-    (text ++ rest.0, lacks rest.0 rest.1)
+-- sets of selections that some things have, each with the line above it
+module _ {X : Type 0} (set_of : X → List ℕ × SelectionSet) (document : ExecutableDocument) (all : List X)
+    (begin : Option (List ℕ)) (held : List ℕ) where
+  -- with the texts of the sets that are left, the text is that of all, behind what was held
+  abbrev pub LacksSets : List X → Option (List ℕ) → List ℕ → Type 0
+  LacksSets left new text = (rest : List ℕ) → AreSetsText document (map set_of left) rest
+      → IsSaid (AreSetsText document (map set_of all)) begin new held (text ++ rest)
 
--- or where one of them is cut short
-pub set-cut : (document : ExecutableDocument) (all left : List (List ℕ × SelectionSet)) (set : List ℕ
-    × SelectionSet) (more : List (List ℕ × SelectionSet)) (begin middle new : Option (List ℕ))
-    (held text : List ℕ) → ((set : SelectionSet) → (text : List ℕ) × IsSetText document set text)
-    → LacksSets document all left begin middle held text → left ≡ set ∷ more
-    → IsCutShort (IsSetText document set.1) middle new (text ++ set.0)
-    → IsCutShort (AreSetsText document all) begin new held
-set-cut document all left set more begin middle new held text texts lacks first cut =
-    sets-cut document all more begin new held cut.0 texts (sets-turn document all left set more begin middle
-    new held text cut.0 lacks first cut.1)
+  pub sets-begin : (left : List X) → left ≡ all → LacksSets left begin held
+  sets-begin left is = λ rest are. (rest, (rw is at are, goes-nowhere begin _))
+
+  -- one set is said below its line
+  pub sets-turn : (left : List X) (x : X) (more : List X) (middle new : Option (List ℕ)) (text after : List ℕ)
+      → LacksSets left middle text → left ≡ x ∷ more
+      → IsSaid (IsSetText document (set_of x).1) middle new (text ++ (set_of x).0) after
+      → LacksSets more new after
+  sets-turn left x more middle new text after lacks first says = λ rest are.
+      let line = (set_of x).0 in
+      let said = says.0 in
+      let whole = lacks (line ++ (said ++ rest)) (rw first (said, (says.1.0, (rest, (are, refl))))) in
+      let left_is : text ++ (line ++ (said ++ rest)) ≡ ((text ++ line) ++ said) ++ rest =
+      sym (append_assoc text line _) ∙ sym (append_assoc _ said rest) in
+      let before = subst (GoesOut (held ++ whole.0) begin middle) left_is whole.1.1 in (
+        whole.0,
+        (whole.1.0, goes-further _ begin middle new _ _ before (goes-with _ middle new after rest says.1.1)),
+      )
+
+  pub sets-end : (left : List X) (new : Option (List ℕ)) (text : List ℕ) → LacksSets left new text → left ≡ []
+      → IsSaid (AreSetsText document (map set_of all)) begin new held text
+  sets-end left new text lacks none = subst (IsSaid (AreSetsText document (map set_of all)) begin new held)
+      (append-nil text) (lacks [] (rw none refl))
+
+  module _ (texts : (set : SelectionSet) → (text : List ℕ) × IsSetText document set text) where
+    -- the texts are cut short where one of them is lacking
+    pub sets-cut : (left : List X) (new : Option (List ℕ)) (text : List ℕ) → LacksSets left new text
+        → IsCutShort (AreSetsText document (map set_of all)) begin new held
+    sets-cut left new text lacks =
+        let rest = sets-text document texts (map set_of left) in
+        (text ++ rest.0, lacks rest.0 rest.1)
+
+    -- or where one of them is cut short
+    pub set-cut : (left : List X) (x : X) (more : List X) (middle new : Option (List ℕ)) (text : List ℕ)
+        → LacksSets left middle text → left ≡ x ∷ more
+        → IsCutShort (IsSetText document (set_of x).1) middle new (text ++ (set_of x).0)
+        → IsCutShort (AreSetsText document (map set_of all)) begin new held
+    set-cut left x more middle new text lacks first cut = sets-cut more new cut.0
+        (sets-turn left x more middle new text cut.0 lacks first cut.1)

@@ -1,5 +1,7 @@
 //! What a command answers.
 
+use graphql_nodes::take_apart;
+
 /// What is to be written, and whether there are faults, or nothing is found where something was looked up.
 /// Then a run ends with status 1, else with 0.
 pub struct Answer {
@@ -9,9 +11,6 @@ pub struct Answer {
 
 impl Drop for Answer {
     fn drop(self) {
-        let Self {
-            text: _,
-            has_faults: _,
-        } = self;
+        take_apart!(self: text, has_faults);
     }
 }

@@ -1,4 +1,7 @@
 //! Why a run has nothing to write.
+ghost use Rattle.std.specs.Prelude.{◌≡◌};
+ghost use Rattle.gqltool_run.specs.Status.{failure_of_compiling, failure_of_input, failure_of_read, status_of};
+ghost use Rattle.gqltool_run.specs.declared.failure.Failure.{Failure};
 
 use apollo_compiler::compile_error::CompileError;
 use bench_notation::refusal::{ReadError, RefusedLine};
@@ -35,9 +38,6 @@ pub enum Failure {
 }
 
 impl From<AllocError> for Failure {
-    ghost use Rattle.std.specs.Prelude.{◌≡◌};
-    ghost use Rattle.gqltool_run.specs.declared.failure.Failure.{Failure};
-
     ghost from_gives = { λ _ e. e ≡ Failure.Memory };
 
     fn from(_error: AllocError) -> Failure {
@@ -46,9 +46,6 @@ impl From<AllocError> for Failure {
 }
 
 impl From<FileError> for Failure {
-    ghost use Rattle.std.specs.Prelude.{◌≡◌};
-    ghost use Rattle.gqltool_run.specs.Status.{failure_of_input};
-
     ghost from_gives = { λ error failure. failure ≡ failure_of_input error };
 
     fn from(error: FileError) -> Failure {
@@ -60,9 +57,6 @@ impl From<FileError> for Failure {
 }
 
 impl From<CompileError> for Failure {
-    ghost use Rattle.std.specs.Prelude.{◌≡◌};
-    ghost use Rattle.gqltool_run.specs.Status.{failure_of_compiling};
-
     ghost from_gives = { λ error failure. failure ≡ failure_of_compiling error };
 
     fn from(error: CompileError) -> Failure {
@@ -74,9 +68,6 @@ impl From<CompileError> for Failure {
 }
 
 impl From<ReadError> for Failure {
-    ghost use Rattle.std.specs.Prelude.{◌≡◌};
-    ghost use Rattle.gqltool_run.specs.Status.{failure_of_read};
-
     ghost from_gives = { λ error failure. failure ≡ failure_of_read error };
 
     fn from(error: ReadError) -> Failure {
@@ -89,9 +80,6 @@ impl From<ReadError> for Failure {
 }
 
 impl Failure {
-    ghost use Rattle.std.specs.Prelude.{◌≡◌};
-    ghost use Rattle.gqltool_run.specs.Status.{status_of};
-
     /// How the run ends: `Exhausted` for `Memory` and `ExtensionIds`, and `Refused` for all others.
     pub fn status(&self) -> Status
         ensures { result ≡ status_of self.now }

@@ -3,8 +3,8 @@
 //! Proved: standard output is exactly the answer to the words and the input; a refused run writes nothing
 //! there, and has a cause.
 //!
-//! No clause: `words`, as no contract sees the words of the process, and `leave_to_exit`, which answers
-//! nothing.
+//! No clause: `words`, `run_on_words` and `run_program`, as no contract sees the words of the process, and
+//! `leave_to_exit`, which answers nothing.
 #![tactic(auto)]
 
 pub mod answer;

@@ -1,4 +1,6 @@
 //! Where a text goes while it is made.
+ghost use Rattle.std.specs.Prelude.{◌≡◌};
+ghost use Rattle.gqltool_run.specs.declared.outlet.CutShort.{CutShort};
 
 use program_io::writing::write_text;
 use std::alloc::AllocError;
@@ -14,9 +16,6 @@ pub(crate) enum CutShort {
 }
 
 impl From<AllocError> for CutShort {
-    ghost use Rattle.std.specs.Prelude.{◌≡◌};
-    ghost use Rattle.gqltool_run.specs.declared.outlet.CutShort.{CutShort};
-
     ghost from_gives = { λ _ cut. cut ≡ CutShort.Memory };
 
     fn from(_error: AllocError) -> CutShort {

@@ -1,4 +1,3 @@
-pub mod CommandLemmas
 pub mod DocumentLemmas
 pub mod SaidOfAll
 pub mod ReportLemmas

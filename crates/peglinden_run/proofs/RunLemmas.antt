@@ -72,11 +72,6 @@ is_not_done (failures.NoCoordinate sentence) done = cc
 is_not_done failures.Memory done = cc
 is_not_done failures.ExtensionIds done = cc
 
--- reading bytes doesn't refuse them as no text
-pub no_text_refusal : {B : Type 0} (input_may_fail : Type 0) (input : Result B FileError)
-    → IfErr input (IsReadCause input_may_fail) → ◌≡◌ {A = Result B FileError} input (Err errors.NotText) → ⊥
-no_text_refusal input_may_fail input causes is = rw is at causes
-
 -- where words call for help, a run ends as writing a text went
 pub help_written : (words : List Text) (old new : Option (List ℕ)) (text : List ℕ) (status : Status)
     → (asked words ≡ None) × (call_for_help words ≡ true) → IsTextWritten text old new status

@@ -6,12 +6,11 @@ use Rattle.peglinden_run.specs.declared.answer.Answer.{Answer}
 use Rattle.peglinden_run.specs.declared.document_commands.Shown.TheVariants as shown
 use Rattle.peglinden_run.specs.declared.failure.Failure.{Failure}
 use Rattle.peglinden_run.specs.Documents.{texts_of}
-use Rattle.peglinden_run.specs.DocumentCommands.{IsDocumentAnswer}
+use Rattle.peglinden_run.specs.DocumentCommands.{IsDocumentAnswer, IsTypingCause}
 use Rattle.peglinden_run.specs.FormatCommand.{IsFormatAnswer}
 use Rattle.peglinden_run.specs.LookupCommand.{IsLookupAnswer, IsLookupCause}
 use Rattle.peglinden_run.specs.RefusedFiles.{IsFilesCause}
 use Rattle.peglinden_run.specs.SchemaCommand.{IsSchemaAnswer, IsSchemaCause}
-use Rattle.peglinden_run.specs.TypedDocuments.{IsTypedCause}
 
 -- In all of this `held` says which bytes the file of a path may hold, and `may_fail` whether reading it may
 -- fail.
@@ -23,12 +22,9 @@ IsAnswerTo (requests.Schema adopt ignore_builtin json files) held answer =
       adopt_orphan_extensions = adopt;
       ignore_builtin_redefinitions = ignore_builtin;
     }) json (texts_of files.items) answer
-IsAnswerTo (requests.Check json schema documents) held answer =
-    IsDocumentAnswer held shown.Nothing json (texts_of schema.items) (texts_of documents.items) answer
-IsAnswerTo (requests.Typed json schema documents) held answer =
-    IsDocumentAnswer held shown.WriteOut json (texts_of schema.items) (texts_of documents.items) answer
-IsAnswerTo (requests.Fields json schema documents) held answer =
-    IsDocumentAnswer held shown.Fields json (texts_of schema.items) (texts_of documents.items) answer
+IsAnswerTo (requests.Check typing) held answer = IsDocumentAnswer held shown.Nothing typing answer
+IsAnswerTo (requests.Typed typing) held answer = IsDocumentAnswer held shown.WriteOut typing answer
+IsAnswerTo (requests.Fields typing) held answer = IsDocumentAnswer held shown.Fields typing answer
 IsAnswerTo (requests.Lookup coordinate files) held answer =
     IsLookupAnswer held coordinate.now (texts_of files.items) answer
 IsAnswerTo (requests.Format check files) held answer = IsFormatAnswer held check (texts_of files.items) answer
@@ -40,12 +36,9 @@ IsCauseTo (requests.Schema adopt ignore_builtin json files) held may_fail failur
       adopt_orphan_extensions = adopt;
       ignore_builtin_redefinitions = ignore_builtin;
     }) (texts_of files.items) failure
-IsCauseTo (requests.Check json schema documents) held may_fail failure =
-    IsTypedCause held may_fail (texts_of schema.items) (texts_of documents.items) failure
-IsCauseTo (requests.Typed json schema documents) held may_fail failure =
-    IsTypedCause held may_fail (texts_of schema.items) (texts_of documents.items) failure
-IsCauseTo (requests.Fields json schema documents) held may_fail failure =
-    IsTypedCause held may_fail (texts_of schema.items) (texts_of documents.items) failure
+IsCauseTo (requests.Check typing) held may_fail failure = IsTypingCause held may_fail typing failure
+IsCauseTo (requests.Typed typing) held may_fail failure = IsTypingCause held may_fail typing failure
+IsCauseTo (requests.Fields typing) held may_fail failure = IsTypingCause held may_fail typing failure
 IsCauseTo (requests.Lookup coordinate files) held may_fail failure =
     IsLookupCause held may_fail coordinate.now (texts_of files.items) failure
 IsCauseTo (requests.Format check files) held may_fail failure =

@@ -43,45 +43,9 @@ pub fn answer_to<F: Files>(
             };
             schema_answer(alloc, keys, options, *json, files, paths.as_slice())
         }
-        Request::Check {
-            json,
-            schema,
-            documents,
-        } => document_answer(
-            alloc,
-            keys,
-            Shown::Nothing,
-            *json,
-            files,
-            schema.as_slice(),
-            documents.as_slice(),
-        ),
-        Request::Typed {
-            json,
-            schema,
-            documents,
-        } => document_answer(
-            alloc,
-            keys,
-            Shown::WriteOut,
-            *json,
-            files,
-            schema.as_slice(),
-            documents.as_slice(),
-        ),
-        Request::Fields {
-            json,
-            schema,
-            documents,
-        } => document_answer(
-            alloc,
-            keys,
-            Shown::Fields,
-            *json,
-            files,
-            schema.as_slice(),
-            documents.as_slice(),
-        ),
+        Request::Check(typing) => document_answer(alloc, keys, Shown::Nothing, typing, files),
+        Request::Typed(typing) => document_answer(alloc, keys, Shown::WriteOut, typing, files),
+        Request::Fields(typing) => document_answer(alloc, keys, Shown::Fields, typing, files),
         Request::Lookup {
             coordinate,
             files: paths,

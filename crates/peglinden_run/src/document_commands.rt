@@ -1,8 +1,6 @@
 //! The commands on documents over a schema: `check`, `typed` and `fields`.
 ghost use Rattle.std.specs.Prelude.{◌≡◌, IfErr, IfOk, string_bytes};
-ghost use Rattle.peglinden_run.specs.Documents.{texts_of};
-ghost use Rattle.peglinden_run.specs.DocumentCommands.{IsDocumentAnswer, output_of};
-ghost use Rattle.peglinden_run.specs.TypedDocuments.{IsTypedCause};
+ghost use Rattle.peglinden_run.specs.DocumentCommands.{IsDocumentAnswer, IsTypingCause, output_of};
 
 use crate::answer::Answer;
 use crate::ended::ended_text;
@@ -11,6 +9,7 @@ use crate::fields_command::fields_text;
 use crate::typed_documents::type_documents;
 use apollo_executable::document::ExecutableDocument;
 use graphql_nodes::collections::hash_keys::HashKeys;
+use peglinden_words::request::Typing;
 use program_io::files::Files;
 use std::alloc::{AllocError, Global};
 
@@ -25,29 +24,25 @@ pub enum Shown {
     Fields,
 }
 
-/// The answer of a command on documents over a schema. It is what it shows of the typed document, or with
-/// `json` the JSON of all faults in place of that.
+/// The answer of a command that types these documents over their schema. It is what it shows of the typed
+/// document, or with `json` the JSON of all faults in place of that.
 ///
 /// The errors are those of [`type_documents`].
 pub(crate) fn document_answer<F: Files>(
     alloc: Global,
     keys: HashKeys,
     shown: Shown,
-    json: bool,
+    typing: &Typing<'_>,
     files: &F,
-    schema_paths: &[&str],
-    document_paths: &[&str],
 ) -> Result<Answer, Failure>
-    ensures means { IfOk result
-        (IsDocumentAnswer (F.holds files.now) shown json (texts_of schema_paths.now)
-        (texts_of document_paths.now)) }
-    ensures causes { IfErr result
-        (IsTypedCause (F.holds files.now) (F.may_fail files.now) (texts_of schema_paths.now)
-        (texts_of document_paths.now)) }
+    ensures means { IfOk result (IsDocumentAnswer (F.holds files.now) shown typing.now) }
+    ensures causes { IfErr result (IsTypingCause (F.holds files.now) (F.may_fail files.now) typing.now) }
 {
+    let schema_paths = typing.schema.as_slice();
+    let document_paths = typing.documents.as_slice();
     let typed = type_documents(alloc, keys, files, schema_paths, document_paths)?;
     let output = shown_text(alloc, shown, &typed.document)?;
-    Ok(typed.findings.answer(alloc, json, output)?)
+    Ok(typed.findings.answer(alloc, typing.json, output)?)
 }
 
 /// What goes to standard output of a typed document. The error is out of memory.

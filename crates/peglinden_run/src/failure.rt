@@ -1,4 +1,7 @@
 //! Why a request has no answer.
+ghost use Rattle.std.specs.Prelude.{◌≡◌};
+ghost use Rattle.peglinden_run.specs.Status.{failure_of_compiling, message_of, status_of};
+ghost use Rattle.peglinden_run.specs.declared.failure.Failure.{Failure};
 
 use apollo_compiler::compile_error::CompileError;
 use program_io::status::Status;
@@ -20,9 +23,6 @@ pub enum Failure {
 }
 
 impl From<AllocError> for Failure {
-    ghost use Rattle.std.specs.Prelude.{◌≡◌};
-    ghost use Rattle.peglinden_run.specs.declared.failure.Failure.{Failure};
-
     ghost from_gives = { λ _ failure. failure ≡ Failure.Memory };
 
     fn from(_error: AllocError) -> Failure {
@@ -31,9 +31,6 @@ impl From<AllocError> for Failure {
 }
 
 impl From<CompileError> for Failure {
-    ghost use Rattle.std.specs.Prelude.{◌≡◌};
-    ghost use Rattle.peglinden_run.specs.Status.{failure_of_compiling};
-
     ghost from_gives = { λ error failure. failure ≡ failure_of_compiling error };
 
     fn from(error: CompileError) -> Failure {
@@ -45,9 +42,6 @@ impl From<CompileError> for Failure {
 }
 
 impl Failure {
-    ghost use Rattle.std.specs.Prelude.{◌≡◌};
-    ghost use Rattle.peglinden_run.specs.Status.{message_of, status_of};
-
     /// How the run ends: `Exhausted` for `Memory` and `ExtensionIds`, and `Refused` for the others.
     pub fn status(&self) -> Status
         ensures { result ≡ status_of self.now }

@@ -23,5 +23,4 @@ mod naming;
 mod reports;
 pub mod running;
 mod schema_command;
-mod schemas;
 mod typed_documents;

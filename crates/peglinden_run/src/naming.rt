@@ -20,20 +20,8 @@ pub(crate) fn names_input(request: &Request<'_>) -> bool
         Request::Schema { files, .. }
         | Request::Lookup { files, .. }
         | Request::Format { files, .. } => any_input(files.as_slice()),
-        Request::Check {
-            schema,
-            documents,
-            ..
+        Request::Check(typing) | Request::Typed(typing) | Request::Fields(typing) => {
+            any_input(typing.schema.as_slice()) || any_input(typing.documents.as_slice())
         }
-        | Request::Typed {
-            schema,
-            documents,
-            ..
-        }
-        | Request::Fields {
-            schema,
-            documents,
-            ..
-        } => any_input(schema.as_slice()) || any_input(documents.as_slice()),
     }
 }

@@ -2,14 +2,16 @@
 ghost use Rattle.std.specs.Prelude.{◌≡◌, IfErr, IfOk};
 ghost use Rattle.apollo_schema.specs.SchemaWriteOut.{write_schema};
 ghost use Rattle.peglinden_run.specs.Documents.{texts_of};
-ghost use Rattle.peglinden_run.specs.SchemaCommand.{IsSchemaAnswer, IsSchemaCause};
+ghost use Rattle.peglinden_run.specs.SchemaCommand.{IsSchemaAnswer, IsSchemaCause, IsSchemaOf};
 
 use crate::answer::Answer;
+use crate::documents::read_documents;
 use crate::ended::ended_text;
 use crate::failure::Failure;
 use crate::findings::Findings;
-use crate::schemas::read_schema;
+use apollo_compiler::building::build_schema;
 use apollo_compiler::compile_options::CompileOptions;
+use apollo_meaning::build_error::Faults;
 use apollo_schema::schema::Schema;
 use graphql_ast::definition::Definition;
 use graphql_nodes::collections::hash_keys::HashKeys;
@@ -39,6 +41,25 @@ pub(crate) fn schema_answer<F: Files>(
     let output = ended_text(alloc, written.as_slice())?;
     let findings = Findings::of_schema(alloc, sources, faults);
     Ok(findings.answer(alloc, json, output)?)
+}
+
+/// The schema of the documents of files with these options, and its faults. The documents are freed. The
+/// errors are those of [`schema_answer`].
+fn read_schema<F: Files>(
+    alloc: Global,
+    keys: HashKeys,
+    options: CompileOptions,
+    files: &F,
+    paths: &[&str],
+) -> Result<(Schema, Faults), Failure>
+    ensures means { IfOk result (λ built.
+        IsSchemaOf (F.holds files.now) options (texts_of paths.now) built.0 built.1.items) }
+    ensures causes { IfErr result
+        (IsSchemaCause (F.holds files.now) (F.may_fail files.now) options (texts_of paths.now)) }
+{
+    let documents = read_documents(alloc, files, paths)?;
+    let (schema, faults) = build_schema(alloc, keys, options, documents.as_slice())?;
+    Ok((schema, faults))
 }
 
 /// The write-out of a schema, and its sources. The schema is freed, before a text takes memory. The error

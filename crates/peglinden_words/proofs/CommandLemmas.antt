@@ -1,25 +1,14 @@
 -- A program to which a command is added, and what it is in the end.
-use Rattle.std.proofs.Common.{◌≡◌, ◌∙◌, ◌||◌, false, true, ap₂, refl}
+use Rattle.std.proofs.Common.{◌≡◌, ◌∙◌, ◌||◌, true, ap₂, refl}
 use Rattle.clap.specs.Built.{AddsSubcommand}
 use Rattle.clap.specs.Faults.{is_simple_and_free}
-use Rattle.clap.specs.Simple.{App, Shape, app_of, is_simple, shape_of, with_subcommand}
+use Rattle.clap.specs.Simple.{App, Shape, is_simple, with_subcommand}
 use Rattle.clap.specs.declared.builder.command.Command.{Command}
-use Rattle.clap.specs.declared.builder.command.Command.TheViews.{out-Command as fields_of}
-use Rattle.peglinden_words.specs.Commands.{peglinden}
+use Rattle.peglinden_words.specs.Commands.{IsCommand, IsProgram, peglinden}
 
--- what a command takes, and that it takes nothing globally
-pub record IsShaped (c : Command) (s : Shape) : Type 0 where
-  pub shape : shape_of c ≡ s
-  pub local : (fields_of c).has_globals ≡ false
-
--- the same, of a program and its commands
-pub record IsProgram (c : Command) (a : App) : Type 0 where
-  pub app : app_of c ≡ a
-  pub local : (fields_of c).has_globals ≡ false
-
+-- a program with one command more
 pub added : {old sub new : Command} {a : App} {s : Shape} → AddsSubcommand old sub new → IsProgram old a
-    → IsShaped sub s
-    → IsProgram new (with_subcommand a s)
+    → IsCommand sub s → IsProgram new (with_subcommand a s)
 added adds before below = record {
   app = adds.shape below.local ∙ ap₂ with_subcommand before.app below.shape;
   local = adds.globals ∙ ap₂ (λ x y. x || y) before.local below.local;

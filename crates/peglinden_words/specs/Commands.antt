@@ -1,8 +1,10 @@
 -- The program and its commands: what each takes, as `clap` reads it.
-use Rattle.std.specs.Prelude.{true, false, List, [], ◌∷◌, Some, codes}
+use Rattle.std.specs.Prelude.{◌≡◌, true, false, List, [], ◌∷◌, Some, codes}
 use Rattle.clap.specs.Walk.{Rule, Text}
-use Rattle.clap.specs.Simple.{App, Shape, new_rule, new_shape}
+use Rattle.clap.specs.Simple.{App, Shape, app_of, new_rule, new_shape, shape_of}
 use Rattle.clap.specs.declared.builder.action.ArgAction.TheVariants.{Append, SetTrue}
+use Rattle.clap.specs.declared.builder.command.Command.{Command}
+use Rattle.clap.specs.declared.builder.command.Command.TheViews.{out-Command as fields_of}
 
 -- `--name`, at most once
 abbrev pub flag : Text → Rule
@@ -72,3 +74,13 @@ peglinden = record {
       ∷ format_command
       ∷ [];
 }
+
+-- `clap` has a command that takes this, and nothing globally
+pub record IsCommand (command : Command) (takes : Shape) : Type 0 where
+  pub shape : shape_of command ≡ takes
+  pub local : (fields_of command).has_globals ≡ false
+
+-- the same, of a program and its commands
+pub record IsProgram (command : Command) (takes : App) : Type 0 where
+  pub app : app_of command ≡ takes
+  pub local : (fields_of command).has_globals ≡ false

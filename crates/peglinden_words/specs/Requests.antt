@@ -1,5 +1,5 @@
 -- What the words behind the program's name ask for.
-use Rattle.std.specs.Prelude.{ℕ, Bool, false, List, [], ◌∷◌, ◌++◌, Option, Some, None, codes}
+use Rattle.std.specs.Prelude.{◌≡◌, ℕ, Bool, false, List, [], ◌∷◌, ◌++◌, Option, Some, None, codes}
 use Rattle.std.specs.Prelude.{count_by, if◌then◌else◌, nat_lt, option_and_then, option_map}
 use Rattle.std.specs.Prelude.{unwrap_or}
 use Rattle.std.specs.Option.{option_map_or}
@@ -9,6 +9,7 @@ use Rattle.clap.specs.Kinds.{Kinds}
 use Rattle.clap.specs.Simple.{subcommand_of}
 use Rattle.clap.specs.Walk.{Row, Text, all_of, first_of, texts}
 use Rattle.peglinden_words.specs.Commands.{peglinden}
+use Rattle.peglinden_words.specs.declared.request.Typing.{Typing}
 use Rattle.peglinden_words.specs.declared.request.Request.{Request}
 use Rattle.peglinden_words.specs.declared.request.Request.TheVariants as request
 
@@ -25,12 +26,9 @@ pub data Asked : Type 0 where
 abbrev pub asked_of : Request → Asked
 asked_of (request.Schema adopt ignore_builtin json files) =
     schema adopt ignore_builtin json (texts files.items)
-asked_of (request.Check json schema_files documents) =
-    check json (texts schema_files.items) (texts documents.items)
-asked_of (request.Typed json schema_files documents) =
-    typed json (texts schema_files.items) (texts documents.items)
-asked_of (request.Fields json schema_files documents) =
-    fields json (texts schema_files.items) (texts documents.items)
+asked_of (request.Check on) = check on.json (texts on.schema.items) (texts on.documents.items)
+asked_of (request.Typed on) = typed on.json (texts on.schema.items) (texts on.documents.items)
+asked_of (request.Fields on) = fields on.json (texts on.schema.items) (texts on.documents.items)
 asked_of (request.Lookup coordinate files) = lookup coordinate.now (texts files.items)
 asked_of (request.Format only_check files) = format only_check (texts files.items)
 
@@ -46,6 +44,17 @@ value_of name found = unwrap_or (first_of name found) []
 abbrev pub values_of : Text → List Row → List Text
 values_of name found = unwrap_or (all_of name found) []
 
+-- these documents over this schema are to be typed, by what the words give the arguments of a command
+pub record IsTyping (typing : Typing) (found : List Row) : Type 0 where
+  pub json : typing.json ≡ is_set (codes "json") found
+  pub schema : texts typing.schema.items ≡ values_of (codes "schema") found
+  pub documents : texts typing.documents.items ≡ values_of (codes "documents") found
+
+-- what a command that types documents asks for, with what the words give its arguments
+abbrev pub of_typing : (Bool → List Text → List Text → Asked) → List Row → Asked
+of_typing asks found = asks (is_set (codes "json") found) (values_of (codes "schema") found)
+    (values_of (codes "documents") found)
+
 -- what the command of this name asks for, with what the words give its arguments; the last one is
 -- `format`
 abbrev pub asked_by : Text → List Row → Asked
@@ -53,15 +62,9 @@ asked_by name found =
     if bytes_eq name (codes "schema")
     then schema (is_set (codes "adopt") found) (is_set (codes "ignore-builtin") found)
     (is_set (codes "json") found) (values_of (codes "files") found)
-    else (if bytes_eq name (codes "check")
-    then check (is_set (codes "json") found) (values_of (codes "schema") found)
-    (values_of (codes "documents") found)
-    else (if bytes_eq name (codes "typed")
-    then typed (is_set (codes "json") found) (values_of (codes "schema") found)
-    (values_of (codes "documents") found)
-    else (if bytes_eq name (codes "fields")
-    then fields (is_set (codes "json") found) (values_of (codes "schema") found)
-    (values_of (codes "documents") found)
+    else (if bytes_eq name (codes "check") then of_typing check found
+    else (if bytes_eq name (codes "typed") then of_typing typed found
+    else (if bytes_eq name (codes "fields") then of_typing fields found
     else (if bytes_eq name (codes "lookup")
     then lookup (value_of (codes "coordinate") found) (values_of (codes "files") found)
     else format (is_set (codes "check") found) (values_of (codes "files") found)))))

@@ -3,11 +3,11 @@ ghost use Rattle.std.specs.Prelude.{◌≡◌, IfErr, IfOk, Some};
 ghost use Rattle.clap.specs.Matches.{found_of};
 ghost use Rattle.clap.specs.Walk.{rows_of, texts};
 ghost use Rattle.peglinden_words.specs.Refusals.{IsRefusal};
-ghost use Rattle.peglinden_words.specs.Requests.{asked, asked_by, asked_of};
+ghost use Rattle.peglinden_words.specs.Requests.{IsTyping, asked, asked_by, asked_of};
 
 use crate::commands::peglinden;
 use crate::input_names::names_input_again;
-use crate::request::Request;
+use crate::request::{Request, Typing};
 use crate::values::{is_given, value, values};
 use crate::words_error::{WordsError, words_error};
 use clap::ArgMatches;
@@ -54,21 +54,9 @@ fn request<'w>(alloc: Global, name: &str, found: &ArgMatches<'w>) -> Result<Requ
             json: is_given(found, "json"),
             files: values(alloc, found, "files")?,
         }),
-        "check" => Ok(Request::Check {
-            json: is_given(found, "json"),
-            schema: values(alloc, found, "schema")?,
-            documents: values(alloc, found, "documents")?,
-        }),
-        "typed" => Ok(Request::Typed {
-            json: is_given(found, "json"),
-            schema: values(alloc, found, "schema")?,
-            documents: values(alloc, found, "documents")?,
-        }),
-        "fields" => Ok(Request::Fields {
-            json: is_given(found, "json"),
-            schema: values(alloc, found, "schema")?,
-            documents: values(alloc, found, "documents")?,
-        }),
+        "check" => Ok(Request::Check(typing(alloc, found)?)),
+        "typed" => Ok(Request::Typed(typing(alloc, found)?)),
+        "fields" => Ok(Request::Fields(typing(alloc, found)?)),
         "lookup" => Ok(Request::Lookup {
             coordinate: value(found, "coordinate"),
             files: values(alloc, found, "files")?,
@@ -78,4 +66,15 @@ fn request<'w>(alloc: Global, name: &str, found: &ArgMatches<'w>) -> Result<Requ
             files: values(alloc, found, "files")?,
         }),
     }
+}
+
+/// What was found for the arguments of a command that types documents. The error is out of memory.
+fn typing<'w>(alloc: Global, found: &ArgMatches<'w>) -> Result<Typing<'w>, AllocError>
+    ensures { IfOk result (λ typing. IsTyping typing (rows_of (found_of found.now))) }
+{
+    Ok(Typing {
+        json: is_given(found, "json"),
+        schema: values(alloc, found, "schema")?,
+        documents: values(alloc, found, "documents")?,
+    })
 }

@@ -1,9 +1,7 @@
 //! The program and its commands, as `clap` reads them.
-ghost use Rattle.std.specs.Prelude.{◌≡◌, [], IfOk, false};
-ghost use Rattle.clap.specs.Simple.{app_of, shape_of};
-ghost use Rattle.clap.specs.declared.builder.command.Command.TheViews.{out-Command as fields_of};
-ghost use Rattle.peglinden_words.specs.Commands.{document_command, format_command, lookup_command};
-ghost use Rattle.peglinden_words.specs.Commands.{peglinden, program, schema_command};
+ghost use Rattle.std.specs.Prelude.{[], IfOk};
+ghost use Rattle.peglinden_words.specs.Commands.{IsCommand, IsProgram, document_command, format_command};
+ghost use Rattle.peglinden_words.specs.Commands.{lookup_command, peglinden, program, schema_command};
 
 use crate::arguments::{coordinate, files, flag, json_flag, schema_option};
 use clap::Command;
@@ -16,8 +14,7 @@ of the GraphQL specification of October 2021, section 5.";
 
 /// `peglinden` with its commands.
 pub fn peglinden<'w>(alloc: Global) -> Result<Command<'w>, AllocError>
-    ensures app { IfOk result (λ command. app_of command ≡ peglinden) }
-    ensures local { IfOk result (λ command. (fields_of command).has_globals ≡ false) }
+    ensures { IfOk result (λ command. IsProgram command peglinden) }
 {
     let schema = schema_command(alloc)?;
     let check = document_command(
@@ -49,8 +46,7 @@ pub fn peglinden<'w>(alloc: Global) -> Result<Command<'w>, AllocError>
 
 /// `peglinden` without its commands.
 fn program<'w>(alloc: Global) -> Result<Command<'w>, AllocError>
-    ensures app { IfOk result (λ command. app_of command ≡ record { top = program; subs = [] }) }
-    ensures local { IfOk result (λ command. (fields_of command).has_globals ≡ false) }
+    ensures { IfOk result (λ command. IsProgram command (record { top = program; subs = [] })) }
 {
     let command = Command::new(alloc, "peglinden")
         .version("0.1.0")
@@ -65,8 +61,7 @@ fn program<'w>(alloc: Global) -> Result<Command<'w>, AllocError>
 
 /// `schema`.
 fn schema_command<'w>(alloc: Global) -> Result<Command<'w>, AllocError>
-    ensures shape { IfOk result (λ command. shape_of command ≡ schema_command) }
-    ensures local { IfOk result (λ command. (fields_of command).has_globals ≡ false) }
+    ensures { IfOk result (λ command. IsCommand command schema_command) }
 {
     Command::new(alloc, "schema")
         .about("Build the schema of files, and print it")
@@ -90,8 +85,7 @@ fn document_command<'w>(
     name: &'w str,
     about: &'w str,
 ) -> Result<Command<'w>, AllocError>
-    ensures shape { IfOk result (λ command. shape_of command ≡ document_command name.entry.now) }
-    ensures local { IfOk result (λ command. (fields_of command).has_globals ≡ false) }
+    ensures { IfOk result (λ command. IsCommand command (document_command name.entry.now)) }
 {
     Command::new(alloc, name)
         .about(about)
@@ -102,8 +96,7 @@ fn document_command<'w>(
 
 /// `lookup`.
 fn lookup_command<'w>(alloc: Global) -> Result<Command<'w>, AllocError>
-    ensures shape { IfOk result (λ command. shape_of command ≡ lookup_command) }
-    ensures local { IfOk result (λ command. (fields_of command).has_globals ≡ false) }
+    ensures { IfOk result (λ command. IsCommand command lookup_command) }
 {
     Command::new(alloc, "lookup")
         .about("Print the definition that a schema coordinate points to, and where it stands")
@@ -113,8 +106,7 @@ fn lookup_command<'w>(alloc: Global) -> Result<Command<'w>, AllocError>
 
 /// `format`.
 fn format_command<'w>(alloc: Global) -> Result<Command<'w>, AllocError>
-    ensures shape { IfOk result (λ command. shape_of command ≡ format_command) }
-    ensures local { IfOk result (λ command. (fields_of command).has_globals ≡ false) }
+    ensures { IfOk result (λ command. IsCommand command format_command) }
 {
     Command::new(alloc, "format")
         .about("Print files in the usual layout, without their comments")

@@ -11,21 +11,9 @@ pub fn names_input_again(request: &Request<'_>) -> bool
 {
     match request {
         Request::Schema { files, .. } => name_input_again(files, &[]),
-        Request::Check {
-            schema,
-            documents,
-            ..
-        } => name_input_again(schema, documents),
-        Request::Typed {
-            schema,
-            documents,
-            ..
-        } => name_input_again(schema, documents),
-        Request::Fields {
-            schema,
-            documents,
-            ..
-        } => name_input_again(schema, documents),
+        Request::Check(typing) | Request::Typed(typing) | Request::Fields(typing) => {
+            name_input_again(&typing.schema, &typing.documents)
+        }
         Request::Lookup { files, .. } => name_input_again(files, &[]),
         Request::Format { files, .. } => name_input_again(files, &[]),
     }

@@ -17,34 +17,12 @@ pub enum Request<'w> {
         /// The files of the schema.
         files: Vec<&'w str>,
     },
-    /// `check`: the faults of these documents, at least one, and of their schema, of at least one file.
-    Check {
-        /// `--json`: faults go to standard output, one JSON object a line.
-        json: bool,
-        /// The files of the schema.
-        schema: Vec<&'w str>,
-        /// The files of the documents.
-        documents: Vec<&'w str>,
-    },
-    /// `typed`: these documents, at least one, typed over their schema, of at least one file, as text.
-    Typed {
-        /// `--json`: faults go to standard output, one JSON object a line.
-        json: bool,
-        /// The files of the schema.
-        schema: Vec<&'w str>,
-        /// The files of the documents.
-        documents: Vec<&'w str>,
-    },
-    /// `fields`: the fields that each operation of these documents, at least one, reaches over their
-    /// schema, of at least one file.
-    Fields {
-        /// `--json`: faults go to standard output, one JSON object a line.
-        json: bool,
-        /// The files of the schema.
-        schema: Vec<&'w str>,
-        /// The files of the documents.
-        documents: Vec<&'w str>,
-    },
+    /// `check`: the faults of these documents and of their schema.
+    Check(Typing<'w>),
+    /// `typed`: these documents, typed over their schema, as text.
+    Typed(Typing<'w>),
+    /// `fields`: the fields that each operation of these documents reaches over their schema.
+    Fields(Typing<'w>),
     /// `lookup`: what a schema coordinate points to in the schema of these files, at least one.
     Lookup {
         /// The text of the coordinate, as the words have it.
@@ -59,4 +37,15 @@ pub enum Request<'w> {
         /// The files.
         files: Vec<&'w str>,
     },
+}
+
+/// The documents that a command types, and the schema that it types them over.
+#[derive(Debug, Drop)]
+pub struct Typing<'w> {
+    /// `--json`: faults go to standard output, one JSON object a line.
+    pub json: bool,
+    /// The files of the schema, at least one.
+    pub schema: Vec<&'w str>,
+    /// The files of the documents, at least one.
+    pub documents: Vec<&'w str>,
 }

@@ -1,6 +1,8 @@
 //! Why the words of the command line ask for nothing.
+ghost use Rattle.std.specs.Prelude.{◌≡◌};
 ghost use Rattle.clap.specs.Values.{kind_of};
 ghost use Rattle.peglinden_words.specs.Refusals.{IsErrorOf};
+ghost use Rattle.peglinden_words.specs.declared.words_error.WordsError.{WordsError};
 
 use clap::Error;
 use clap::error::ErrorKind;
@@ -19,9 +21,6 @@ pub enum WordsError {
 }
 
 impl From<AllocError> for WordsError {
-    ghost use Rattle.std.specs.Prelude.{◌≡◌};
-    ghost use Rattle.peglinden_words.specs.declared.words_error.WordsError.{WordsError};
-
     ghost from_gives = { λ _ e. e ≡ WordsError.Memory };
 
     fn from(_error: AllocError) -> WordsError {

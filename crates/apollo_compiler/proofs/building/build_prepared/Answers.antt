@@ -16,48 +16,27 @@ loop-document-preserved c =
     ∙ building_of-turn c.args.documents.now c.loop-document.document-index d (omega arith) c.document-item.is
     c.args.options
 
-pub returns-in-Ok-build-clause-means : goal.returns-in-Ok-build-clause-means
-returns-in-Ok-build-clause-means c =
+pub returns-in-Ok-build : goal.returns-in-Ok-build
+returns-in-Ok-build c =
     let i = c.loop-document.document-index in
     let all = building_of-all c.args.options c.args.documents.now i (omega arith) c.loop-document.invariant in
-    (subst (λ b. IsBuiltOf b c.in-Ok-build.schema) all c.in-Ok-build.ensures.built).means
+    let is = subst (λ b. IsBuiltOf b c.in-Ok-build.schema) all c.in-Ok-build.ensures.built in
+    record {
+      means = is.means;
+      sources = is.its_sources;
+      faults = c.new.ensures.items ∙ sym is.faultless;
+      spent = λ e. cc;
+    }
 
-pub returns-in-Ok-build-clause-sources : goal.returns-in-Ok-build-clause-sources
-returns-in-Ok-build-clause-sources c =
-    let i = c.loop-document.document-index in
-    let all = building_of-all c.args.options c.args.documents.now i (omega arith) c.loop-document.invariant in
-    (subst (λ b. IsBuiltOf b c.in-Ok-build.schema) all c.in-Ok-build.ensures.built).its_sources
-
-pub returns-in-Ok-build-clause-faults : goal.returns-in-Ok-build-clause-faults
-returns-in-Ok-build-clause-faults c =
-    let i = c.loop-document.document-index in
-    let all = building_of-all c.args.options c.args.documents.now i (omega arith) c.loop-document.invariant in
-    c.new.ensures.items
-    ∙ sym (subst (λ b. IsBuiltOf b c.in-Ok-build.schema) all c.in-Ok-build.ensures.built).faultless
-
-pub returns-in-Err-Faults-clause-means : goal.returns-in-Err-Faults-clause-means
-returns-in-Err-Faults-clause-means c =
+pub returns-in-Err-Faults : goal.returns-in-Err-Faults
+returns-in-Err-Faults c =
     let i = c.loop-document.document-index in
     let all = building_of-all c.args.options c.args.documents.now i (omega arith) c.loop-document.invariant in
     let found = c.in-Err-Faults.built in
-    rw c.in-Err-Faults.field-0-is (subst (λ b. IsFoundIn b found.partial found.errors.items) all
-    (rw c.in-Err-Faults.field-0-is at c.in-Err-Faults.ensures.faults)).0
-
-pub returns-in-Err-Faults-clause-sources : goal.returns-in-Err-Faults-clause-sources
-returns-in-Err-Faults-clause-sources c =
-    let i = c.loop-document.document-index in
-    let all = building_of-all c.args.options c.args.documents.now i (omega arith) c.loop-document.invariant in
-    let found = c.in-Err-Faults.built in
-    rw c.in-Err-Faults.field-0-is (subst (λ b. IsFoundIn b found.partial found.errors.items) all
-    (rw c.in-Err-Faults.field-0-is at c.in-Err-Faults.ensures.faults)).1.1
-
-pub returns-in-Err-Faults-clause-faults : goal.returns-in-Err-Faults-clause-faults
-returns-in-Err-Faults-clause-faults c =
-    let i = c.loop-document.document-index in
-    let all = building_of-all c.args.options c.args.documents.now i (omega arith) c.loop-document.invariant in
-    let found = c.in-Err-Faults.built in
-    rw c.in-Err-Faults.field-0-is (subst (λ b. IsFoundIn b found.partial found.errors.items) all
-    (rw c.in-Err-Faults.field-0-is at c.in-Err-Faults.ensures.faults)).1.0.0
+    let is = subst (λ b. IsFoundIn b found.partial found.errors.items) all
+    (rw c.in-Err-Faults.field-0-is at c.in-Err-Faults.ensures.faults) in
+    rw c.in-Err-Faults.field-0-is
+    (record { means = is.0; sources = is.1.1; faults = is.1.0.0; spent = λ e. cc })
 
 -- what one document's definitions spend, all that are added spend
 pub returns-in-Err-ExtensionIds-clause-spent : goal.returns-in-Err-ExtensionIds-clause-spent

@@ -12,29 +12,12 @@ loop-document-preserved c =
     ∙ document_building_of-turn c.args.documents.now i d (omega arith) c.document-item.is
     c.args.schema.now errors
 
-pub returns-clause-means : goal.returns-clause-means
-returns-clause-means c =
+pub returns : goal.returns
+returns c =
     let errors = c.args.options.type_system_definitions_are_errors in
     let i = c.loop-document.document-index in
     let all = document_building_of-all c.args.schema.now errors c.args.documents.now i (omega arith)
     c.loop-document.invariant in
     let built = c.in-Ok-build.built in
-    (subst (λ b. IsBuiltOf b built.0 built.1.items) all c.in-Ok-build.ensures.built).means
-
-pub returns-clause-sources : goal.returns-clause-sources
-returns-clause-sources c =
-    let errors = c.args.options.type_system_definitions_are_errors in
-    let i = c.loop-document.document-index in
-    let all = document_building_of-all c.args.schema.now errors c.args.documents.now i (omega arith)
-    c.loop-document.invariant in
-    let built = c.in-Ok-build.built in
-    (subst (λ b. IsBuiltOf b built.0 built.1.items) all c.in-Ok-build.ensures.built).its_sources
-
-pub returns-clause-faults : goal.returns-clause-faults
-returns-clause-faults c =
-    let errors = c.args.options.type_system_definitions_are_errors in
-    let i = c.loop-document.document-index in
-    let all = document_building_of-all c.args.schema.now errors c.args.documents.now i (omega arith)
-    c.loop-document.invariant in
-    let built = c.in-Ok-build.built in
-    (subst (λ b. IsBuiltOf b built.0 built.1.items) all c.in-Ok-build.ensures.built).its_faults
+    let is = subst (λ b. IsBuiltOf b built.0 built.1.items) all c.in-Ok-build.ensures.built in
+    record { means = is.means; sources = is.its_sources; faults = is.its_faults; memory = tt }

@@ -1,5 +1,4 @@
-use Rattle.std.proofs.lemmas.Result.{err_from_is_err_and}
-use Rattle.gqltool_run.proofs.CauseLemmas.{compiling-cause}
+use Rattle.gqltool_run.proofs.CauseLemmas.{compiled-cause}
 use Rattle.gqltool_run.proofs.building.compile_input.Goals as goal
 
 pub returns-clause-compiled : goal.returns-clause-compiled
@@ -9,11 +8,7 @@ returns-clause-compiled c = (
 )
 
 pub returns-in_err-compiled-clause-causes : goal.returns-in_err-compiled-clause-causes
-returns-in_err-compiled-clause-causes c =
-    let exit = err_from_is_err_and c.from_residual-in_err-compiled.result
-    c.from_residual-in_err-compiled.ensures.1 in
-    let options = c.args.options in
-    let said = c.in_ok-documents.ensures in
-    rw (exit.1, exit.2) (compiling-cause options c.args.input.now c.in_ok-documents.documents.items
-    c.in_err-compiled.field-0.0 said.said
-    (λ spent. rw c.as_slice.ensures.value at (c.in_err-compiled.ensures.spent cc)))
+returns-in_err-compiled-clause-causes c = compiled-cause c.from_residual-in_err-compiled.result
+    c.args.options c.args.input.now c.in_ok-documents.documents.items _ c.in_err-compiled.field-0.0
+    c.from_residual-in_err-compiled.ensures.1 c.in_ok-documents.ensures.said c.as_slice.ensures.value
+    (λ spent. c.in_err-compiled.ensures.spent cc)

@@ -1,5 +1,5 @@
 use Rattle.std.proofs.Common.{◌+◌, string_bytes, arith}
-use Rattle.std.proofs.lemmas.Result.{err_from_is_err_and}
+use Rattle.apollo_executable.proofs.Walking.WalkLemmas.{OnErr-always}
 use Rattle.gqltool_run.specs.FaultLines.{fault_line}
 use Rattle.gqltool_run.proofs.FaultTextLemmas.{AreFaultLines-turn, AreFaultLines-whole}
 use Rattle.gqltool_run.proofs.PieceLemmas.{said-cut, said-more}
@@ -18,19 +18,16 @@ loop-fault-preserved g c =
 
 pub returns-in_err-push_fault-clause-begun : goal.returns-in_err-push_fault-clause-begun
 returns-in_err-push_fault-clause-begun g c =
-    let exit = err_from_is_err_and c.from_residual.result c.from_residual.ensures.1 in
-    rw (exit.1) (said-cut _ (g.O.Outlet.sent c.loop-fault.outlet) _ (string_bytes c.loop-fault.text)
+    OnErr-always _ _ (said-cut _ (g.O.Outlet.sent c.loop-fault.outlet) _ (string_bytes c.loop-fault.text)
     c.loop-fault.invariant (λ lines are. AreFaultLines-whole c.args.faults.now c.loop-fault.fault-index
     lines are))
 
 pub returns-in_err-let_out-clause-begun : goal.returns-in_err-let_out-clause-begun
 returns-in_err-let_out-clause-begun g c =
-    let exit = err_from_is_err_and c.from_residual-in_err-let_out.result
-    c.from_residual-in_err-let_out.ensures.1 in
     let f = c.fault-item.result in
     let said = c.in_ok-push_fault.ensures.0 in
     let cut = c.in_err-let_out.ensures.begun in
-    rw (exit.1) (said-cut _ _ _ cut.0 (said-more _ (g.O.Outlet.sent c.loop-fault.outlet) _ _
+    OnErr-always _ _ (said-cut _ _ _ cut.0 (said-more _ (g.O.Outlet.sent c.loop-fault.outlet) _ _
     (string_bytes c.loop-fault.text) _ cut.0 _ c.loop-fault.invariant (λ lines are. AreFaultLines-turn
     c.args.faults.now c.loop-fault.fault-index f lines said (omega arith) c.fault-item.is are)
     c.in_ok-push_fault.ensures.1 cut.1) (λ lines are. AreFaultLines-whole c.args.faults.now

@@ -1,13 +1,13 @@
 use Rattle.std.proofs.Common.{refl}
-use Rattle.std.proofs.lemmas.Result.{err_from_is_err_and, on_err_weaker, on_ok_weaker}
+use Rattle.std.proofs.lemmas.Result.{on_err_weaker, on_ok_weaker}
+use Rattle.apollo_executable.proofs.Walking.WalkLemmas.{OnErr-always}
 use Rattle.gqltool_run.proofs.PieceLemmas.{cut-first, cut-second, said-both}
 use Rattle.gqltool_run.proofs.walk_command.push_set.Goals as goal
 
 pub returns-in_err-push_walk-clause-begun : goal.returns-in_err-push_walk-clause-begun
 returns-in_err-push_walk-clause-begun g c =
-    let exit = err_from_is_err_and c.from_residual.result c.from_residual.ensures.1 in
     let text = c.walks_have_texts.ensures.texts c.args.document.now c.args.set.now in
-    rw (exit.1) (cut-first
+    OnErr-always _ _ (cut-first
     (λ x y root all. record { root = x; root_says = root; all = y; all_says = all; says = refl }) _ _ _
     text.1.all c.in_err-push_walk.ensures.begun text.1.all_says)
 

@@ -1,7 +1,8 @@
 use Rattle.std.proofs.Common.{rules, ◌≡◌, ◌++◌, Ok, string_bytes, ◌∙◌}
-use Rattle.std.proofs.lemmas.Result.{err_from_is_err_and, on_err_weaker, on_ok_weaker}
+use Rattle.std.proofs.lemmas.Result.{on_err_weaker, on_ok_weaker}
 use Rattle.std.specs.List.{flat_map}
 use Rattle.apollo_executable.specs.Walks.WalkView.{TakesAllTurns}
+use Rattle.apollo_executable.proofs.Walking.WalkLemmas.{OnErr-always}
 use Rattle.gqltool_run.specs.WalkCommand.{field_line}
 use Rattle.program_io.proofs.WritingLemmas.{goes-nowhere}
 use Rattle.gqltool_run.proofs.WalkTextLemmas.{lines-cut, lines-turn, walk-cut, walk-end, walk-end-cut}
@@ -43,11 +44,10 @@ loop-field-preserved g c =
 -- the fields are cut short
 pub returns-in_err-field-clause-begun : goal.returns-in_err-field-clause-begun
 returns-in_err-field-clause-begun g c =
-    let exit = err_from_is_err_and c.from_residual.result c.from_residual.ensures.1 in
     let document = c.args.document.now in
     let set = c.args.set.now in
     let turns = c.walks_have_texts.ensures.turns c.args.deep document set in
-    rw (exit.1) (walk-cut c.args.deep c.args.word.now c.args.turns_word.now document set
+    OnErr-always _ _ (walk-cut c.args.deep c.args.word.now c.args.turns_word.now document set
     _ _ c.walk_over-walk.result.coming
     c.walk_over-walk.ensures.coming turns.0 turns.1 (g.O.Outlet.sent c.loop-field.outlet) (
       string_bytes c.loop-field.text ++ flat_map (field_line c.args.word.now) c.loop-field.walk.coming,
@@ -56,8 +56,6 @@ returns-in_err-field-clause-begun g c =
 
 pub returns-in_err-say_line-clause-begun : goal.returns-in_err-say_line-clause-begun
 returns-in_err-say_line-clause-begun g c =
-    let exit = err_from_is_err_and c.from_residual-in_err-say_line.result
-    c.from_residual-in_err-say_line.ensures.1 in
     let document = c.args.document.now in
     let set = c.args.set.now in
     let turns = c.walks_have_texts.ensures.turns c.args.deep document set in
@@ -74,7 +72,7 @@ returns-in_err-say_line-clause-begun g c =
       c.response_key.ensures,
       c.deref.ensures,
     ) at c.in_err-say_line.ensures.begun in
-    rw (exit.1) (walk-cut c.args.deep c.args.word.now c.args.turns_word.now document set _ _
+    OnErr-always _ _ (walk-cut c.args.deep c.args.word.now c.args.turns_word.now document set _ _
     c.walk_over-walk.result.coming c.walk_over-walk.ensures.coming turns.0 turns.1 _
     (lines-cut _ whole text _ (sent c.loop-field.outlet) _ field.now c.loop-field.walk.coming
     c.next.new.self.coming c.loop-field.invariant.says first.0 line))

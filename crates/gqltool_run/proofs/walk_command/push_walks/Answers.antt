@@ -1,5 +1,6 @@
 use Rattle.std.proofs.Common.{map, string_bytes, refl}
-use Rattle.std.proofs.lemmas.Result.{err_from_is_err_and, on_err_weaker, on_ok_weaker}
+use Rattle.std.proofs.lemmas.Result.{on_err_weaker, on_ok_weaker}
+use Rattle.apollo_executable.proofs.Walking.WalkLemmas.{OnErr-always}
 use Rattle.gqltool_run.specs.WalkCommand.{fragment_with_line}
 use Rattle.gqltool_run.proofs.PieceLemmas.{cut-first, cut-second, said-both}
 use Rattle.gqltool_run.proofs.WalkTextLemmas.{sets-text}
@@ -7,12 +8,11 @@ use Rattle.gqltool_run.proofs.walk_command.push_walks.Goals as goal
 
 pub returns-in_err-push_operations-clause-begun : goal.returns-in_err-push_operations-clause-begun
 returns-in_err-push_operations-clause-begun g c =
-    let exit = err_from_is_err_and c.from_residual.result c.from_residual.ensures.1 in
     let sent = g.O.Outlet.sent in
     let document = c.args.document.now in
     let text = sets-text document (c.walks_have_texts.ensures.texts document)
     (map fragment_with_line document.fragments) in
-    rw (exit.1) (cut-first (λ x y first then. (x, (first, (y, (then, refl))))) (sent c.args.outlet.now)
+    OnErr-always _ _ (cut-first (λ x y first then. (x, (first, (y, (then, refl))))) (sent c.args.outlet.now)
     (sent c.push_operations.new.outlet) (string_bytes c.args.text.now) text.0
     c.in_err-push_operations.ensures.begun text.1)
 

@@ -7,7 +7,8 @@ returns-clause-means g c =
     let typed = c.in_ok-typed.typed in
     record {
       typed = typed;
-      is_typed = c.in_ok-typed.ensures.typed;
-      is = subst (λ (t : List ℕ). IsAnswerOf c.args.json (found_in typed.findings) t c.in_ok-answer.field-0)
-          c.in_ok-output.ensures c.in_ok-answer.ensures;
+      is_typed = rw (c.as_slice-schema_paths.ensures.value, c.as_slice-document_paths.ensures.value)
+          at c.in_ok-typed.ensures.typed;
+      is = subst (λ (t : List ℕ). IsAnswerOf c.args.typing.now.json (found_in typed.findings) t
+          c.in_ok-answer.field-0) c.in_ok-output.ensures c.in_ok-answer.ensures;
     }

@@ -29,9 +29,6 @@ returns c =
     let local = ap globals c.arg_required_else_help-command.ensures ∙ ap globals c.subcommand_required.ensures
     ∙ ap globals c.no_binary_name.ensures ∙ ap globals c.about.ensures ∙ ap globals c.version.ensures
     ∙ c.new.ensures.local in
-    record {
-      app = IfOk-weaker c.bin_name.result _ _ (λ command named. ap app_of_fields named.0 ∙ app)
-          c.bin_name.ensures;
-      local = IfOk-weaker c.bin_name.result _ _ (λ command named. ap globals named.0 ∙ local)
-          c.bin_name.ensures;
-    }
+    IfOk-weaker c.bin_name.result _ _
+    (λ command named. record { app = ap app_of_fields named.0 ∙ app; local = ap globals named.0 ∙ local })
+    c.bin_name.ensures
