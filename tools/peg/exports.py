@@ -44,7 +44,15 @@ def opened(text):
         return
     for part in re.findall(r"[^,{}]+(?:\{[^{}]*\})?", inside.rsplit("}", 1)[0]):
         if part.strip():
-            yield from ((head.strip() + path, name) for path, name in opened(part))
+            yield from (joined(head.strip(), path, name) for path, name in opened(part))
+
+
+def joined(head, path, name):
+    """A path behind the head of a `use` with braces; `self` is the head's own module."""
+    if path != "self":
+        return head + path, name
+    module = head.removesuffix("::")
+    return module, module.rsplit("::", 1)[-1] if name == "self" else name
 
 
 @functools.cache
