@@ -1,6 +1,6 @@
 //! What documents build, and what the write-out of that builds again.
 
-use crate::inputs::Account;
+use crate::inputs::{Account, Given};
 use apollo_document::{BuilderError, ExecutableDocumentBuilder, Fault, Faults};
 use apollo_executable::ExecutableDocument;
 use apollo_schema::schema::Schema;
@@ -35,91 +35,91 @@ fn build(
     builder.build()
 }
 
-/// What is looked at of a document that was built, with its faults, beside a schema.
+/// A document that was built over a schema or without one, with its faults, beside the schema of the input.
+#[derive(Drop)]
+pub struct Seen<'input> {
+    pub alloc: Global,
+    pub schema: &'input Schema,
+    pub over: Option<&'input Schema>,
+    pub document: &'input ExecutableDocument,
+    pub faults: &'input [Fault],
+}
+
+/// What is looked at of a document that was built.
 pub trait View {
     /// Adds what is said of it. The error is out of memory.
-    fn view(
-        &self,
-        alloc: Global,
-        schema: &Schema,
-        document: &ExecutableDocument,
-        faults: &[Fault],
-        text: &mut String,
-    ) -> Result<(), AllocError>;
+    fn view(&self, seen: &Seen<'_>, text: &mut String) -> Result<(), AllocError>;
 }
 
 /// A view of what documents build over the schema of the input, or without one: then definitions of the type
 /// system are no faults.
 #[derive(Drop)]
 pub struct Built<V> {
-    pub is_over: bool,
-    pub view: V,
+    is_over: bool,
+    view: V,
+}
+
+/// A view of what documents build over the schema of the input.
+pub fn over<V>(view: V) -> Built<V> {
+    Built {
+        is_over: true,
+        view,
+    }
+}
+
+/// A view of what they build without a schema.
+pub fn without<V>(view: V) -> Built<V> {
+    Built {
+        is_over: false,
+        view,
+    }
 }
 
 impl<V: View> Account for Built<V> {
-    fn tell(
-        &self,
-        alloc: Global,
-        schema: &Schema,
-        documents: &[Document],
-        text: &mut String,
-    ) -> Result<(), AllocError> {
+    fn tell(&self, given: &Given<'_>, text: &mut String) -> Result<(), AllocError> {
+        let Given {
+            alloc,
+            schema,
+            documents,
+        } = *given;
         let over = if self.is_over { Some(schema) } else { None };
         match build(alloc, over, documents, self.is_over) {
-            Ok(built) => self
-                .view
-                .view(alloc, schema, &built.0, built.1.as_slice(), text),
+            Ok((document, faults)) => {
+                let seen = Seen {
+                    alloc,
+                    schema,
+                    over,
+                    document: &document,
+                    faults: faults.as_slice(),
+                };
+                self.view.view(&seen, text)
+            }
             Err(error) => write!(text, "{error}\n"),
         }
     }
 }
 
-/// The document and its faults, and what its write-out builds over a schema or without one.
+/// The document and its faults, and what its write-out builds over the same schema or without one.
 #[derive(Drop)]
-pub struct Whole {
-    is_over: bool,
-}
-
-pub const OVER: Built<Whole> = Built {
-    is_over: true,
-    view: Whole { is_over: true },
-};
-
-pub const WITHOUT: Built<Whole> = Built {
-    is_over: false,
-    view: Whole { is_over: false },
-};
+pub struct Whole;
 
 /// Adds whether the write-out of a document builds it again, and the faults of that.
-fn tell_again(
-    alloc: Global,
-    schema: Option<&Schema>,
-    document: &ExecutableDocument,
-    text: &mut String,
-) -> Result<(), AllocError> {
-    let written = document.to_ast(alloc)?;
-    match build(alloc, schema, slice::from_ref(&written), true) {
-        Ok(again) => {
-            let is_equal = again.0 == *document;
+fn tell_again(seen: &Seen<'_>, text: &mut String) -> Result<(), AllocError> {
+    let written = seen.document.to_ast(seen.alloc)?;
+    match build(seen.alloc, seen.over, slice::from_ref(&written), true) {
+        Ok((again, faults)) => {
+            let is_equal = again == *seen.document;
             write!(text, "again: {is_equal}\n")?;
-            tell_all(again.1.as_slice(), text)
+            tell_all(faults.as_slice(), text)
         }
         Err(error) => write!(text, "{error}\n"),
     }
 }
 
 impl View for Whole {
-    fn view(
-        &self,
-        alloc: Global,
-        schema: &Schema,
-        document: &ExecutableDocument,
-        faults: &[Fault],
-        text: &mut String,
-    ) -> Result<(), AllocError> {
-        document.tell(text)?;
-        tell_all(faults, text)?;
-        let over = if self.is_over { Some(schema) } else { None };
-        tell_again(alloc, over, document, text)
+    fn view(&self, seen: &Seen<'_>, text: &mut String) -> Result<(), AllocError> {
+        seen.document.tell(text)?;
+        tell_all(seen.faults, text)?;
+        tell_again(seen, text)
     }
 }

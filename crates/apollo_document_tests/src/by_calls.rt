@@ -1,8 +1,7 @@
 //! A typed document that is made by calls alone, beside one that is built.
 
-use crate::building::{Built, View};
+use crate::building::{Seen, View, over};
 use crate::inputs::expect;
-use apollo_document::Fault;
 use apollo_executable::{ExecutableDocument, NewFieldError, Operation, Selection, SelectionSet};
 use apollo_schema::schema::Schema;
 use graphql_ast::directive::DirectiveList;
@@ -48,17 +47,10 @@ pub fn document_of(
 }
 
 impl View for Alike {
-    fn view(
-        &self,
-        alloc: Global,
-        schema: &Schema,
-        document: &ExecutableDocument,
-        _faults: &[Fault],
-        text: &mut String,
-    ) -> Result<(), AllocError> {
-        match of_user(alloc, schema) {
+    fn view(&self, seen: &Seen<'_>, text: &mut String) -> Result<(), AllocError> {
+        match of_user(seen.alloc, seen.schema) {
             Ok(set) => {
-                let is_equal = document_of(alloc, set)? == *document;
+                let is_equal = document_of(seen.alloc, set)? == *seen.document;
                 write!(text, "equal: {is_equal}\n")
             }
             Err(_) => text.push_str("not made\n"),
@@ -80,9 +72,5 @@ const ROWS: [(&str, &str); 2] = [
 
 #[test]
 fn a_document_by_calls_is_equal_to_the_built_one(rt: HostRuntime) -> Result<(), Fail> {
-    let account = Built {
-        is_over: true,
-        view: Alike,
-    };
-    expect(&rt, &account, &ROWS)
+    expect(&rt, &over(Alike), &ROWS)
 }

@@ -1,6 +1,6 @@
 //! Documents over schemas and without one, their faults, and what their write-out builds again.
 
-use crate::building::{OVER, WITHOUT};
+use crate::building::{Whole, over, without};
 use crate::inputs::expect;
 use std::test::Fail;
 
@@ -11,7 +11,7 @@ const FAULTY: [(&str, &str); 1] = [(
 
 #[test]
 fn a_faulty_query_keeps_what_is_typable(rt: HostRuntime) -> Result<(), Fail> {
-    expect(&rt, &OVER, &FAULTY)
+    expect(&rt, &over(Whole), &FAULTY)
 }
 
 const KEPT_OR_DROPPED: [(&str, &str); 4] = [
@@ -39,7 +39,7 @@ const KEPT_OR_DROPPED: [(&str, &str); 4] = [
 
 #[test]
 fn operations_and_fragments_are_kept_or_dropped(rt: HostRuntime) -> Result<(), Fail> {
-    expect(&rt, &OVER, &KEPT_OR_DROPPED)
+    expect(&rt, &over(Whole), &KEPT_OR_DROPPED)
 }
 
 const IN_ORDER: [(&str, &str); 2] = [
@@ -56,7 +56,7 @@ const IN_ORDER: [(&str, &str); 2] = [
 
 #[test]
 fn faults_stand_in_the_order_of_definitions(rt: HostRuntime) -> Result<(), Fail> {
-    expect(&rt, &OVER, &IN_ORDER)
+    expect(&rt, &over(Whole), &IN_ORDER)
 }
 
 const ADDED: [(&str, &str); 2] = [
@@ -73,7 +73,7 @@ const ADDED: [(&str, &str); 2] = [
 
 #[test]
 fn documents_are_added_one_after_the_other(rt: HostRuntime) -> Result<(), Fail> {
-    expect(&rt, &OVER, &ADDED)
+    expect(&rt, &over(Whole), &ADDED)
 }
 
 const TYPED: [(&str, &str); 2] = [
@@ -90,7 +90,7 @@ const TYPED: [(&str, &str); 2] = [
 
 #[test]
 fn sets_have_the_types_of_their_fields(rt: HostRuntime) -> Result<(), Fail> {
-    expect(&rt, &OVER, &TYPED)
+    expect(&rt, &over(Whole), &TYPED)
 }
 
 const NAMED: [(&str, &str); 1] = [(
@@ -100,5 +100,5 @@ const NAMED: [(&str, &str); 1] = [(
 
 #[test]
 fn without_a_schema_names_are_those_of_types(rt: HostRuntime) -> Result<(), Fail> {
-    expect(&rt, &WITHOUT, &NAMED)
+    expect(&rt, &without(Whole), &NAMED)
 }

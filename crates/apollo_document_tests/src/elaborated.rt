@@ -1,14 +1,13 @@
 //! Selections made typed over a schema and without one, and field sets, with their faults and their
 //! write-out.
 
-use crate::inputs::{Account, expect};
+use crate::inputs::{Account, Given, expect};
 use apollo_document::{
     ExecutableDefinitionName, Fault, FieldSet, SelectionPath, elaborate_selections,
 };
 use apollo_schema::schema::Schema;
 use bench_notation::selection_printing::push_selections;
 use graphql_ast::definition::Definition;
-use graphql_ast::document::Document;
 use graphql_ast::selection::Selection;
 use graphql_nodes::collections::items::Items;
 use graphql_nodes::name::Name;
@@ -90,16 +89,10 @@ impl Elaborated {
 }
 
 impl Account for Elaborated {
-    fn tell(
-        &self,
-        alloc: Global,
-        schema: &Schema,
-        documents: &[Document],
-        text: &mut String,
-    ) -> Result<(), AllocError> {
-        for document in documents {
+    fn tell(&self, given: &Given<'_>, text: &mut String) -> Result<(), AllocError> {
+        for document in given.documents {
             for definition in document.definitions.as_slice() {
-                self.tell_definition(alloc, schema, definition, text)?;
+                self.tell_definition(given.alloc, given.schema, definition, text)?;
             }
         }
         Ok(())

@@ -1,12 +1,9 @@
 //! Each fault that a document can have: its text, and its copy.
 
-use crate::building::{Built, View};
+use crate::building::{Seen, View, over};
 use crate::inputs::expect;
-use apollo_document::Fault;
-use apollo_executable::ExecutableDocument;
-use apollo_schema::schema::Schema;
 use likeness::is_copied;
-use std::alloc::{AllocError, Global};
+use std::alloc::AllocError;
 use std::test::Fail;
 
 /// The texts of the faults, each with whether it has an equal copy.
@@ -14,15 +11,8 @@ use std::test::Fail;
 struct Faults;
 
 impl View for Faults {
-    fn view(
-        &self,
-        _alloc: Global,
-        _schema: &Schema,
-        _document: &ExecutableDocument,
-        faults: &[Fault],
-        text: &mut String,
-    ) -> Result<(), AllocError> {
-        for fault in faults {
+    fn view(&self, seen: &Seen<'_>, text: &mut String) -> Result<(), AllocError> {
+        for fault in seen.faults {
             let error = &fault.1;
             let is_copied = is_copied(error);
             write!(text, "{error}: {is_copied}\n")?;
@@ -76,9 +66,5 @@ an executable document must not contain an object type definition: true
 
 #[test]
 fn faults_have_their_texts_and_copies(rt: HostRuntime) -> Result<(), Fail> {
-    let account = Built {
-        is_over: true,
-        view: Faults,
-    };
-    expect(&rt, &account, &[(FAULTY, TEXTS)])
+    expect(&rt, &over(Faults), &[(FAULTY, TEXTS)])
 }

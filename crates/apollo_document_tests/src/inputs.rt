@@ -8,16 +8,18 @@ use std::alloc::{AllocError, Global};
 use std::process::Abort;
 use std::test::Fail;
 
+/// Documents over a schema, those of an input.
+#[derive(Drop)]
+pub struct Given<'input> {
+    pub alloc: Global,
+    pub schema: &'input Schema,
+    pub documents: &'input [Document],
+}
+
 /// What is looked at of documents over a schema.
 pub trait Account {
     /// Adds what is said of them. The error is out of memory.
-    fn tell(
-        &self,
-        alloc: Global,
-        schema: &Schema,
-        documents: &[Document],
-        text: &mut String,
-    ) -> Result<(), AllocError>;
+    fn tell(&self, given: &Given<'_>, text: &mut String) -> Result<(), AllocError>;
 }
 
 /// Adds a document, unless it is refused: then no schema is built. The contract of the call stays here, so
@@ -37,7 +39,14 @@ fn tell_read<A: Account>(
         add(&mut builder, document);
     }
     match builder.build() {
-        Ok(schema) => account.tell(alloc, &schema, input.executable.as_slice(), text),
+        Ok(schema) => {
+            let given = Given {
+                alloc,
+                schema: &schema,
+                documents: input.executable.as_slice(),
+            };
+            account.tell(&given, text)
+        }
         Err(_) => text.push_str("no schema\n"),
     }
 }

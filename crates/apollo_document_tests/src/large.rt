@@ -1,11 +1,9 @@
 //! Documents larger than a row could have.
 
-use crate::building::{Built, View};
+use crate::building::{Seen, View, over};
 use crate::elaborated::Elaborated;
 use crate::inputs::expect;
-use apollo_document::Fault;
 use apollo_executable::{AllFields, ExecutableDocument, SelectionSet};
-use apollo_schema::schema::Schema;
 use std::alloc::{AllocError, Global};
 use std::test::Fail;
 
@@ -74,16 +72,11 @@ fn tell_counted(
 }
 
 impl View for CountedWalks {
-    fn view(
-        &self,
-        alloc: Global,
-        _schema: &Schema,
-        document: &ExecutableDocument,
-        _faults: &[Fault],
-        text: &mut String,
-    ) -> Result<(), AllocError> {
-        match &document.operations.anonymous {
-            Some(operation) => tell_counted(alloc, document, &operation.selection_set, text),
+    fn view(&self, seen: &Seen<'_>, text: &mut String) -> Result<(), AllocError> {
+        match &seen.document.operations.anonymous {
+            Some(operation) => {
+                tell_counted(seen.alloc, seen.document, &operation.selection_set, text)
+            }
             None => text.push_str("no operation\n"),
         }
     }
@@ -108,10 +101,6 @@ fn a_walk_opens_each_of_10_000_fragments_in_a_ring_once(rt: HostRuntime) -> Resu
     input.push_str(QUERY)?;
     input.push_str("operation query -\nsel 0 spread F0\n")?;
     push_ring(&mut input)?;
-    let account = Built {
-        is_over: true,
-        view: CountedWalks,
-    };
     let expected = "10000 root fields, 10000 fields in 30002 turns: true\n";
-    expect(&rt, &account, &[(input.as_str(), expected)])
+    expect(&rt, &over(CountedWalks), &[(input.as_str(), expected)])
 }

@@ -2,13 +2,11 @@
 //! build over its schema or without one, and of a document made by calls. Shown are their places too, and
 //! which are there since a build dropped what was selected below.
 
-use crate::building::{Built, View};
+use crate::building::{Seen, View, over, without};
 use crate::by_calls::document_of;
-use crate::inputs::{Account, expect};
-use apollo_document::Fault;
+use crate::inputs::{Account, Given, expect};
 use apollo_executable::{ExecutableDocument, NewFieldError, Selection, SelectionSet};
 use apollo_schema::schema::Schema;
-use graphql_ast::document::Document;
 use graphql_nodes::name::Name;
 use leafcheck::leaf_faults;
 use std::alloc::{AllocError, Global};
@@ -32,18 +30,11 @@ fn tell_leaves(
 struct Leaves;
 
 impl View for Leaves {
-    fn view(
-        &self,
-        alloc: Global,
-        schema: &Schema,
-        document: &ExecutableDocument,
-        _faults: &[Fault],
-        text: &mut String,
-    ) -> Result<(), AllocError> {
-        tell_leaves(alloc, schema, document, text)?;
+    fn view(&self, seen: &Seen<'_>, text: &mut String) -> Result<(), AllocError> {
+        tell_leaves(seen.alloc, seen.schema, seen.document, text)?;
         text.push_str("elsewhere:\n")?;
-        match Schema::new(alloc) {
-            Ok(schema) => tell_leaves(alloc, &schema, document, text),
+        match Schema::new(seen.alloc) {
+            Ok(schema) => tell_leaves(seen.alloc, &schema, seen.document, text),
             Err(error) => Err(error),
         }
     }
@@ -67,15 +58,9 @@ fn below_id<'schema>(
 struct LeavesByCalls;
 
 impl Account for LeavesByCalls {
-    fn tell(
-        &self,
-        alloc: Global,
-        schema: &Schema,
-        _documents: &[Document],
-        text: &mut String,
-    ) -> Result<(), AllocError> {
-        match below_id(alloc, schema) {
-            Ok(document) => tell_leaves(alloc, schema, &document, text),
+    fn tell(&self, given: &Given<'_>, text: &mut String) -> Result<(), AllocError> {
+        match below_id(given.alloc, given.schema) {
+            Ok(document) => tell_leaves(given.alloc, given.schema, &document, text),
             Err(_) => text.push_str("not made\n"),
         }
     }
@@ -105,11 +90,7 @@ const UNKNOWN: [(&str, &str); 2] = [
 
 #[test]
 fn without_a_schema_types_are_unknown(rt: HostRuntime) -> Result<(), Fail> {
-    let account = Built {
-        is_over: false,
-        view: Leaves,
-    };
-    expect(&rt, &account, &UNKNOWN)
+    expect(&rt, &without(Leaves), &UNKNOWN)
 }
 
 const GIVEN: [(&str, &str); 1] = [(
@@ -119,11 +100,7 @@ const GIVEN: [(&str, &str); 1] = [(
 
 #[test]
 fn types_are_those_of_the_schema_given(rt: HostRuntime) -> Result<(), Fail> {
-    let account = Built {
-        is_over: true,
-        view: Leaves,
-    };
-    expect(&rt, &account, &GIVEN)
+    expect(&rt, &over(Leaves), &GIVEN)
 }
 
 /// The leaf faults of a document with their places, and whether its build dropped something that was selected
@@ -132,19 +109,12 @@ fn types_are_those_of_the_schema_given(rt: HostRuntime) -> Result<(), Fail> {
 struct Places;
 
 impl View for Places {
-    fn view(
-        &self,
-        alloc: Global,
-        schema: &Schema,
-        document: &ExecutableDocument,
-        faults: &[Fault],
-        text: &mut String,
-    ) -> Result<(), AllocError> {
-        let leaves = leaf_faults(alloc, schema, document)?;
+    fn view(&self, seen: &Seen<'_>, text: &mut String) -> Result<(), AllocError> {
+        let leaves = leaf_faults(seen.alloc, seen.schema, seen.document)?;
         for leaf in leaves.as_slice() {
             let path = &leaf.path;
             let ty = &leaf.parent_type;
-            let has_lost = leaf.lost_subselections(faults);
+            let has_lost = leaf.lost_subselections(seen.faults);
             write!(text, "{path} from {ty}: {has_lost}\n")?;
         }
         Ok(())
@@ -165,9 +135,5 @@ const PLACES: [(&str, &str); 2] = [
 
 #[test]
 fn each_tells_its_place_and_what_was_dropped_below(rt: HostRuntime) -> Result<(), Fail> {
-    let account = Built {
-        is_over: true,
-        view: Places,
-    };
-    expect(&rt, &account, &PLACES)
+    expect(&rt, &over(Places), &PLACES)
 }

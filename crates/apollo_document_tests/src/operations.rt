@@ -1,13 +1,10 @@
 //! Operations of built documents: which one a request asks for, whether they ask for the schema alone, and
 //! walks over them.
 
-use crate::building::{Built, View};
+use crate::building::{Seen, View, over, without};
 use crate::inputs::expect;
-use apollo_document::Fault;
-use apollo_executable::ExecutableDocument;
-use apollo_schema::schema::Schema;
 use graphql_nodes::name::Name;
-use std::alloc::{AllocError, Global};
+use std::alloc::AllocError;
 use std::test::Fail;
 use telling::Tell;
 use telling::walks::{End, push_walk};
@@ -17,17 +14,10 @@ use telling::walks::{End, push_walk};
 struct Requests;
 
 impl View for Requests {
-    fn view(
-        &self,
-        alloc: Global,
-        _schema: &Schema,
-        document: &ExecutableDocument,
-        _faults: &[Fault],
-        text: &mut String,
-    ) -> Result<(), AllocError> {
-        let name = Name::new_unchecked(alloc, "X")?;
+    fn view(&self, seen: &Seen<'_>, text: &mut String) -> Result<(), AllocError> {
+        let name = Name::new_unchecked(seen.alloc, "X")?;
         for request in [None, Some(&name)] {
-            match document.operations.get(request) {
+            match seen.document.operations.get(request) {
                 Ok(operation) => operation.name.tell(text)?,
                 Err(error) => write!(text, "{error}")?,
             }
@@ -51,11 +41,7 @@ const REQUESTED: [(&str, &str); 2] = [
 
 #[test]
 fn two_kept_operations_are_ambiguous(rt: HostRuntime) -> Result<(), Fail> {
-    let account = Built {
-        is_over: true,
-        view: Requests,
-    };
-    expect(&rt, &account, &REQUESTED)
+    expect(&rt, &over(Requests), &REQUESTED)
 }
 
 /// Of each operation what walks over it give, each up to its end, and whether it asks for the schema alone.
@@ -63,14 +49,12 @@ fn two_kept_operations_are_ambiguous(rt: HostRuntime) -> Result<(), Fail> {
 struct Walked;
 
 impl View for Walked {
-    fn view(
-        &self,
-        alloc: Global,
-        _schema: &Schema,
-        document: &ExecutableDocument,
-        _faults: &[Fault],
-        text: &mut String,
-    ) -> Result<(), AllocError> {
+    fn view(&self, seen: &Seen<'_>, text: &mut String) -> Result<(), AllocError> {
+        let Seen {
+            alloc,
+            document,
+            ..
+        } = *seen;
         for operation in document.operations.iter() {
             text.push_str("root ")?;
             let root = push_walk(text, &mut operation.root_fields(alloc, document))?;
@@ -84,13 +68,9 @@ impl View for Walked {
     }
 }
 
-const WALKS: Built<Walked> = Built {
-    is_over: false,
-    view: Walked,
-};
-
 /// Operations that ask for the schema alone.
-const META: &str = "\
+const META: [(&str, &str); 1] = [(
+    "\
 ===
 operation query A
 operation query B
@@ -107,21 +87,23 @@ fragment Name Query
 sel 0 field __typename
 fragment More Query
 sel 0 field name
-";
-
-#[test]
-fn queries_of_meta_fields_alone_are_introspection(rt: HostRuntime) -> Result<(), Fail> {
-    let expected = "\
+",
+    "\
 root all over true introspection true
 root __typename 1:14 all __typename 1:14 over true introspection true
 root __schema 1:7 all __schema 1:7 types 1:8 over true introspection true
 root ty 1:10 __typename 1:12 all ty 1:10 __typename 1:12 over true introspection true
-";
-    expect(&rt, &WALKS, &[(META, expected)])
+",
+)];
+
+#[test]
+fn queries_of_meta_fields_alone_are_introspection(rt: HostRuntime) -> Result<(), Fail> {
+    expect(&rt, &without(Walked), &META)
 }
 
 /// Operations that ask for something else, or aren't queries.
-const OTHERS: &str = "\
+const OTHERS: [(&str, &str); 1] = [(
+    "\
 ===
 operation mutation A
 sel 0 field __typename
@@ -136,23 +118,24 @@ operation query E
 sel 0 field __types
 fragment More Query
 sel 0 field name
-";
-
-#[test]
-fn other_operations_are_no_introspection(rt: HostRuntime) -> Result<(), Fail> {
-    let expected = "\
+",
+    "\
 root __typename 1:3 all __typename 1:3 over true introspection false
 root __typename 1:5 all __typename 1:5 over true introspection false
 root __schema 1:7 name 1:14 all __schema 1:7 name 1:14 over true introspection false
 root __typename 1:10 all __typename 1:10 over true introspection false
 root __types 1:12 all __types 1:12 over true introspection false
-";
-    expect(&rt, &WALKS, &[(OTHERS, expected)])
+",
+)];
+
+#[test]
+fn other_operations_are_no_introspection(rt: HostRuntime) -> Result<(), Fail> {
+    expect(&rt, &without(Walked), &OTHERS)
 }
 
 #[test]
 fn operations_are_walked_over(rt: HostRuntime) -> Result<(), Fail> {
     let input = "===\noperation mutation -\nsel 0 field a\nsel 1 field b\n";
     let expected = "root a 1:3 all a 1:3 b 1:4 over true introspection false\n";
-    expect(&rt, &WALKS, &[(input, expected)])
+    expect(&rt, &without(Walked), &[(input, expected)])
 }

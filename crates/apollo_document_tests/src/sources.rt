@@ -1,8 +1,7 @@
 //! The sources of documents.
 
-use crate::building::WITHOUT;
-use crate::inputs::{Account, expect};
-use apollo_schema::schema::Schema;
+use crate::building::{Whole, without};
+use crate::inputs::{Account, Given, expect};
 use graphql_ast::document::Document;
 use graphql_nodes::collections::items::Items;
 use graphql_nodes::collections::shared::Shared;
@@ -24,18 +23,16 @@ fn of_file(alloc: Global, number: u64, path: &str) -> Result<Document, AllocErro
 struct OfThree;
 
 impl Account for OfThree {
-    fn tell(
-        &self,
-        alloc: Global,
-        schema: &Schema,
-        _documents: &[Document],
-        text: &mut String,
-    ) -> Result<(), AllocError> {
-        let mut documents = Items::new(alloc);
+    fn tell(&self, given: &Given<'_>, text: &mut String) -> Result<(), AllocError> {
+        let mut documents = Items::new(given.alloc);
         for (number, path) in [(1, "a"), (2, "b"), (1, "c")] {
-            documents.push(of_file(alloc, number, path)?)?;
+            documents.push(of_file(given.alloc, number, path)?)?;
         }
-        WITHOUT.tell(alloc, schema, documents.as_slice(), text)
+        let three = Given {
+            documents: documents.as_slice(),
+            ..*given
+        };
+        without(Whole).tell(&three, text)
     }
 }
 

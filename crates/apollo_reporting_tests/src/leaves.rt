@@ -1,36 +1,25 @@
 //! Reports of leaf faults.
 
-use crate::made::{Form, reported, reported_of_leaf, sources_of};
-use crate::rows::joined;
+use crate::made::{Form, reported, sources_of};
+use crate::rows::{At, Row, Sort, first_wrong};
 use apollo_compiler::{FileId, Name, SourceSpan};
 use graphql_nodes::collections::items::Items;
 use leafcheck::{ExecutableDefinitionName, LeafFault, LeafKind, SelectionPath};
 use std::alloc::{AllocError, Global};
 
 /// A field without subselections that wants some, below another.
-static PAGE: &str = "query Page {\n  again: book {\n    title\n  }\n  book\n}";
+static MISSING: [Row; 1] = [Row {
+    text: "query Page {\n  again: book {\n    title\n  }\n  book\n}",
+    kind: "MissingSubselection",
+    message: "`book`: a field of object, interface or union type must have subselections",
+    at: At(5, 3, "  book", "  ^^^^"),
+    under: "   = path: query Page → book\n",
+    json: "'end_line':5,'end_column':7,'path':['query Page','book'],'response_key':'book','parent_type':'Query'",
+}];
 
 #[test]
 fn missing_subselections_are_reported(rt: HostRuntime) {
-    let alloc = rt.alloc();
-    let text = reported_of_leaf(alloc, Form::Text, PAGE).expect(&rt, "a leaf fault");
-    let wanted = "error: `book`: a field of object, interface or union type must have subselections
-  --> page.graphql:5:3
-   |
- 5 |   book
-   |   ^^^^
-   = path: query Page → book
-";
-    assert_eq!(rt; text.as_str(), wanted);
-    let json = reported_of_leaf(alloc, Form::Json, PAGE).expect(&rt, "a leaf fault");
-    let lines = r#"{"kind":"MissingSubselection",
-"message":"`book`: a field of object, interface or union type must have subselections",
-"file":"page.graphql","line":5,"column":3,"end_line":5,"end_column":7,"path":["query Page","book"],
-"response_key":"book","parent_type":"Query"}"#;
-    assert_eq!(rt;
-        json.as_str(),
-        joined(alloc, lines).expect(&rt, "memory").as_str()
-    );
+    assert!(rt; first_wrong(rt.alloc(), Sort::Leaves, &MISSING) == None);
 }
 
 /// A field of a fragment with subselections that it must not have.
@@ -54,33 +43,32 @@ pub(crate) fn on_leaf(alloc: Global) -> Result<LeafFault, AllocError> {
     })
 }
 
-/// What is reported of the field of [`on_leaf`].
-fn reported_on_leaf(alloc: Global, form: Form) -> Result<String, AllocError> {
-    let text = "fragment Cover on Book { name: title } # é";
+/// What is reported of the field of [`on_leaf`] in a text.
+pub(crate) fn reported_on_leaf(
+    alloc: Global,
+    form: Form,
+    text: &str,
+) -> Result<String, AllocError> {
     let sources = sources_of(alloc, "cover.graphql", text)?;
     let fault = on_leaf(alloc)?;
     reported(alloc, form, &sources, fault.location, &fault)
 }
 
+static ON_LEAF: [Row; 1] = [Row {
+    text: "fragment Cover on Book { name: title } # é",
+    kind: "SubselectionOnLeaf",
+    message: "`name`: a field of scalar or enum type must not have subselections",
+    at: At(
+        1,
+        26,
+        "fragment Cover on Book { name: title } # é",
+        "                         ^^^^^^^^^^^^",
+    ),
+    under: "   = path: fragment Cover → name\n",
+    json: "'end_line':1,'end_column':38,'path':['fragment Cover','name'],'response_key':'name','parent_type':'Book'",
+}];
+
 #[test]
 fn subselections_on_leaves_are_reported(rt: HostRuntime) {
-    let alloc = rt.alloc();
-    let text = reported_on_leaf(alloc, Form::Text).expect(&rt, "memory");
-    let wanted = "error: `name`: a field of scalar or enum type must not have subselections
-  --> cover.graphql:1:26
-   |
- 1 | fragment Cover on Book { name: title } # é
-   |                          ^^^^^^^^^^^^
-   = path: fragment Cover → name
-";
-    assert_eq!(rt; text.as_str(), wanted);
-    let json = reported_on_leaf(alloc, Form::Json).expect(&rt, "memory");
-    let lines = r#"{"kind":"SubselectionOnLeaf",
-"message":"`name`: a field of scalar or enum type must not have subselections",
-"file":"cover.graphql","line":1,"column":26,"end_line":1,"end_column":38,"path":["fragment Cover","name"],
-"response_key":"name","parent_type":"Book"}"#;
-    assert_eq!(rt;
-        json.as_str(),
-        joined(alloc, lines).expect(&rt, "memory").as_str()
-    );
+    assert!(rt; first_wrong(rt.alloc(), Sort::HandMade, &ON_LEAF) == None);
 }

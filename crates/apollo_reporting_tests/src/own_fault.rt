@@ -8,7 +8,6 @@ ghost use Rattle.apollo_reporting.specs.FaultData.{fault_data};
 ghost use Rattle.apollo_reporting.specs.Reports as spec;
 
 use crate::made::sources_of;
-use crate::rows::joined;
 use apollo_compiler::{FileId, SourceMap, SourceSpan};
 use apollo_reporting::about::About;
 use apollo_reporting::detail::Detail;

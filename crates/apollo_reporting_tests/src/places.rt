@@ -1,7 +1,7 @@
 //! Reports of faults whose places are not known, or not in full.
 
 use crate::made::{Form, reported, sources_of};
-use crate::rows::joined;
+use crate::rows::quoted;
 use apollo_compiler::{FileId, SourceSpan};
 use apollo_meaning::build_error::BuildError;
 use std::alloc::{AllocError, Global};
@@ -37,8 +37,15 @@ const BUILT_IN: SourceSpan = SourceSpan {
     end: 0,
 };
 
-/// A fault at a location, with an earlier place, the report of it, and its JSON, which is broken into lines
-/// here.
+/// How each report begins.
+static SENTENCE: &str = "error: must not have multiple `schema` definitions\n";
+
+/// How the JSON of each begins.
+static KIND: &str =
+    r#"{"kind":"SchemaDefinitionCollision","message":"must not have multiple `schema` definitions","#;
+
+/// A fault at a location, with an earlier place, how the report of it goes on, and how its JSON does, with `'`
+/// for each of its quotes.
 struct Row {
     location: Option<SourceSpan>,
     previous_location: Option<SourceSpan>,
@@ -50,59 +57,32 @@ static ROWS: [Row; 5] = [
     Row {
         location: None,
         previous_location: None,
-        report: "error: must not have multiple `schema` definitions\n",
-        json: r#"{"kind":"SchemaDefinitionCollision","message":"must not have multiple `schema` definitions",
-"file":null,"line":null,"column":null,"end_line":null,"end_column":null,"path":null,
-"previous_location":null}"#,
+        report: "",
+        json: "'file':null,'line':null,'column':null,'end_line':null,'end_column':null,'path':null,'previous_location':null}",
     },
     Row {
         location: Some(OF_NO_FILE),
         previous_location: Some(BEHIND_THE_END),
-        report: "error: must not have multiple `schema` definitions
-  --> file 9, byte 3
-note: first defined here
-  --> places.graphql, byte 9
-",
-        json: r#"{"kind":"SchemaDefinitionCollision","message":"must not have multiple `schema` definitions",
-"file":null,"line":null,"column":null,"end_line":null,"end_column":null,"path":null,
-"previous_location":{"file":"places.graphql","line":null,"column":null,"end_line":null,"end_column":null}}"#,
+        report: "  --> file 9, byte 3\nnote: first defined here\n  --> places.graphql, byte 9\n",
+        json: "'file':null,'line':null,'column':null,'end_line':null,'end_column':null,'path':null,'previous_location':{'file':'places.graphql','line':null,'column':null,'end_line':null,'end_column':null}}",
     },
     Row {
         location: Some(BEHIND_THE_END),
         previous_location: Some(OF_NO_FILE),
-        report: "error: must not have multiple `schema` definitions
-  --> places.graphql, byte 9
-note: first defined here
-  --> file 9, byte 3
-",
-        json: r#"{"kind":"SchemaDefinitionCollision","message":"must not have multiple `schema` definitions",
-"file":"places.graphql","line":null,"column":null,"end_line":null,"end_column":null,"path":null,
-"previous_location":{"file":null,"line":null,"column":null,"end_line":null,"end_column":null}}"#,
+        report: "  --> places.graphql, byte 9\nnote: first defined here\n  --> file 9, byte 3\n",
+        json: "'file':'places.graphql','line':null,'column':null,'end_line':null,'end_column':null,'path':null,'previous_location':{'file':null,'line':null,'column':null,'end_line':null,'end_column':null}}",
     },
     Row {
         location: Some(BEHIND_THE_END),
         previous_location: Some(BUILT_IN),
-        report: "error: must not have multiple `schema` definitions
-  --> places.graphql, byte 9
-note: first defined here
-  --> built-in
-",
-        json: r#"{"kind":"SchemaDefinitionCollision","message":"must not have multiple `schema` definitions",
-"file":"places.graphql","line":null,"column":null,"end_line":null,"end_column":null,"path":null,
-"previous_location":{"file":null,"line":null,"column":null,"end_line":null,"end_column":null}}"#,
+        report: "  --> places.graphql, byte 9\nnote: first defined here\n  --> built-in\n",
+        json: "'file':'places.graphql','line':null,'column':null,'end_line':null,'end_column':null,'path':null,'previous_location':{'file':null,'line':null,'column':null,'end_line':null,'end_column':null}}",
     },
     Row {
         location: Some(PAST_THE_END),
         previous_location: None,
-        report: "error: must not have multiple `schema` definitions
-  --> places.graphql:1:2
-   |
- 1 | {a}
-   |  ^^
-",
-        json: r#"{"kind":"SchemaDefinitionCollision","message":"must not have multiple `schema` definitions",
-"file":"places.graphql","line":1,"column":2,"end_line":null,"end_column":null,"path":null,
-"previous_location":null}"#,
+        report: "  --> places.graphql:1:2\n   |\n 1 | {a}\n   |  ^^\n",
+        json: "'file':'places.graphql','line':1,'column':2,'end_line':null,'end_column':null,'path':null,'previous_location':null}",
     },
 ];
 
@@ -114,7 +94,11 @@ fn is_reported(alloc: Global, row: &Row) -> Result<bool, AllocError> {
     };
     let report = reported(alloc, Form::Text, &sources, row.location, &fault)?;
     let json = reported(alloc, Form::Json, &sources, row.location, &fault)?;
-    Ok(report.as_str() == row.report && json.as_str() == joined(alloc, row.json)?.as_str())
+    let members = quoted(alloc, row.json)?;
+    Ok(
+        report.as_str().strip_prefix(SENTENCE) == Some(row.report)
+            && json.as_str().strip_prefix(KIND) == Some(members.as_str()),
+    )
 }
 
 #[test]

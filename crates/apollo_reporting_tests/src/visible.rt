@@ -1,6 +1,6 @@
 //! Reports of texts, paths and names with control characters.
 
-use crate::made::{Form, reported, sources_of};
+use crate::made::{Form, reported, reported_of_text, sources_of};
 use apollo_compiler::collections::Items;
 use apollo_compiler::{FileId, Name, SourceMap, SourceSpan};
 use apollo_meaning::build_error::BuildError;
@@ -35,6 +35,25 @@ fn control_characters_are_not_written(rt: HostRuntime) {
  1 | \u{fffd}\t\u{fffd}\u{fffd}√
    | ^
 ")
+    );
+}
+
+#[test]
+fn a_control_character_at_fault_is_not_written(rt: HostRuntime) {
+    let report = reported_of_text(rt.alloc(), Form::Text, "{\u{9b}}");
+    assert!(rt;
+        report.is_some_and(|text| text.as_str()
+            == "error: unexpected character `\u{fffd}`
+  --> refused.graphql:1:2
+   |
+ 1 | {\u{fffd}}
+   |  ^
+")
+    );
+    let json = reported_of_text(rt.alloc(), Form::Json, "{\u{9b}}");
+    assert!(rt;
+        json.is_some_and(|text| text.as_str()
+            == "{\"kind\":\"UnexpectedCharacter\",\"message\":\"unexpected character `\u{9b}`\",\"file\":\"refused.graphql\",\"line\":1,\"column\":2,\"end_line\":1,\"end_column\":2,\"path\":null,\"character\":\"\u{9b}\",\"shown\":\"`\u{9b}`\"}")
     );
 }
 
