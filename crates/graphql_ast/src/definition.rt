@@ -2,7 +2,6 @@
 ghost use Rattle.std.specs.Prelude.{◌≡◌, IfOk, ◌↔◌, IsTrue};
 ghost use Rattle.std.specs.Option.{option_copied};
 
-use crate::from_nodes::copied;
 use crate::operation::{FragmentDefinition, OperationDefinition};
 use crate::type_system::{
     DirectiveDefinition, EnumTypeDefinition, EnumTypeExtension, InputObjectTypeDefinition,
@@ -12,9 +11,23 @@ use crate::type_system::{
 };
 use graphql_nodes::name::Name;
 use graphql_nodes::node::Node;
+use graphql_nodes::of_variants;
 use graphql_nodes::source::SourceSpan;
 use graphql_nodes::type_kind::TypeKind;
-use std::alloc::AllocError;
+
+/// What is made of the node that a definition holds, whatever its kind.
+macro_rules! of_held {
+    ($definition:expr, $node:ident => $made:expr) => {
+        of_variants!($definition, $node => $made;
+            OperationDefinition, FragmentDefinition, DirectiveDefinition,
+            SchemaDefinition, ScalarTypeDefinition, ObjectTypeDefinition, InterfaceTypeDefinition,
+            UnionTypeDefinition, EnumTypeDefinition, InputObjectTypeDefinition,
+            SchemaExtension, ScalarTypeExtension, ObjectTypeExtension, InterfaceTypeExtension,
+            UnionTypeExtension, EnumTypeExtension, InputObjectTypeExtension)
+    };
+}
+
+pub(crate) use of_held;
 
 /// A definition or extension of a document. `From` of a node is the variant of its kind, which holds this
 /// node.
@@ -37,33 +50,6 @@ pub enum Definition {
     UnionTypeExtension(Node<UnionTypeExtension>),
     EnumTypeExtension(Node<EnumTypeExtension>),
     InputObjectTypeExtension(Node<InputObjectTypeExtension>),
-}
-
-impl Clone for Definition {
-    ghost is_clone = { λ a b. b ≡ a };
-
-    /// The same definition, with every location. The node is shared. The error is out of memory.
-    fn clone(&self) -> Result<Definition, AllocError> {
-        match self {
-            Definition::OperationDefinition(node) => copied(node),
-            Definition::FragmentDefinition(node) => copied(node),
-            Definition::DirectiveDefinition(node) => copied(node),
-            Definition::SchemaDefinition(node) => copied(node),
-            Definition::ScalarTypeDefinition(node) => copied(node),
-            Definition::ObjectTypeDefinition(node) => copied(node),
-            Definition::InterfaceTypeDefinition(node) => copied(node),
-            Definition::UnionTypeDefinition(node) => copied(node),
-            Definition::EnumTypeDefinition(node) => copied(node),
-            Definition::InputObjectTypeDefinition(node) => copied(node),
-            Definition::SchemaExtension(node) => copied(node),
-            Definition::ScalarTypeExtension(node) => copied(node),
-            Definition::ObjectTypeExtension(node) => copied(node),
-            Definition::InterfaceTypeExtension(node) => copied(node),
-            Definition::UnionTypeExtension(node) => copied(node),
-            Definition::EnumTypeExtension(node) => copied(node),
-            Definition::InputObjectTypeExtension(node) => copied(node),
-        }
-    }
 }
 
 impl Definition {
@@ -99,25 +85,7 @@ impl Definition {
     pub fn location(&self) -> Option<SourceSpan>
         ensures { result ≡ definition_location self.now }
     {
-        match self {
-            Definition::OperationDefinition(node) => node.location(),
-            Definition::FragmentDefinition(node) => node.location(),
-            Definition::DirectiveDefinition(node) => node.location(),
-            Definition::SchemaDefinition(node) => node.location(),
-            Definition::ScalarTypeDefinition(node) => node.location(),
-            Definition::ObjectTypeDefinition(node) => node.location(),
-            Definition::InterfaceTypeDefinition(node) => node.location(),
-            Definition::UnionTypeDefinition(node) => node.location(),
-            Definition::EnumTypeDefinition(node) => node.location(),
-            Definition::InputObjectTypeDefinition(node) => node.location(),
-            Definition::SchemaExtension(node) => node.location(),
-            Definition::ScalarTypeExtension(node) => node.location(),
-            Definition::ObjectTypeExtension(node) => node.location(),
-            Definition::InterfaceTypeExtension(node) => node.location(),
-            Definition::UnionTypeExtension(node) => node.location(),
-            Definition::EnumTypeExtension(node) => node.location(),
-            Definition::InputObjectTypeExtension(node) => node.location(),
-        }
+        of_held!(self, node => node.location())
     }
 
     /// The kind of the type that is defined or extended, if one is.

@@ -16,12 +16,6 @@ pub struct Argument {
     pub value: Node<Value>,
 }
 
-impl Drop for Argument {
-    fn drop(self) {
-        take_apart!(self: name, value);
-    }
-}
-
 impl Argument {
     /// The argument of this name with this value.
     pub fn new(name: Name, value: Node<Value>) -> Argument
@@ -36,12 +30,6 @@ impl Argument {
 pub struct Directive {
     pub name: Name,
     pub arguments: Items<Node<Argument>>,
-}
-
-impl Drop for Directive {
-    fn drop(self) {
-        take_apart!(self: name, arguments);
-    }
 }
 
 impl Directive {
@@ -59,12 +47,6 @@ impl Directive {
 /// The directives applied to a definition or to a selection, in order.
 #[derive(Debug, PartialEq, Eq, Hash, Clone)]
 pub struct DirectiveList(pub Items<Node<Directive>>);
-
-impl Drop for DirectiveList {
-    fn drop(self) {
-        let Self(_) = self;
-    }
-}
 
 impl DirectiveList {
     /// No directive.
@@ -102,5 +84,23 @@ impl Deref for DirectiveList {
         ensures { result.now ≡ self.now.0 }
     {
         &self.0
+    }
+}
+
+impl Drop for Argument {
+    fn drop(self) {
+        take_apart!(self: name, value);
+    }
+}
+
+impl Drop for Directive {
+    fn drop(self) {
+        take_apart!(self: name, arguments);
+    }
+}
+
+impl Drop for DirectiveList {
+    fn drop(self) {
+        let Self(_) = self;
     }
 }

@@ -3,7 +3,7 @@ ghost use Rattle.std.specs.Prelude.{◌≡◌, IfOk};
 ghost use Rattle.graphql_ast.specs.declared.definition.Definition.TheVariants as definitions;
 ghost use Rattle.graphql_ast.specs.declared.selection.Selection as selections;
 
-use crate::definition::Definition;
+use crate::definition::{Definition, of_held};
 use crate::operation::{FragmentDefinition, OperationDefinition};
 use crate::selection::{Field, FragmentSpread, InlineFragment, Selection};
 use crate::type_system::{
@@ -13,6 +13,7 @@ use crate::type_system::{
     SchemaDefinition, SchemaExtension, UnionTypeDefinition, UnionTypeExtension,
 };
 use graphql_nodes::node::Node;
+use graphql_nodes::of_variants;
 use std::alloc::AllocError;
 
 /// What a copy of the node becomes. The error is out of memory.
@@ -20,6 +21,15 @@ pub(crate) fn copied<T: Drop, D: From<Node<T>>>(node: &Node<T>) -> Result<D, All
     ensures { IfOk result (λ made. D.from_gives node.now made) }
 {
     Ok(D::from(node.clone()?))
+}
+
+impl Clone for Definition {
+    ghost is_clone = { λ a b. b ≡ a };
+
+    /// The same definition, with every location. The node is shared. The error is out of memory.
+    fn clone(&self) -> Result<Definition, AllocError> {
+        of_held!(self, node => copied(node))
+    }
 }
 
 impl From<Node<OperationDefinition>> for Definition {

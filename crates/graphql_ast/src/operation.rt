@@ -26,12 +26,6 @@ pub struct OperationDefinition {
     pub selection_set: Items<Selection>,
 }
 
-impl Drop for OperationDefinition {
-    fn drop(self) {
-        take_apart!(self: operation_type, name, variables, directives, selection_set);
-    }
-}
-
 impl OperationDefinition {
     /// An anonymous operation of this type, without variables, directives and selections.
     pub fn new(alloc: Global, operation_type: OperationType) -> OperationDefinition
@@ -49,12 +43,6 @@ pub struct VariableDefinition {
     pub ty: Node<Type>,
     pub default_value: Option<Node<Value>>,
     pub directives: DirectiveList,
-}
-
-impl Drop for VariableDefinition {
-    fn drop(self) {
-        take_apart!(self: name, ty, default_value, directives);
-    }
 }
 
 impl VariableDefinition {
@@ -78,17 +66,29 @@ pub struct FragmentDefinition {
     pub selection_set: Items<Selection>,
 }
 
-impl Drop for FragmentDefinition {
-    fn drop(self) {
-        take_apart!(self: name, type_condition, directives, selection_set);
-    }
-}
-
 impl FragmentDefinition {
     /// A fragment of this name on this type, without directives and selections.
     pub fn new(alloc: Global, name: Name, type_condition: NamedType) -> FragmentDefinition
         ensures { result ≡ fragment_of name type_condition no_directives [] }
     {
         else_empty!(alloc: name, type_condition; directives, selection_set)
+    }
+}
+
+impl Drop for OperationDefinition {
+    fn drop(self) {
+        take_apart!(self: operation_type, name, variables, directives, selection_set);
+    }
+}
+
+impl Drop for VariableDefinition {
+    fn drop(self) {
+        take_apart!(self: name, ty, default_value, directives);
+    }
+}
+
+impl Drop for FragmentDefinition {
+    fn drop(self) {
+        take_apart!(self: name, type_condition, directives, selection_set);
     }
 }

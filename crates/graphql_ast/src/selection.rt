@@ -61,12 +61,6 @@ pub struct FragmentSpread {
     pub directives: DirectiveList,
 }
 
-impl Drop for FragmentSpread {
-    fn drop(self) {
-        take_apart!(self: fragment_name, directives);
-    }
-}
-
 impl FragmentSpread {
     /// A spread of the fragment of this name, without directives (section 2.8). It takes no memory.
     pub fn new(alloc: Global, fragment_name: Name) -> FragmentSpread
@@ -146,5 +140,11 @@ impl Clone for InlineFragment {
     /// The same fragment, with every location. The error is out of memory.
     fn clone(&self) -> Result<InlineFragment, AllocError> {
         clone_fields!(self: type_condition, directives, selection_set)
+    }
+}
+
+impl Drop for FragmentSpread {
+    fn drop(self) {
+        take_apart!(self: fragment_name, directives);
     }
 }

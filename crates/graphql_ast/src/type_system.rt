@@ -35,12 +35,6 @@ pub struct FieldDefinition {
     pub directives: DirectiveList,
 }
 
-impl Drop for FieldDefinition {
-    fn drop(self) {
-        take_apart!(self: description, name, arguments, ty, directives);
-    }
-}
-
 impl FieldDefinition {
     /// A field of this name and type, without description, arguments and directives.
     pub fn new(alloc: Global, name: Name, ty: Type) -> FieldDefinition
@@ -58,12 +52,6 @@ pub struct InputValueDefinition {
     pub ty: Node<Type>,
     pub default_value: Option<Node<Value>>,
     pub directives: DirectiveList,
-}
-
-impl Drop for InputValueDefinition {
-    fn drop(self) {
-        take_apart!(self: description, name, ty, default_value, directives);
-    }
 }
 
 impl InputValueDefinition {
@@ -87,12 +75,6 @@ pub struct EnumValueDefinition {
     pub directives: DirectiveList,
 }
 
-impl Drop for EnumValueDefinition {
-    fn drop(self) {
-        take_apart!(self: description, value, directives);
-    }
-}
-
 impl EnumValueDefinition {
     /// An enum value of this name, without description and directives.
     pub fn new(alloc: Global, value: Name) -> EnumValueDefinition
@@ -110,12 +92,6 @@ pub struct DirectiveDefinition {
     pub arguments: Items<Node<InputValueDefinition>>,
     pub repeatable: bool,
     pub locations: Items<DirectiveLocation>,
-}
-
-impl Drop for DirectiveDefinition {
-    fn drop(self) {
-        take_apart!(self: description, name, arguments, repeatable, locations);
-    }
 }
 
 impl DirectiveDefinition {
@@ -142,12 +118,6 @@ pub struct SchemaDefinition {
     pub root_operations: Items<Node<(OperationType, NamedType)>>,
 }
 
-impl Drop for SchemaDefinition {
-    fn drop(self) {
-        take_apart!(self: description, directives, root_operations);
-    }
-}
-
 impl SchemaDefinition {
     /// A definition of the schema without description, directives and root operations.
     pub fn new(alloc: Global) -> SchemaDefinition
@@ -163,12 +133,6 @@ pub struct ScalarTypeDefinition {
     pub description: Option<NodeStr>,
     pub name: Name,
     pub directives: DirectiveList,
-}
-
-impl Drop for ScalarTypeDefinition {
-    fn drop(self) {
-        take_apart!(self: description, name, directives);
-    }
 }
 
 impl ScalarTypeDefinition {
@@ -190,12 +154,6 @@ pub struct ObjectTypeDefinition {
     pub fields: Items<Node<FieldDefinition>>,
 }
 
-impl Drop for ObjectTypeDefinition {
-    fn drop(self) {
-        take_apart!(self: description, name, implements_interfaces, directives, fields);
-    }
-}
-
 impl ObjectTypeDefinition {
     /// The definition of an object type of this name, without description, interfaces, directives and fields.
     pub fn new(alloc: Global, name: Name) -> ObjectTypeDefinition
@@ -213,12 +171,6 @@ pub struct InterfaceTypeDefinition {
     pub implements_interfaces: Items<Name>,
     pub directives: DirectiveList,
     pub fields: Items<Node<FieldDefinition>>,
-}
-
-impl Drop for InterfaceTypeDefinition {
-    fn drop(self) {
-        take_apart!(self: description, name, implements_interfaces, directives, fields);
-    }
 }
 
 impl InterfaceTypeDefinition {
@@ -240,12 +192,6 @@ pub struct UnionTypeDefinition {
     pub members: Items<NamedType>,
 }
 
-impl Drop for UnionTypeDefinition {
-    fn drop(self) {
-        take_apart!(self: description, name, directives, members);
-    }
-}
-
 impl UnionTypeDefinition {
     /// The definition of a union type of this name, without description, directives and members.
     pub fn new(alloc: Global, name: Name) -> UnionTypeDefinition
@@ -262,12 +208,6 @@ pub struct EnumTypeDefinition {
     pub name: Name,
     pub directives: DirectiveList,
     pub values: Items<Node<EnumValueDefinition>>,
-}
-
-impl Drop for EnumTypeDefinition {
-    fn drop(self) {
-        take_apart!(self: description, name, directives, values);
-    }
 }
 
 impl EnumTypeDefinition {
@@ -288,12 +228,6 @@ pub struct InputObjectTypeDefinition {
     pub fields: Items<Node<InputValueDefinition>>,
 }
 
-impl Drop for InputObjectTypeDefinition {
-    fn drop(self) {
-        take_apart!(self: description, name, directives, fields);
-    }
-}
-
 impl InputObjectTypeDefinition {
     /// The definition of an input object type of this name, without description, directives and fields.
     pub fn new(alloc: Global, name: Name) -> InputObjectTypeDefinition
@@ -310,12 +244,6 @@ pub struct SchemaExtension {
     pub root_operations: Items<Node<(OperationType, NamedType)>>,
 }
 
-impl Drop for SchemaExtension {
-    fn drop(self) {
-        take_apart!(self: directives, root_operations);
-    }
-}
-
 impl SchemaExtension {
     /// An extension of the schema without directives and root operations.
     pub fn new(alloc: Global) -> SchemaExtension
@@ -330,12 +258,6 @@ impl SchemaExtension {
 pub struct ScalarTypeExtension {
     pub name: Name,
     pub directives: DirectiveList,
-}
-
-impl Drop for ScalarTypeExtension {
-    fn drop(self) {
-        take_apart!(self: name, directives);
-    }
 }
 
 impl ScalarTypeExtension {
@@ -356,12 +278,6 @@ pub struct ObjectTypeExtension {
     pub fields: Items<Node<FieldDefinition>>,
 }
 
-impl Drop for ObjectTypeExtension {
-    fn drop(self) {
-        take_apart!(self: name, implements_interfaces, directives, fields);
-    }
-}
-
 impl ObjectTypeExtension {
     /// An extension of the object type of this name, without interfaces, directives and fields.
     pub fn new(alloc: Global, name: Name) -> ObjectTypeExtension
@@ -378,12 +294,6 @@ pub struct InterfaceTypeExtension {
     pub implements_interfaces: Items<Name>,
     pub directives: DirectiveList,
     pub fields: Items<Node<FieldDefinition>>,
-}
-
-impl Drop for InterfaceTypeExtension {
-    fn drop(self) {
-        take_apart!(self: name, implements_interfaces, directives, fields);
-    }
 }
 
 impl InterfaceTypeExtension {
@@ -403,12 +313,6 @@ pub struct UnionTypeExtension {
     pub members: Items<NamedType>,
 }
 
-impl Drop for UnionTypeExtension {
-    fn drop(self) {
-        take_apart!(self: name, directives, members);
-    }
-}
-
 impl UnionTypeExtension {
     /// An extension of the union type of this name, without directives and members.
     pub fn new(alloc: Global, name: Name) -> UnionTypeExtension
@@ -424,12 +328,6 @@ pub struct EnumTypeExtension {
     pub name: Name,
     pub directives: DirectiveList,
     pub values: Items<Node<EnumValueDefinition>>,
-}
-
-impl Drop for EnumTypeExtension {
-    fn drop(self) {
-        take_apart!(self: name, directives, values);
-    }
 }
 
 impl EnumTypeExtension {
@@ -449,17 +347,119 @@ pub struct InputObjectTypeExtension {
     pub fields: Items<Node<InputValueDefinition>>,
 }
 
-impl Drop for InputObjectTypeExtension {
-    fn drop(self) {
-        take_apart!(self: name, directives, fields);
-    }
-}
-
 impl InputObjectTypeExtension {
     /// An extension of the input object type of this name, without directives and fields.
     pub fn new(alloc: Global, name: Name) -> InputObjectTypeExtension
         ensures { result ≡ input_object_extension_of name no_directives [] }
     {
         else_empty!(alloc: name; directives, fields)
+    }
+}
+
+impl Drop for FieldDefinition {
+    fn drop(self) {
+        take_apart!(self: description, name, arguments, ty, directives);
+    }
+}
+
+impl Drop for InputValueDefinition {
+    fn drop(self) {
+        take_apart!(self: description, name, ty, default_value, directives);
+    }
+}
+
+impl Drop for EnumValueDefinition {
+    fn drop(self) {
+        take_apart!(self: description, value, directives);
+    }
+}
+
+impl Drop for DirectiveDefinition {
+    fn drop(self) {
+        take_apart!(self: description, name, arguments, repeatable, locations);
+    }
+}
+
+impl Drop for SchemaDefinition {
+    fn drop(self) {
+        take_apart!(self: description, directives, root_operations);
+    }
+}
+
+impl Drop for ScalarTypeDefinition {
+    fn drop(self) {
+        take_apart!(self: description, name, directives);
+    }
+}
+
+impl Drop for ObjectTypeDefinition {
+    fn drop(self) {
+        take_apart!(self: description, name, implements_interfaces, directives, fields);
+    }
+}
+
+impl Drop for InterfaceTypeDefinition {
+    fn drop(self) {
+        take_apart!(self: description, name, implements_interfaces, directives, fields);
+    }
+}
+
+impl Drop for UnionTypeDefinition {
+    fn drop(self) {
+        take_apart!(self: description, name, directives, members);
+    }
+}
+
+impl Drop for EnumTypeDefinition {
+    fn drop(self) {
+        take_apart!(self: description, name, directives, values);
+    }
+}
+
+impl Drop for InputObjectTypeDefinition {
+    fn drop(self) {
+        take_apart!(self: description, name, directives, fields);
+    }
+}
+
+impl Drop for SchemaExtension {
+    fn drop(self) {
+        take_apart!(self: directives, root_operations);
+    }
+}
+
+impl Drop for ScalarTypeExtension {
+    fn drop(self) {
+        take_apart!(self: name, directives);
+    }
+}
+
+impl Drop for ObjectTypeExtension {
+    fn drop(self) {
+        take_apart!(self: name, implements_interfaces, directives, fields);
+    }
+}
+
+impl Drop for InterfaceTypeExtension {
+    fn drop(self) {
+        take_apart!(self: name, implements_interfaces, directives, fields);
+    }
+}
+
+impl Drop for UnionTypeExtension {
+    fn drop(self) {
+        take_apart!(self: name, directives, members);
+    }
+}
+
+impl Drop for EnumTypeExtension {
+    fn drop(self) {
+        take_apart!(self: name, directives, values);
+    }
+}
+
+impl Drop for InputObjectTypeExtension {
+    fn drop(self) {
+        take_apart!(self: name, directives, fields);
     }
 }

@@ -1,4 +1,4 @@
-//! What a `Drop` or `Clone` by hand does with each field of a value.
+//! What is done alike with each field of a value, or with what each variant holds.
 
 /// Takes a value of `Self` apart by its fields, which are named, and drops each: the body of a `Drop` by
 /// hand. A derived one is proved anew in each crate that drops the type, at each exit of each function.
@@ -12,4 +12,13 @@ macro_rules! take_apart {
 #[macro_export]
 macro_rules! clone_fields {
     ($value:ident: $($field:ident),*) => { Ok(Self { $($field: $value.$field.clone()?),* }) };
+}
+
+/// What is made of what a value of `Self` holds, whichever of these variants it is: a `match` with an arm
+/// for each.
+#[macro_export]
+macro_rules! of_variants {
+    ($value:expr, $held:ident => $made:expr; $($variant:ident),*) => {
+        match $value { $(Self::$variant($held) => $made),* }
+    };
 }

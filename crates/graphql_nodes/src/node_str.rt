@@ -1,9 +1,8 @@
 //! Shared texts: descriptions of definitions, GraphQL specification of October 2021, sections 2.9.4 and 3.2.
 ghost use Rattle.std.specs.Prelude.{◌≡◌, IfOk, None, Some, nat_eq};
-ghost use Rattle.std.specs.Cmp.{on_equiv, on_per};
+ghost use Rattle.std.specs.Cmp.{on_equiv, on_per, partial_equiv_from_equiv};
 ghost use Rattle.std.specs.Cmp.Rules.{hashing};
 ghost use Rattle.std.specs.Cmp.Lexicographic.{pointwise, nat_list_eq_equiv};
-ghost use Rattle.std.specs.Cmp;
 ghost use Rattle.std.specs.Hash as fed;
 ghost use Rattle.std.specs.Fmt.{debug_str};
 ghost use Rattle.std.proofs.Common.{rules};
@@ -109,7 +108,7 @@ impl Clone for NodeStr {
 impl PartialEq for NodeStr {
     ghost eq = { λ x y. pointwise nat_eq x.text y.text };
 
-    ghost laws = { on_per (λ x. x.text) (Cmp.partial_equiv_from_equiv nat_list_eq_equiv) };
+    ghost laws = { on_per (λ x. x.text) (partial_equiv_from_equiv nat_list_eq_equiv) };
 
     fn eq(&self, other: &NodeStr) -> bool {
         self.placed.shared == other.placed.shared

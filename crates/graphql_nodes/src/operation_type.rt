@@ -6,6 +6,17 @@ use crate::name::NamedType;
 use std::alloc::{AllocError, Global};
 use std::fmt;
 
+/// One of three texts, by the kind of an operation.
+macro_rules! by_operation {
+    ($operation:expr => $query:literal, $mutation:literal, $subscription:literal) => {
+        match $operation {
+            OperationType::Query => $query,
+            OperationType::Mutation => $mutation,
+            OperationType::Subscription => $subscription,
+        }
+    };
+}
+
 /// The kind of an operation (section 2.3). `Display` is its keyword.
 #[derive(Clone, Copy, Debug, PartialEq, Eq, Hash)]
 pub enum OperationType {
@@ -19,11 +30,7 @@ impl OperationType {
     pub fn name(self) -> &'static str
         ensures { result.now ≡ operation_text self }
     {
-        match self {
-            OperationType::Query => "query",
-            OperationType::Mutation => "mutation",
-            OperationType::Subscription => "subscription",
-        }
+        by_operation!(self => "query", "mutation", "subscription")
     }
 
     /// The name of the object type that is this kind's root where no schema definition names one (section
@@ -31,11 +38,7 @@ impl OperationType {
     pub fn default_type_name(self, alloc: Global) -> Result<NamedType, AllocError>
         ensures { IfOk result (λ n. n ≡ record { text = default_type_text self; location = None }) }
     {
-        let text = match self {
-            OperationType::Query => "Query",
-            OperationType::Mutation => "Mutation",
-            OperationType::Subscription => "Subscription",
-        };
+        let text = by_operation!(self => "Query", "Mutation", "Subscription");
         NamedType::new_unchecked(alloc, text)
     }
 }
