@@ -16,6 +16,7 @@ use graphql_ast::definition::Definition;
 use graphql_nodes::name::Name;
 use graphql_nodes::node::Node;
 use graphql_nodes::node_str::NodeStr;
+use graphql_nodes::of_variants;
 use graphql_nodes::source::SourceSpan;
 use graphql_nodes::type_kind::TypeKind;
 use std::alloc::{AllocError, Global};
@@ -23,14 +24,7 @@ use std::alloc::{AllocError, Global};
 /// What is made of the node that a type holds, whatever its kind.
 macro_rules! of_held {
     ($ty:expr, $node:ident => $made:expr) => {
-        match $ty {
-            ExtendedType::Scalar($node) => $made,
-            ExtendedType::Object($node) => $made,
-            ExtendedType::Interface($node) => $made,
-            ExtendedType::Union($node) => $made,
-            ExtendedType::Enum($node) => $made,
-            ExtendedType::InputObject($node) => $made,
-        }
+        of_variants!($ty, $node => $made; Scalar, Object, Interface, Union, Enum, InputObject)
     };
 }
 
@@ -52,14 +46,7 @@ impl Clone for ExtendedType {
 
     /// The same type, with every location and origin. The node is shared. The error is out of memory.
     fn clone(&self) -> Result<ExtendedType, AllocError> {
-        match self {
-            ExtendedType::Scalar(node) => Ok(ExtendedType::Scalar(node.clone()?)),
-            ExtendedType::Object(node) => Ok(ExtendedType::Object(node.clone()?)),
-            ExtendedType::Interface(node) => Ok(ExtendedType::Interface(node.clone()?)),
-            ExtendedType::Union(node) => Ok(ExtendedType::Union(node.clone()?)),
-            ExtendedType::Enum(node) => Ok(ExtendedType::Enum(node.clone()?)),
-            ExtendedType::InputObject(node) => Ok(ExtendedType::InputObject(node.clone()?)),
-        }
+        of_held!(self, node => Ok(ExtendedType::from(node.clone()?)))
     }
 }
 

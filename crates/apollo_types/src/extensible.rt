@@ -2,9 +2,17 @@
 ghost use Rattle.std.specs.Prelude.{◌≡◌, IfOk};
 ghost use Rattle.apollo_component.specs.WriteOut.{origins_in, identities};
 ghost use Rattle.apollo_types.specs.Components.{OriginsInOrder};
+ghost use Rattle.apollo_types.specs.TypeWriteOut.{scalar_components, object_components, interface_components};
+ghost use Rattle.apollo_types.specs.TypeWriteOut.{union_components, enum_components, input_object_components};
 
-use crate::components::Components;
+use crate::components::{Components, Rest};
+use crate::enum_type::EnumType;
+use crate::input_object_type::InputObjectType;
+use crate::interface_type::InterfaceType;
+use crate::object_type::ObjectType;
 use crate::origins::Origins;
+use crate::scalar_type::ScalarType;
+use crate::union_type::UnionType;
 use crate::write_out::identities_of;
 use apollo_component::extension::ExtensionId;
 use graphql_nodes::collections::key_set::KeySet;
@@ -39,5 +47,79 @@ pub trait Extensible {
         ensures { IfOk result (λ ids. ids ≡ identities (origins_in (sourced self.now))) }
     {
         identities_of(alloc, self.iter_origins())
+    }
+}
+
+impl Extensible for ScalarType {
+    ghost sourced = { scalar_components };
+
+    /// The components: directives.
+    fn components(&self) -> Components<'_> {
+        Components::new(&self.directives, Rest::Nothing, Rest::Nothing)
+    }
+}
+
+impl Extensible for ObjectType {
+    ghost sourced = { object_components };
+
+    /// The components: directives, interfaces, fields.
+    fn components(&self) -> Components<'_> {
+        Components::new(
+            &self.directives,
+            Rest::Names(self.implements_interfaces.as_slice().iter()),
+            Rest::Fields(self.fields.values()),
+        )
+    }
+}
+
+impl Extensible for InterfaceType {
+    ghost sourced = { interface_components };
+
+    /// The components: directives, interfaces, fields.
+    fn components(&self) -> Components<'_> {
+        Components::new(
+            &self.directives,
+            Rest::Names(self.implements_interfaces.as_slice().iter()),
+            Rest::Fields(self.fields.values()),
+        )
+    }
+}
+
+impl Extensible for UnionType {
+    ghost sourced = { union_components };
+
+    /// The components: directives, members.
+    fn components(&self) -> Components<'_> {
+        Components::new(
+            &self.directives,
+            Rest::Names(self.members.as_slice().iter()),
+            Rest::Nothing,
+        )
+    }
+}
+
+impl Extensible for EnumType {
+    ghost sourced = { enum_components };
+
+    /// The components: directives, values.
+    fn components(&self) -> Components<'_> {
+        Components::new(
+            &self.directives,
+            Rest::Nothing,
+            Rest::EnumValues(self.values.values()),
+        )
+    }
+}
+
+impl Extensible for InputObjectType {
+    ghost sourced = { input_object_components };
+
+    /// The components: directives, fields.
+    fn components(&self) -> Components<'_> {
+        Components::new(
+            &self.directives,
+            Rest::Nothing,
+            Rest::InputFields(self.fields.values()),
+        )
     }
 }

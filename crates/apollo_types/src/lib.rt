@@ -4,6 +4,7 @@
 //! the schema definition.
 #![tactic(auto)]
 
+mod clones;
 mod components;
 pub mod enum_type;
 pub mod extended_type;

@@ -26,6 +26,9 @@ use graphql_nodes::source::SourceSpan;
 use graphql_nodes::take_apart;
 use std::alloc::{AllocError, Global};
 
+/// Types, under their names.
+type TypesByName = Table<NamedType, ExtendedType>;
+
 /// The operation types, in the order of the roots.
 pub(crate) const OPERATION_TYPES: [OperationType; 3] = [
     OperationType::Query,
@@ -48,21 +51,6 @@ pub struct SchemaDefinition {
 impl Drop for SchemaDefinition {
     fn drop(self) {
         take_apart!(self: description, directives, query, mutation, subscription);
-    }
-}
-
-impl Clone for SchemaDefinition {
-    ghost is_clone = { λ a b. b ≡ a };
-
-    /// The same definition, with every location and origin. The error is out of memory.
-    fn clone(&self) -> Result<SchemaDefinition, AllocError> {
-        Ok(SchemaDefinition {
-            description: self.description.clone()?,
-            directives: self.directives.clone()?,
-            query: self.query.clone()?,
-            mutation: self.mutation.clone()?,
-            subscription: self.subscription.clone()?,
-        })
     }
 }
 
@@ -142,7 +130,7 @@ impl SchemaDefinition {
     fn has_implied_root(
         &self,
         alloc: Global,
-        types: &Table<NamedType, ExtendedType>,
+        types: &TypesByName,
         operation_type: OperationType,
     ) -> Result<bool, AllocError>
         ensures { IfOk result (λ b. b ≡ has_implied_root types.now self.now operation_type) }
@@ -156,11 +144,7 @@ impl SchemaDefinition {
     }
 
     /// Whether all roots are those that no schema definition would have to name. The error is out of memory.
-    fn has_implied_roots(
-        &self,
-        alloc: Global,
-        types: &Table<NamedType, ExtendedType>,
-    ) -> Result<bool, AllocError>
+    fn has_implied_roots(&self, alloc: Global, types: &TypesByName) -> Result<bool, AllocError>
         ensures { IfOk result (λ b. b ≡ list_all (has_implied_root types.now self.now) operation_types) }
     {
         for operation_type in OPERATION_TYPES {
@@ -172,11 +156,7 @@ impl SchemaDefinition {
     }
 
     /// Whether nothing is said that isn't implied. The error is out of memory.
-    fn is_implied(
-        &self,
-        alloc: Global,
-        types: &Table<NamedType, ExtendedType>,
-    ) -> Result<bool, AllocError>
+    fn is_implied(&self, alloc: Global, types: &TypesByName) -> Result<bool, AllocError>
         ensures { IfOk result (λ b. b ≡ is_implied types.now self.now) }
     {
         if self.description.is_some()
@@ -189,11 +169,7 @@ impl SchemaDefinition {
     }
 
     /// Whether the definition is written. The error is out of memory.
-    fn is_written(
-        &self,
-        alloc: Global,
-        types: &Table<NamedType, ExtendedType>,
-    ) -> Result<bool, AllocError>
+    fn is_written(&self, alloc: Global, types: &TypesByName) -> Result<bool, AllocError>
         ensures { IfOk result (λ b. b ≡ is_written types.now self.now) }
     {
         Ok(self.has_own_root() && !self.is_implied(alloc, types)?)
@@ -211,7 +187,7 @@ impl Extensible for SchemaDefinition {
 }
 
 /// Whether an object type has this name.
-fn has_object(types: &Table<NamedType, ExtendedType>, name: &NamedType) -> bool
+fn has_object(types: &TypesByName, name: &NamedType) -> bool
     ensures { result ≡ is_some_object (lookup (same_text name.now) types.now) }
 {
     match types.get(name) {

@@ -1,12 +1,20 @@
 //! Types of one kind, as syntax: GraphQL specification of October 2021, sections 3.5 to 3.10.
 ghost use Rattle.std.specs.Prelude.{◌≡◌, IfOk};
 ghost use Rattle.std.specs.Option.{option_copied};
+ghost use Rattle.graphql_nodes.specs.declared.type_kind.TypeKind.TheVariants as kinds;
 ghost use Rattle.apollo_component.specs.WriteOut.{by_origin, written_type};
 
+use crate::enum_type::EnumType;
 use crate::extensible::Extensible;
+use crate::input_object_type::InputObjectType;
+use crate::interface_type::InterfaceType;
+use crate::object_type::ObjectType;
+use crate::scalar_type::ScalarType;
+use crate::union_type::UnionType;
 use crate::write_out::{Head, type_as_syntax};
 use graphql_ast::definition::Definition;
 use graphql_nodes::source::SourceSpan;
+use graphql_nodes::type_kind::TypeKind;
 use std::alloc::{AllocError, Global};
 
 /// A type of one kind: scalar, object, interface, union, enum or input object type.
@@ -43,5 +51,77 @@ pub trait TypeOfKind: Extensible {
             location) }
     {
         type_as_syntax(alloc, self.head(), self.components(), location)
+    }
+}
+
+impl TypeOfKind for ScalarType {
+    ghost kind = { kinds.Scalar };
+
+    ghost description = { λ ty. ty.description };
+
+    ghost name = { λ ty. ty.name };
+
+    fn head(&self) -> Head<'_> {
+        Head::new(TypeKind::Scalar, &self.description, &self.name)
+    }
+}
+
+impl TypeOfKind for ObjectType {
+    ghost kind = { kinds.Object };
+
+    ghost description = { λ ty. ty.description };
+
+    ghost name = { λ ty. ty.name };
+
+    fn head(&self) -> Head<'_> {
+        Head::new(TypeKind::Object, &self.description, &self.name)
+    }
+}
+
+impl TypeOfKind for InterfaceType {
+    ghost kind = { kinds.Interface };
+
+    ghost description = { λ ty. ty.description };
+
+    ghost name = { λ ty. ty.name };
+
+    fn head(&self) -> Head<'_> {
+        Head::new(TypeKind::Interface, &self.description, &self.name)
+    }
+}
+
+impl TypeOfKind for UnionType {
+    ghost kind = { kinds.Union };
+
+    ghost description = { λ ty. ty.description };
+
+    ghost name = { λ ty. ty.name };
+
+    fn head(&self) -> Head<'_> {
+        Head::new(TypeKind::Union, &self.description, &self.name)
+    }
+}
+
+impl TypeOfKind for EnumType {
+    ghost kind = { kinds.Enum };
+
+    ghost description = { λ ty. ty.description };
+
+    ghost name = { λ ty. ty.name };
+
+    fn head(&self) -> Head<'_> {
+        Head::new(TypeKind::Enum, &self.description, &self.name)
+    }
+}
+
+impl TypeOfKind for InputObjectType {
+    ghost kind = { kinds.InputObject };
+
+    ghost description = { λ ty. ty.description };
+
+    ghost name = { λ ty. ty.name };
+
+    fn head(&self) -> Head<'_> {
+        Head::new(TypeKind::InputObject, &self.description, &self.name)
     }
 }

@@ -1,6 +1,6 @@
 use Rattle.std.proofs.Common.{◌≡◌, Option, None, Some, ap, refl}
 use Rattle.std.proofs.lemmas.List.Elements.{same_from_all_zip}
-use Rattle.apollo_types.proofs.schema_definition.SchemaDefinitionClone.clone.Goals as goal
+use Rattle.apollo_types.proofs.clones.SchemaDefinitionClone.clone.Goals as goal
 
 -- p is a clone of o, where clones are the same
 abbrev IsClone : {T : Type 0} → Option T → Option T → Type 0
