@@ -26,6 +26,7 @@ mod nesting;
 mod nodes;
 mod open_field;
 pub mod printing;
+pub mod pushing;
 pub mod refusal;
 pub mod selection_line;
 pub mod selection_printing;

@@ -10,6 +10,7 @@ ghost use Rattle.bench_notation.specs.Text.{fragment_head_text, header_text, bod
 ghost use Rattle.bench_notation.specs.Text.{root_text, roots_text, printed_definition, printed_definitions};
 
 use crate::kind_words::{Role, kind_word};
+use crate::pushing::Pushed;
 use crate::selection_printing::push_selections;
 use crate::type_notation::push_type;
 use graphql_ast::declaration_ref::DeclarationRef;
@@ -39,11 +40,7 @@ pub fn print(alloc: Global, definitions: &[Definition]) -> Result<String, AllocE
     Ok(text)
 }
 
-fn push_definition(
-    alloc: Global,
-    text: &mut String,
-    definition: &Definition,
-) -> Result<(), AllocError>
+fn push_definition(alloc: Global, text: &mut String, definition: &Definition) -> Pushed
     ensures { OnOk result (string_bytes text.new
         ≡ string_bytes text.old ++ printed_definition definition.now) }
 {
@@ -53,7 +50,7 @@ fn push_definition(
 }
 
 /// The header of a definition or extension, and its own directives.
-fn push_header(text: &mut String, said: &DeclarationRef<'_>) -> Result<(), AllocError>
+fn push_header(text: &mut String, said: &DeclarationRef<'_>) -> Pushed
     ensures { OnOk result (string_bytes text.new
         ≡ string_bytes text.old ++ header_text (declaration_seen said.now)) }
 {
@@ -72,7 +69,7 @@ fn push_header(text: &mut String, said: &DeclarationRef<'_>) -> Result<(), Alloc
 }
 
 /// The lines below the header of a definition or extension, and below its own directives.
-fn push_body(alloc: Global, text: &mut String, said: &DeclarationRef<'_>) -> Result<(), AllocError>
+fn push_body(alloc: Global, text: &mut String, said: &DeclarationRef<'_>) -> Pushed
     ensures { OnOk result (string_bytes text.new
         ≡ string_bytes text.old ++ body_text (declaration_seen said.now)) }
 {
@@ -90,7 +87,7 @@ fn push_body(alloc: Global, text: &mut String, said: &DeclarationRef<'_>) -> Res
 }
 
 /// What a type of this kind has besides directives.
-fn push_parts(text: &mut String, kind: TypeKind, parts: PartsRef<'_>) -> Result<(), AllocError>
+fn push_parts(text: &mut String, kind: TypeKind, parts: PartsRef<'_>) -> Pushed
     ensures { OnOk result (string_bytes text.new
         ≡ string_bytes text.old ++ parts_text kind (parts_seen parts.entry)) }
 {
@@ -110,7 +107,7 @@ fn push_head(
     kind: TypeKind,
     name: &Name,
     directives: &[Node<Directive>],
-) -> Result<(), AllocError>
+) -> Pushed
     ensures { OnOk result (string_bytes text.new
         ≡ string_bytes text.old ++ type_head_text role kind name.now directives.now) }
 {
@@ -122,11 +119,7 @@ fn push_head(
 }
 
 /// The header of the schema, and its directives.
-fn push_schema_head(
-    text: &mut String,
-    role: Role,
-    directives: &[Node<Directive>],
-) -> Result<(), AllocError>
+fn push_schema_head(text: &mut String, role: Role, directives: &[Node<Directive>]) -> Pushed
     ensures { OnOk result (string_bytes text.new
         ≡ string_bytes text.old ++ schema_head_text role directives.now) }
 {
@@ -136,7 +129,7 @@ fn push_schema_head(
 }
 
 /// The header of an operation, and its directives.
-fn push_operation_head(text: &mut String, item: &OperationDefinition) -> Result<(), AllocError>
+fn push_operation_head(text: &mut String, item: &OperationDefinition) -> Pushed
     ensures { OnOk result (string_bytes text.new ≡ string_bytes text.old ++ operation_head_text item.now) }
 {
     text.push_str("operation ")?;
@@ -151,7 +144,7 @@ fn push_operation_head(text: &mut String, item: &OperationDefinition) -> Result<
 }
 
 /// The header of a fragment, and its directives.
-fn push_fragment_head(text: &mut String, item: &FragmentDefinition) -> Result<(), AllocError>
+fn push_fragment_head(text: &mut String, item: &FragmentDefinition) -> Pushed
     ensures { OnOk result (string_bytes text.new ≡ string_bytes text.old ++ fragment_head_text item.now) }
 {
     text.push_str("fragment ")?;
@@ -161,11 +154,7 @@ fn push_fragment_head(text: &mut String, item: &FragmentDefinition) -> Result<()
 }
 
 /// What an object or interface type has.
-fn push_fields(
-    text: &mut String,
-    interfaces: &[Name],
-    fields: &[Node<FieldDefinition>],
-) -> Result<(), AllocError>
+fn push_fields(text: &mut String, interfaces: &[Name], fields: &[Node<FieldDefinition>]) -> Pushed
     ensures { OnOk result (string_bytes text.new
         ≡ string_bytes text.old ++ fields_text interfaces.now fields.now) }
 {
@@ -176,7 +165,7 @@ fn push_fields(
     Ok(())
 }
 
-fn push_values(text: &mut String, values: &[Node<EnumValueDefinition>]) -> Result<(), AllocError>
+fn push_values(text: &mut String, values: &[Node<EnumValueDefinition>]) -> Pushed
     ensures { OnOk result (string_bytes text.new ≡ string_bytes text.old ++ values_text values.now) }
 {
     for value in values {
@@ -185,10 +174,7 @@ fn push_values(text: &mut String, values: &[Node<EnumValueDefinition>]) -> Resul
     Ok(())
 }
 
-fn push_input_fields(
-    text: &mut String,
-    fields: &[Node<InputValueDefinition>],
-) -> Result<(), AllocError>
+fn push_input_fields(text: &mut String, fields: &[Node<InputValueDefinition>]) -> Pushed
     ensures { OnOk result (string_bytes text.new ≡ string_bytes text.old ++ input_fields_text fields.now) }
 {
     for field in fields {
@@ -198,7 +184,7 @@ fn push_input_fields(
 }
 
 /// What the definition of a directive has.
-fn push_directive_body(text: &mut String, item: &DirectiveDefinition) -> Result<(), AllocError>
+fn push_directive_body(text: &mut String, item: &DirectiveDefinition) -> Pushed
     ensures { OnOk result (string_bytes text.new ≡ string_bytes text.old ++ directive_body_text item.now) }
 {
     push_arguments(text, item.arguments.as_slice())?;
@@ -211,10 +197,7 @@ fn push_directive_body(text: &mut String, item: &DirectiveDefinition) -> Result<
     Ok(())
 }
 
-fn push_roots(
-    text: &mut String,
-    roots: &[Node<(OperationType, NamedType)>],
-) -> Result<(), AllocError>
+fn push_roots(text: &mut String, roots: &[Node<(OperationType, NamedType)>]) -> Pushed
     ensures { OnOk result (string_bytes text.new ≡ string_bytes text.old ++ roots_text roots.now) }
 {
     for root in roots {
@@ -223,7 +206,7 @@ fn push_roots(
     Ok(())
 }
 
-fn push_root(text: &mut String, root: &Node<(OperationType, NamedType)>) -> Result<(), AllocError>
+fn push_root(text: &mut String, root: &Node<(OperationType, NamedType)>) -> Pushed
     ensures { OnOk result (string_bytes text.new ≡ string_bytes text.old ++ root_text root.now) }
 {
     let (operation, name) = &**root;
@@ -232,11 +215,7 @@ fn push_root(text: &mut String, root: &Node<(OperationType, NamedType)>) -> Resu
     push_named_line(text, " ", name)
 }
 
-fn push_directives(
-    text: &mut String,
-    word: &str,
-    directives: &[Node<Directive>],
-) -> Result<(), AllocError>
+fn push_directives(text: &mut String, word: &str, directives: &[Node<Directive>]) -> Pushed
     ensures { OnOk result (string_bytes text.new
         ≡ string_bytes text.old ++ directives_text word.now directives.now) }
 {
@@ -246,7 +225,7 @@ fn push_directives(
     Ok(())
 }
 
-fn push_names(text: &mut String, word: &str, names: &[Name]) -> Result<(), AllocError>
+fn push_names(text: &mut String, word: &str, names: &[Name]) -> Pushed
     ensures { OnOk result (string_bytes text.new ≡ string_bytes text.old ++ names_text word.now names.now) }
 {
     for name in names {
@@ -255,7 +234,7 @@ fn push_names(text: &mut String, word: &str, names: &[Name]) -> Result<(), Alloc
     Ok(())
 }
 
-fn push_field(text: &mut String, field: &Node<FieldDefinition>) -> Result<(), AllocError>
+fn push_field(text: &mut String, field: &Node<FieldDefinition>) -> Pushed
     ensures { OnOk result (string_bytes text.new ≡ string_bytes text.old ++ field_definition_text field.now) }
 {
     push_field_line(text, &field.name, &field.ty, field.directives.as_slice())?;
@@ -268,7 +247,7 @@ fn push_field_line(
     name: &Name,
     ty: &Type,
     directives: &[Node<Directive>],
-) -> Result<(), AllocError>
+) -> Pushed
     ensures { OnOk result (string_bytes text.new
         ≡ string_bytes text.old ++ field_line_text name.now ty.now directives.now) }
 {
@@ -276,10 +255,7 @@ fn push_field_line(
     push_directives(text, "field@ ", directives)
 }
 
-fn push_arguments(
-    text: &mut String,
-    arguments: &[Node<InputValueDefinition>],
-) -> Result<(), AllocError>
+fn push_arguments(text: &mut String, arguments: &[Node<InputValueDefinition>]) -> Pushed
     ensures { OnOk result (string_bytes text.new ≡ string_bytes text.old ++ arguments_text arguments.now) }
 {
     for argument in arguments {
@@ -288,13 +264,13 @@ fn push_arguments(
     Ok(())
 }
 
-fn push_named_line(text: &mut String, word: &str, name: &Name) -> Result<(), AllocError>
+fn push_named_line(text: &mut String, word: &str, name: &Name) -> Pushed
     ensures { OnOk result (string_bytes text.new ≡ string_bytes text.old ++ named_line word.now name.now) }
 {
     push_line(text, word, name.as_str())
 }
 
-fn push_line(text: &mut String, first: &str, word: &str) -> Result<(), AllocError>
+fn push_line(text: &mut String, first: &str, word: &str) -> Pushed
     ensures { OnOk result (string_bytes text.new ≡ string_bytes text.old ++ word_line first.now word.now) }
 {
     text.push_str(first)?;
@@ -302,7 +278,7 @@ fn push_line(text: &mut String, first: &str, word: &str) -> Result<(), AllocErro
     text.push_str("\n")
 }
 
-fn push_typed_line(text: &mut String, word: &str, name: &Name, ty: &Type) -> Result<(), AllocError>
+fn push_typed_line(text: &mut String, word: &str, name: &Name, ty: &Type) -> Pushed
     ensures { OnOk result (string_bytes text.new
         ≡ string_bytes text.old ++ typed_line word.now name.now ty.now) }
 {

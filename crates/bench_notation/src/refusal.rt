@@ -1,4 +1,5 @@
 //! Why a text of the notation is not read.
+ghost use Rattle.std.specs.Prelude.{◌≡◌};
 
 use std::alloc::{AllocError, AllocFailed};
 use thiserror::Error;
@@ -28,7 +29,6 @@ pub enum LineError {
 }
 
 impl From<Reason> for LineError {
-    ghost use Rattle.std.specs.Prelude.{◌≡◌};
     ghost use Rattle.bench_notation.specs.declared.refusal.LineError.{LineError};
 
     ghost from_gives = { λ reason e. e ≡ LineError.Refused reason };
@@ -39,7 +39,6 @@ impl From<Reason> for LineError {
 }
 
 impl From<AllocError> for LineError {
-    ghost use Rattle.std.specs.Prelude.{◌≡◌};
     ghost use Rattle.bench_notation.specs.declared.refusal.LineError.{LineError};
 
     ghost from_gives = { λ _ e. e ≡ LineError.Memory };
@@ -50,7 +49,6 @@ impl From<AllocError> for LineError {
 }
 
 impl<T: Drop> From<AllocFailed<T>> for LineError {
-    ghost use Rattle.std.specs.Prelude.{◌≡◌};
     ghost use Rattle.bench_notation.specs.declared.refusal.LineError.{LineError};
 
     ghost from_gives = { λ _ e. e ≡ LineError.Memory };
@@ -82,7 +80,6 @@ pub enum ReadError {
 }
 
 impl From<AllocError> for ReadError {
-    ghost use Rattle.std.specs.Prelude.{◌≡◌};
     ghost use Rattle.bench_notation.specs.declared.refusal.ReadError.{ReadError};
 
     ghost from_gives = { λ _ e. e ≡ ReadError.Memory };

@@ -3,6 +3,7 @@ ghost use Rattle.std.specs.Prelude.{◌≡◌, ◌++◌, IfOk, OnOk, ◌+◌, st
 ghost use Rattle.bench_notation.specs.SelectionText.{field_text, head_text, inline_text, last_text};
 ghost use Rattle.bench_notation.specs.SelectionText.{selection_text, selections_text, spread_text};
 
+use crate::pushing::Pushed;
 use graphql_ast::selection::{Field, FragmentSpread, InlineFragment, Selection};
 use graphql_nodes::name::Name;
 use std::alloc::{AllocError, Global};
@@ -15,7 +16,7 @@ pub fn push_selections(
     text: &mut String,
     selections: &[Selection],
     depth: usize,
-) -> Result<(), AllocError>
+) -> Pushed
     ensures { OnOk result (string_bytes text.new
         ≡ string_bytes text.old ++ selections_text depth selections.now) }
 {
@@ -26,12 +27,7 @@ pub fn push_selections(
 }
 
 #[cycle(push_selections)]
-fn push_selection(
-    alloc: Global,
-    text: &mut String,
-    selection: &Selection,
-    depth: usize,
-) -> Result<(), AllocError>
+fn push_selection(alloc: Global, text: &mut String, selection: &Selection, depth: usize) -> Pushed
     ensures { OnOk result (string_bytes text.new
         ≡ string_bytes text.old ++ selection_text selection.now depth) }
 {
@@ -43,12 +39,7 @@ fn push_selection(
 }
 
 #[cycle(push_selections)]
-fn push_field(
-    alloc: Global,
-    text: &mut String,
-    field: &Field,
-    depth: usize,
-) -> Result<(), AllocError>
+fn push_field(alloc: Global, text: &mut String, field: &Field, depth: usize) -> Pushed
     ensures { OnOk result (string_bytes text.new ≡ string_bytes text.old ++ field_text field.now depth) }
 {
     push_head(alloc, text, depth, "field ")?;
@@ -57,12 +48,7 @@ fn push_field(
     push_selections(alloc, text, field.selection_set.as_slice(), below(depth)?)
 }
 
-fn push_spread(
-    alloc: Global,
-    text: &mut String,
-    spread: &FragmentSpread,
-    depth: usize,
-) -> Result<(), AllocError>
+fn push_spread(alloc: Global, text: &mut String, spread: &FragmentSpread, depth: usize) -> Pushed
     ensures { OnOk result (string_bytes text.new ≡ string_bytes text.old ++ spread_text spread.now depth) }
 {
     push_head(alloc, text, depth, "spread ")?;
@@ -71,12 +57,7 @@ fn push_spread(
 }
 
 #[cycle(push_selections)]
-fn push_inline(
-    alloc: Global,
-    text: &mut String,
-    fragment: &InlineFragment,
-    depth: usize,
-) -> Result<(), AllocError>
+fn push_inline(alloc: Global, text: &mut String, fragment: &InlineFragment, depth: usize) -> Pushed
     ensures { OnOk result (string_bytes text.new ≡ string_bytes text.old ++ inline_text fragment.now depth) }
 {
     push_head(alloc, text, depth, "inline")?;
@@ -90,7 +71,7 @@ fn push_inline(
 }
 
 /// The word of a selection, its depth and what it is.
-fn push_head(alloc: Global, text: &mut String, depth: usize, kind: &str) -> Result<(), AllocError>
+fn push_head(alloc: Global, text: &mut String, depth: usize, kind: &str) -> Pushed
     ensures { OnOk result (string_bytes text.new ≡ string_bytes text.old ++ head_text depth kind.now) }
 {
     text.push_str("sel ")?;
@@ -100,7 +81,7 @@ fn push_head(alloc: Global, text: &mut String, depth: usize, kind: &str) -> Resu
 }
 
 /// The last word of a line, if there is one, and the end of the line.
-fn push_last(text: &mut String, word: &Option<Name>) -> Result<(), AllocError>
+fn push_last(text: &mut String, word: &Option<Name>) -> Pushed
     ensures { OnOk result (string_bytes text.new ≡ string_bytes text.old ++ last_text word.now) }
 {
     if let Some(word) = word {

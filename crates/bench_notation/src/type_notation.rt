@@ -6,12 +6,12 @@ ghost use Rattle.bench_notation.specs.Refusals.{IsBody, IsNoType, WhenRefused};
 ghost use Rattle.bench_notation.specs.Text.{type_text, opened_brackets};
 
 use crate::names::Names;
+use crate::pushing::Pushed;
 use crate::refusal::{LineError, Reason};
 use crate::words::{after, before};
 use graphql_ast::type_reference::Type;
 use graphql_nodes::collections::boxed::Boxed;
 use graphql_nodes::source::SourceSpan;
-use std::alloc::AllocError;
 
 /// How many brackets a type may open.
 pub const MOST_BRACKETS: u8 = 200;
@@ -64,7 +64,7 @@ fn body_of<'a>(word: &'a str) -> (&'a str, bool)
 }
 
 /// Adds a type to a text. The error is out of memory, after which nothing is said of the text: drop it.
-pub fn push_type(text: &mut String, ty: &Type) -> Result<(), AllocError>
+pub fn push_type(text: &mut String, ty: &Type) -> Pushed
     ensures { OnOk result (string_bytes text.new ≡ string_bytes text.old ++ type_text ty.now) }
 {
     match ty {

@@ -1,3 +1,4 @@
 pub mod Nesting
 pub mod Printed
 pub mod ReadAgain
+pub mod Trees

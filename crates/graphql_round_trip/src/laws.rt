@@ -1,29 +1,20 @@
 //! Laws of what is printed: it is read as an equal tree, and printed as it was.
 ghost use Rattle.std.specs.Prelude.{◌≡◌, ◌≤◌, ℕ, suc, Bool, List, length, map};
-ghost use Rattle.graphql_nodes.specs.Comparing.{bare_node};
-ghost use Rattle.graphql_nodes.specs.NodeView.{NodeView};
-ghost use Rattle.graphql_nodes.specs.declared.source.FileId.{FileId};
-ghost use Rattle.graphql_ast.specs.Bare.{bare_type, bare_value};
-ghost use Rattle.graphql_ast.specs.BareDocuments.{bare_definition};
-ghost use Rattle.graphql_ast.specs.BareSelections.{bare_selection};
-ghost use Rattle.graphql_ast.specs.declared.definition.Definition.{Definition};
-ghost use Rattle.graphql_ast.specs.declared.selection.Selection.{Selection};
-ghost use Rattle.graphql_ast.specs.declared.type_reference.Type.{«Type» as TypeReference};
-ghost use Rattle.graphql_ast.specs.declared.value.Value.{Value};
 ghost use Rattle.graphql_grammar.specs.WordsOfText.{words_of};
-ghost use Rattle.graphql_productions.specs.DefinitionTreeParts.{document_parts};
 ghost use Rattle.graphql_productions.specs.Documents.{selections, spells_document};
-ghost use Rattle.graphql_productions.specs.SelectionParts.{selection_parts};
-ghost use Rattle.graphql_productions.specs.TreeParts.{node_parts, type_parts, value_parts, wanted_parts};
 ghost use Rattle.graphql_productions.specs.Types.{type};
 ghost use Rattle.graphql_productions.specs.Values.{value_node};
-ghost use Rattle.graphql_productions.specs.WellFormed.{IsWellFormed};
 ghost use Rattle.graphql_printing.specs.Documents.{definitions_text};
 ghost use Rattle.graphql_printing.specs.Selections.{selections_text};
 ghost use Rattle.graphql_printing.specs.Texts.{type_text, value_text};
 ghost use Rattle.graphql_round_trip.specs.Nesting.{document_nesting, selections_nesting, type_nesting};
 ghost use Rattle.graphql_round_trip.specs.Nesting.{value_nesting};
 ghost use Rattle.graphql_round_trip.specs.ReadAgain.{SpellEqual};
+ghost use Rattle.graphql_round_trip.specs.Trees.{Definition, FileId, IsWellFormed, NodeView, Selection};
+ghost use Rattle.graphql_round_trip.specs.Trees.{TypeReference, Value, bare_definition, bare_node};
+ghost use Rattle.graphql_round_trip.specs.Trees.{bare_selection, bare_type, bare_value, document_parts};
+ghost use Rattle.graphql_round_trip.specs.Trees.{node_parts, selection_parts, type_parts, value_parts};
+ghost use Rattle.graphql_round_trip.specs.Trees.{wanted_parts};
 
 /// The text of a well-formed tree is read as an equal tree: a document, selections, a type, a value.
 ///

@@ -33,6 +33,15 @@ macro_rules! optional_list {
     };
 }
 
+/// The node of what is read, at the location of its words.
+macro_rules! node {
+    ($target:expr, $words:expr; $read:expr) => {{
+        let start = $words.start();
+        let read = $read;
+        $target.node(read, start, $words.last)?
+    }};
+}
+
 mod bodies;
 mod definitions;
 mod descriptions;

@@ -1,19 +1,20 @@
 //! Reading definitions and extensions of the type system, behind their descriptions and behind `extend`:
 //! GraphQL specification of October 2021, sections 3.3 to 3.13.
 ghost use Rattle.std.specs.Prelude.{◌≡◌, true, IfOk};
-ghost use Rattle.graphql_grammar.specs.Pieces.{Gives, GivesSeen, mapped, seq};
+ghost use Rattle.graphql_grammar.specs.Pieces.{mapped, seq};
 ghost use Rattle.graphql_productions.specs.Directives.{directives};
 ghost use Rattle.graphql_grammar.specs.Standing.{standing};
 ghost use Rattle.graphql_productions.specs.TypeSystem.{described, directive_body, extended, extension_body};
 ghost use Rattle.graphql_productions.specs.TypeSystem.{no_described, optional_roots, schema_body};
 ghost use Rattle.graphql_productions.specs.TypeSystem.{schema_extension_body, schema_parts, type_body};
 ghost use Rattle.graphql_text.specs.Seen.{seen_body, seen_declared, seen_extension};
+ghost use Rattle.graphql_text.specs.Reads.{Reads, ReadsSeen};
 
 use crate::reading::directives::directives;
 use crate::reading::kinds::{directed, has_part, keyword, parts};
 use crate::reading::parts::{input_values, roots};
 use crate::reading::separated::{optional_sign, separated};
-use crate::reading::target::{Target, sign};
+use crate::reading::target::{Reading, Target, sign};
 use graphql_ast::declaration::{SchemaDeclaration, TypeDeclaration};
 use graphql_ast::definition::Definition;
 use graphql_ast::parts::Parts;
@@ -30,6 +31,22 @@ use graphql_nodes::operation_type::OperationType;
 use graphql_nodes::source::SourceSpan;
 use graphql_nodes::type_kind::TypeKind;
 use std::alloc::{AllocError, Global};
+
+/// What is read of the schema or of a type, by the word that says which, and else what these arms say.
+macro_rules! by_first_word {
+    ($target:expr, $words:expr, $schema:ident, $of_type:ident, { $($other:tt)* }) => {
+        match $words.next_kind() {
+            Some(Kind::Schema) => $schema($target, $words),
+            Some(Kind::Scalar) => $of_type($target, $words, TypeKind::Scalar),
+            Some(Kind::Type) => $of_type($target, $words, TypeKind::Object),
+            Some(Kind::Interface) => $of_type($target, $words, TypeKind::Interface),
+            Some(Kind::Union) => $of_type($target, $words, TypeKind::Union),
+            Some(Kind::Enum) => $of_type($target, $words, TypeKind::Enum),
+            Some(Kind::Input) => $of_type($target, $words, TypeKind::InputObject),
+            $($other)*
+        }
+    };
+}
 
 /// What a definition or an extension declares, but its description and its location: the schema or a type.
 #[derive(Drop)]
@@ -112,9 +129,8 @@ impl Body {
 }
 
 #[tactic(auto, unfolding(graphql_productions::specs::TypeSystem::type_body))]
-fn type_body(target: Target, words: &mut Words<'_>, kind: TypeKind) -> Result<Body, ReadError>
-    ensures { GivesSeen seen_body result (standing words.new)
-        ((type_body target.file kind target.depth).read (standing words.old)) }
+fn type_body(target: Target, words: &mut Words<'_>, kind: TypeKind) -> Reading<Body>
+    ensures { ReadsSeen seen_body (type_body target.file kind target.depth) words.old words.new result }
 {
     sign(words, keyword(kind))?;
     let name = target.name(words)?;
@@ -123,9 +139,8 @@ fn type_body(target: Target, words: &mut Words<'_>, kind: TypeKind) -> Result<Bo
 }
 
 #[tactic(auto, unfolding(graphql_productions::specs::TypeSystem::schema_body))]
-fn schema_body(target: Target, words: &mut Words<'_>) -> Result<Body, ReadError>
-    ensures { GivesSeen seen_body result (standing words.new)
-        ((schema_body target.file target.depth).read (standing words.old)) }
+fn schema_body(target: Target, words: &mut Words<'_>) -> Reading<Body>
+    ensures { ReadsSeen seen_body (schema_body target.file target.depth) words.old words.new result }
 {
     sign(words, Kind::Schema)?;
     let directives = directives(target.constant(), words)?;
@@ -135,9 +150,8 @@ fn schema_body(target: Target, words: &mut Words<'_>) -> Result<Body, ReadError>
 }
 
 #[tactic(auto, unfolding(graphql_productions::specs::TypeSystem::directive_body))]
-fn directive_body(target: Target, words: &mut Words<'_>) -> Result<Body, ReadError>
-    ensures { GivesSeen seen_body result (standing words.new)
-        ((directive_body target.file target.depth).read (standing words.old)) }
+fn directive_body(target: Target, words: &mut Words<'_>) -> Reading<Body>
+    ensures { ReadsSeen seen_body (directive_body target.file target.depth) words.old words.new result }
 {
     sign(words, Kind::Directive)?;
     sign(words, Kind::At)?;
@@ -167,31 +181,19 @@ fn no_described(words: &Words<'_>) -> FaultKind
 }
 
 /// Reads a definition of the type system behind its description.
-pub(crate) fn described(target: Target, words: &mut Words<'_>) -> Result<Body, ReadError>
-    ensures { GivesSeen seen_body result (standing words.new)
-        ((described target.file target.depth).read (standing words.old)) }
+pub(crate) fn described(target: Target, words: &mut Words<'_>) -> Reading<Body>
+    ensures { ReadsSeen seen_body (described target.file target.depth) words.old words.new result }
 {
-    match words.next_kind() {
-        Some(Kind::Schema) => schema_body(target, words),
-        Some(Kind::Scalar) => type_body(target, words, TypeKind::Scalar),
-        Some(Kind::Type) => type_body(target, words, TypeKind::Object),
-        Some(Kind::Interface) => type_body(target, words, TypeKind::Interface),
-        Some(Kind::Union) => type_body(target, words, TypeKind::Union),
-        Some(Kind::Enum) => type_body(target, words, TypeKind::Enum),
-        Some(Kind::Input) => type_body(target, words, TypeKind::InputObject),
+    by_first_word!(target, words, schema_body, type_body, {
         Some(Kind::Directive) => directive_body(target, words),
         _ => Err(ReadError::Fault(no_described(words))),
-    }
+    })
 }
 
 #[tactic(auto, unfolding(graphql_productions::specs::TypeSystem::extension_body))]
-fn extension_body(
-    target: Target,
-    words: &mut Words<'_>,
-    kind: TypeKind,
-) -> Result<Declared, ReadError>
-    ensures { GivesSeen seen_extension result (standing words.new)
-        ((extension_body target.file kind target.depth).read (standing words.old)) }
+fn extension_body(target: Target, words: &mut Words<'_>, kind: TypeKind) -> Reading<Declared>
+    ensures { ReadsSeen seen_extension (extension_body target.file kind target.depth)
+        words.old words.new result }
 {
     sign(words, keyword(kind))?;
     let name = target.name(words)?;
@@ -205,18 +207,16 @@ fn extension_body(
 fn optional_roots(
     target: Target,
     words: &mut Words<'_>,
-) -> Result<Items<Node<(OperationType, NamedType)>>, ReadError>
-    ensures { Gives result (standing words.new)
-        ((optional_roots target.file target.depth).read (standing words.old)) }
+) -> Reading<Items<Node<(OperationType, NamedType)>>>
+    ensures { Reads (optional_roots target.file target.depth) words.old words.new result }
 {
     optional_list!(target, words.next_is(Kind::LeftBrace), roots(target, words))
 }
 
-fn schema_parts(target: Target, words: &mut Words<'_>) -> Result<Parts, ReadError>
-    ensures { Gives result (standing words.new)
-        ((mapped schema_parts
-        (seq (directives target.file true target.depth) (optional_roots target.file target.depth))).read
-        (standing words.old)) }
+fn schema_parts(target: Target, words: &mut Words<'_>) -> Reading<Parts>
+    ensures { Reads (mapped schema_parts
+        (seq (directives target.file true target.depth) (optional_roots target.file target.depth)))
+        words.old words.new result }
 {
     let directives = directives(target.constant(), words)?;
     let mut parts = directed(target.alloc, directives);
@@ -225,9 +225,9 @@ fn schema_parts(target: Target, words: &mut Words<'_>) -> Result<Parts, ReadErro
 }
 
 #[tactic(auto, unfolding(graphql_productions::specs::TypeSystem::schema_extension_body))]
-fn schema_extension_body(target: Target, words: &mut Words<'_>) -> Result<Declared, ReadError>
-    ensures { GivesSeen seen_extension result (standing words.new)
-        ((schema_extension_body target.file target.depth).read (standing words.old)) }
+fn schema_extension_body(target: Target, words: &mut Words<'_>) -> Reading<Declared>
+    ensures { ReadsSeen seen_extension (schema_extension_body target.file target.depth)
+        words.old words.new result }
 {
     sign(words, Kind::Schema)?;
     let parts = schema_parts(target, words)?;
@@ -238,18 +238,10 @@ fn schema_extension_body(target: Target, words: &mut Words<'_>) -> Result<Declar
 }
 
 /// Reads an extension behind `extend`.
-pub(crate) fn extended(target: Target, words: &mut Words<'_>) -> Result<Declared, ReadError>
-    ensures { GivesSeen seen_extension result (standing words.new)
-        ((extended target.file target.depth).read (standing words.old)) }
+pub(crate) fn extended(target: Target, words: &mut Words<'_>) -> Reading<Declared>
+    ensures { ReadsSeen seen_extension (extended target.file target.depth) words.old words.new result }
 {
-    match words.next_kind() {
-        Some(Kind::Schema) => schema_extension_body(target, words),
-        Some(Kind::Scalar) => extension_body(target, words, TypeKind::Scalar),
-        Some(Kind::Type) => extension_body(target, words, TypeKind::Object),
-        Some(Kind::Interface) => extension_body(target, words, TypeKind::Interface),
-        Some(Kind::Union) => extension_body(target, words, TypeKind::Union),
-        Some(Kind::Enum) => extension_body(target, words, TypeKind::Enum),
-        Some(Kind::Input) => extension_body(target, words, TypeKind::InputObject),
+    by_first_word!(target, words, schema_extension_body, extension_body, {
         _ => Err(ReadError::Fault(FaultKind::Expected(Item::Extended))),
-    }
+    })
 }

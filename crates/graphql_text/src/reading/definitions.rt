@@ -1,54 +1,21 @@
 //! Reading definitions: GraphQL specification of October 2021, section 2.2.
 ghost use Rattle.std.specs.Prelude.{◌≡◌, false, true};
-ghost use Rattle.graphql_grammar.specs.Pieces.{Gives};
-ghost use Rattle.graphql_grammar.specs.Standing.{standing};
-ghost use Rattle.graphql_productions.specs.Documents.{definition, fragment, operation_definition};
-ghost use Rattle.graphql_productions.specs.Documents.{shorthand_definition};
+ghost use Rattle.graphql_productions.specs.Documents.{definition};
 ghost use Rattle.graphql_productions.specs.TypeSystem.{extension, system_definition};
+ghost use Rattle.graphql_text.specs.Reads.{Reads};
 
 use crate::reading::bodies::{described, extended};
 use crate::reading::descriptions::optional_description;
 use crate::reading::operations::{fragment_definition, operation, shorthand};
-use crate::reading::target::{Target, sign};
+use crate::reading::target::{Reading, Target, sign};
 use graphql_ast::definition::Definition;
 use graphql_grammar::fault::{FaultKind, Item, ReadError};
 use graphql_grammar::kind::Kind;
 use graphql_grammar::words::Words;
 
-#[tactic(auto, unfolding(graphql_productions::specs::Documents::operation_definition))]
-fn operation_definition(target: Target, words: &mut Words<'_>) -> Result<Definition, ReadError>
-    ensures { Gives result (standing words.new)
-        ((operation_definition target.file target.depth).read (standing words.old)) }
-{
-    let start = words.start();
-    let operation = operation(target, words)?;
-    Ok(Definition::OperationDefinition(target.node(operation, start, words.last)?))
-}
-
-#[tactic(auto, unfolding(graphql_productions::specs::Documents::shorthand_definition))]
-fn shorthand_definition(target: Target, words: &mut Words<'_>) -> Result<Definition, ReadError>
-    ensures { Gives result (standing words.new)
-        ((shorthand_definition target.file target.depth).read (standing words.old)) }
-{
-    let start = words.start();
-    let operation = shorthand(target, words)?;
-    Ok(Definition::OperationDefinition(target.node(operation, start, words.last)?))
-}
-
-#[tactic(auto, unfolding(graphql_productions::specs::Documents::fragment))]
-fn fragment(target: Target, words: &mut Words<'_>) -> Result<Definition, ReadError>
-    ensures { Gives result (standing words.new)
-        ((fragment target.file target.depth).read (standing words.old)) }
-{
-    let start = words.start();
-    let fragment = fragment_definition(target, words)?;
-    Ok(Definition::FragmentDefinition(target.node(fragment, start, words.last)?))
-}
-
 #[tactic(auto, unfolding(graphql_productions::specs::TypeSystem::system_definition))]
-fn system_definition(target: Target, words: &mut Words<'_>) -> Result<Definition, ReadError>
-    ensures { Gives result (standing words.new)
-        ((system_definition target.file target.depth).read (standing words.old)) }
+fn system_definition(target: Target, words: &mut Words<'_>) -> Reading<Definition>
+    ensures { Reads (system_definition target.file target.depth) words.old words.new result }
 {
     let start = words.start();
     let description = optional_description(target, words)?;
@@ -61,9 +28,8 @@ fn system_definition(target: Target, words: &mut Words<'_>) -> Result<Definition
 }
 
 #[tactic(auto, unfolding(graphql_productions::specs::TypeSystem::extension))]
-fn extension(target: Target, words: &mut Words<'_>) -> Result<Definition, ReadError>
-    ensures { Gives result (standing words.new)
-        ((extension target.file target.depth).read (standing words.old)) }
+fn extension(target: Target, words: &mut Words<'_>) -> Reading<Definition>
+    ensures { Reads (extension target.file target.depth) words.old words.new result }
 {
     let start = words.start();
     sign(words, Kind::Extend)?;
@@ -77,16 +43,23 @@ fn extension(target: Target, words: &mut Words<'_>) -> Result<Definition, ReadEr
 }
 
 /// Reads a definition, by its first word.
-pub(crate) fn definition(target: Target, words: &mut Words<'_>) -> Result<Definition, ReadError>
-    ensures { Gives result (standing words.new)
-        ((definition target.file target.depth).read (standing words.old)) }
+#[tactic(auto, unfolding(graphql_productions::specs::Documents::fragment, graphql_productions::specs::Documents::operation_definition, graphql_productions::specs::Documents::shorthand_definition))]
+pub(crate) fn definition(target: Target, words: &mut Words<'_>) -> Reading<Definition>
+    ensures { Reads (definition target.file target.depth) words.old words.new result }
 {
     match words.next_kind() {
-        Some(Kind::LeftBrace) => shorthand_definition(target, words),
-        Some(Kind::Fragment) => fragment(target, words),
+        Some(Kind::LeftBrace) => {
+            let operation = node!(target, words; shorthand(target, words)?);
+            Ok(Definition::OperationDefinition(operation))
+        }
+        Some(Kind::Fragment) => {
+            let fragment = node!(target, words; fragment_definition(target, words)?);
+            Ok(Definition::FragmentDefinition(fragment))
+        }
         Some(Kind::Extend) => extension(target, words),
         Some(Kind::Query | Kind::Mutation | Kind::Subscription) => {
-            operation_definition(target, words)
+            let operation = node!(target, words; operation(target, words)?);
+            Ok(Definition::OperationDefinition(operation))
         }
         Some(
             Kind::String

@@ -1,12 +1,11 @@
 //! Reading descriptions: GraphQL specification of October 2021, section 3.2.
 ghost use Rattle.std.specs.Prelude.{◌≡◌, IfOk};
-ghost use Rattle.graphql_grammar.specs.Pieces.{Gives, optional};
-ghost use Rattle.graphql_grammar.specs.Standing.{standing};
-ghost use Rattle.graphql_grammar.specs.Words.{begins};
+ghost use Rattle.graphql_grammar.specs.Pieces.{optional};
 ghost use Rattle.graphql_productions.specs.Nodes.{span_at};
 ghost use Rattle.graphql_productions.specs.TypeSystem.{description, is_description};
+ghost use Rattle.graphql_text.specs.Reads.{Reads, next_begins};
 
-use crate::reading::target::Target;
+use crate::reading::target::{Reading, Target};
 use graphql_grammar::fault::{FaultKind, Item, ReadError};
 use graphql_grammar::kind::Kind;
 use graphql_grammar::word::Word;
@@ -24,7 +23,7 @@ pub(crate) fn is_description(kind: Kind) -> bool
 
 /// Whether a description comes next.
 fn next_is_description(words: &Words<'_>) -> bool
-    ensures { result ≡ begins is_description (standing words.now).left }
+    ensures { result ≡ next_begins is_description words.now }
 {
     match words.next_kind() {
         Some(kind) => is_description(kind),
@@ -43,8 +42,8 @@ fn placed(target: Target, text: &str, word: Word<'_>) -> Result<NodeStr, AllocEr
 
 /// Reads a description.
 #[tactic(auto, unfolding(graphql_productions::specs::TypeSystem::description_body))]
-fn description(target: Target, words: &mut Words<'_>) -> Result<NodeStr, ReadError>
-    ensures { Gives result (standing words.new) ((description target.file).read (standing words.old)) }
+fn description(target: Target, words: &mut Words<'_>) -> Reading<NodeStr>
+    ensures { Reads (description target.file) words.old words.new result }
 {
     let fault = FaultKind::Expected(Item::Definition);
     match words.next_kind() {
@@ -66,9 +65,8 @@ fn description(target: Target, words: &mut Words<'_>) -> Result<NodeStr, ReadErr
 pub(crate) fn optional_description(
     target: Target,
     words: &mut Words<'_>,
-) -> Result<Option<NodeStr>, ReadError>
-    ensures { Gives result (standing words.new)
-        ((optional (description target.file)).read (standing words.old)) }
+) -> Reading<Option<NodeStr>>
+    ensures { Reads (optional (description target.file)) words.old words.new result }
 {
     if next_is_description(words) {
         Ok(Some(description(target, words)?))

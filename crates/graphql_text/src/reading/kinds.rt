@@ -1,20 +1,18 @@
 //! Reading what stands behind the name of a type, by its kind: GraphQL specification of October 2021,
 //! sections 3.5 to 3.10.
 ghost use Rattle.std.specs.Prelude.{◌≡◌, true};
-ghost use Rattle.graphql_grammar.specs.Pieces.{Gives};
-ghost use Rattle.graphql_grammar.specs.Standing.{standing};
 ghost use Rattle.graphql_productions.specs.Nodes.{name};
 ghost use Rattle.graphql_productions.specs.TypeSystem.{fielded, has_part, keyword, names_behind, parts};
 ghost use Rattle.graphql_productions.specs.TypeSystem.{scalar_parts};
 ghost use Rattle.graphql_productions.proofs.NodeLaws.{name_tame};
+ghost use Rattle.graphql_text.specs.Reads.{Reads};
 
 use crate::reading::directives::directives;
 use crate::reading::parts::{enum_values, fields, input_values};
 use crate::reading::separated::{Single, separated};
-use crate::reading::target::{Target, sign};
+use crate::reading::target::{Reading, Target, sign};
 use graphql_ast::directive::DirectiveList;
 use graphql_ast::parts::Parts;
-use graphql_grammar::fault::ReadError;
 use graphql_grammar::kind::Kind;
 use graphql_grammar::words::Words;
 use graphql_nodes::collections::items::Items;
@@ -41,7 +39,7 @@ impl Single for Name {
 
     ghost law = { λ file. (name_tame file).law };
 
-    fn read(target: Target, words: &mut Words<'_>) -> Result<Name, ReadError> {
+    fn read(target: Target, words: &mut Words<'_>) -> Reading<Name> {
         target.name(words)
     }
 }
@@ -53,9 +51,8 @@ fn names_behind(
     words: &mut Words<'_>,
     opening: Kind,
     separator: Kind,
-) -> Result<Items<Name>, ReadError>
-    ensures { Gives result (standing words.new)
-        ((names_behind target.file opening separator).read (standing words.old)) }
+) -> Reading<Items<Name>>
+    ensures { Reads (names_behind target.file opening separator) words.old words.new result }
 {
     optional_list!(
         target,
@@ -89,9 +86,8 @@ pub(crate) fn directed(alloc: Global, directives: DirectiveList) -> Parts
 }
 
 #[tactic(auto, unfolding(graphql_productions::specs::TypeSystem::fielded))]
-fn fielded(target: Target, words: &mut Words<'_>) -> Result<Parts, ReadError>
-    ensures { Gives result (standing words.new)
-        ((fielded target.file target.depth).read (standing words.old)) }
+fn fielded(target: Target, words: &mut Words<'_>) -> Reading<Parts>
+    ensures { Reads (fielded target.file target.depth) words.old words.new result }
 {
     let mut parts = Parts::new(target.alloc);
     parts.names = names_behind(target, words, Kind::Implements, Kind::Ampersand)?;
@@ -102,13 +98,8 @@ fn fielded(target: Target, words: &mut Words<'_>) -> Result<Parts, ReadError>
 
 /// Reads what stands behind the name of a type of this kind.
 #[tactic(auto, unfolding(graphql_productions::specs::TypeSystem::parts))]
-pub(crate) fn parts(
-    target: Target,
-    words: &mut Words<'_>,
-    kind: TypeKind,
-) -> Result<Parts, ReadError>
-    ensures { Gives result (standing words.new)
-        ((parts target.file kind target.depth).read (standing words.old)) }
+pub(crate) fn parts(target: Target, words: &mut Words<'_>, kind: TypeKind) -> Reading<Parts>
+    ensures { Reads (parts target.file kind target.depth) words.old words.new result }
 {
     match kind {
         TypeKind::Scalar => {

@@ -2,13 +2,13 @@
 ghost use Rattle.std.specs.Prelude.{◌≡◌, ℕ, Bool};
 ghost use Rattle.graphql_nodes.specs.declared.source.FileId.{FileId as File};
 ghost use Rattle.graphql_grammar.specs.Kinds.{Kinds};
-ghost use Rattle.graphql_grammar.specs.Pieces.{Adds, Gives, Piece, Wrong, item, many, some};
+ghost use Rattle.graphql_grammar.specs.Pieces.{Adds, Piece, Wrong, item, many, some};
 ghost use Rattle.graphql_grammar.specs.Standing.{standing};
-ghost use Rattle.graphql_grammar.specs.Words.{begins};
 ghost use Rattle.graphql_grammar.proofs.PieceLaws.{Lawful};
 ghost use Rattle.graphql_productions.specs.Nodes.{between, enclosed, optional_list};
+ghost use Rattle.graphql_text.specs.Reads.{Reads, next_begins};
 
-use crate::reading::target::{Target, sign};
+use crate::reading::target::{Reading, Target, sign};
 use graphql_grammar::fault::{FaultKind, ReadError};
 use graphql_grammar::kind::Kind;
 use graphql_grammar::words::Words;
@@ -34,9 +34,8 @@ pub(crate) trait Read: Drop {
         ensures { result ≡ wrong (standing words.now).left };
 
     /// Reads an item.
-    fn read(target: Target, words: &mut Words<'_>) -> Result<Self, ReadError>
-        ensures { Gives result (standing words.new)
-            ((piece target.file target.constant target.depth).read (standing words.old)) };
+    fn read(target: Target, words: &mut Words<'_>) -> Reading<Self>
+        ensures { Reads (piece target.file target.constant target.depth) words.old words.new result };
 
     /// What is read is spelled so, and the other way round.
     ghost law: { (file : File) (constant : Bool) (depth : ℕ)
@@ -45,7 +44,7 @@ pub(crate) trait Read: Drop {
 
 /// Whether an item comes next.
 fn comes_next<R: Read>(words: &Words<'_>) -> bool
-    ensures { result ≡ begins R.first (standing words.now).left }
+    ensures { result ≡ next_begins R.first words.now }
 {
     match words.next_kind() {
         Some(kind) => R::begins(kind),
@@ -54,10 +53,9 @@ fn comes_next<R: Read>(words: &Words<'_>) -> bool
 }
 
 /// Reads an item, which has to be there.
-fn read_item<R: Read>(target: Target, words: &mut Words<'_>) -> Result<R, ReadError>
-    ensures { Gives result (standing words.new)
-        ((item R.first R.wrong (R.piece target.file target.constant target.depth)).read
-        (standing words.old)) }
+fn read_item<R: Read>(target: Target, words: &mut Words<'_>) -> Reading<R>
+    ensures { Reads (item R.first R.wrong (R.piece target.file target.constant target.depth))
+        words.old words.new result }
 {
     if !comes_next::<R>(words) {
         return Err(ReadError::Fault(R::fault(words)));
@@ -70,7 +68,7 @@ pub(crate) fn push_items<R: Read>(
     target: Target,
     words: &mut Words<'_>,
     items: &mut Items<R>,
-) -> Result<(), ReadError>
+) -> Reading<()>
     ensures { Adds result items.old items.new (standing words.new)
         ((many (item R.first R.wrong (R.piece target.file target.constant target.depth))).read
         (standing words.old)) }
@@ -83,13 +81,9 @@ pub(crate) fn push_items<R: Read>(
 }
 
 /// Reads one item or more.
-pub(crate) fn some_items<R: Read>(
-    target: Target,
-    words: &mut Words<'_>,
-) -> Result<Items<R>, ReadError>
-    ensures { Gives result (standing words.new)
-        ((some (item R.first R.wrong (R.piece target.file target.constant target.depth))).read
-        (standing words.old)) }
+pub(crate) fn some_items<R: Read>(target: Target, words: &mut Words<'_>) -> Reading<Items<R>>
+    ensures { Reads (some (item R.first R.wrong (R.piece target.file target.constant target.depth)))
+        words.old words.new result }
 {
     one_or_more!(
         target,
@@ -105,11 +99,10 @@ fn between_items<R: Read>(
     words: &mut Words<'_>,
     opening: Kind,
     closing: Kind,
-) -> Result<Items<R>, ReadError>
-    ensures { Gives result (standing words.new)
-        ((between opening closing R.wrong
-        (some (item R.first R.wrong (R.piece inside.file inside.constant inside.depth)))).read
-        (standing words.old)) }
+) -> Reading<Items<R>>
+    ensures { Reads (between opening closing R.wrong
+        (some (item R.first R.wrong (R.piece inside.file inside.constant inside.depth))))
+        words.old words.new result }
 {
     sign(words, opening)?;
     let items = some_items(inside, words)?;
@@ -124,19 +117,12 @@ pub(crate) fn enclosed_items<R: Read>(
     words: &mut Words<'_>,
     opening: Kind,
     closing: Kind,
-) -> Result<Items<R>, ReadError>
-    ensures { Gives result (standing words.new)
-        ((enclosed opening closing R.wrong target.depth (λ inside.
-        some (item R.first R.wrong (R.piece target.file target.constant inside)))).read
-        (standing words.old)) }
+) -> Reading<Items<R>>
+    ensures { Reads (enclosed opening closing R.wrong target.depth
+        (λ inside. some (item R.first R.wrong (R.piece target.file target.constant inside))))
+        words.old words.new result }
 {
-    if target.depth == 0 {
-        return Err(ReadError::Fault(FaultKind::TooDeep));
-    }
-    let inside = Target {
-        depth: target.depth - 1,
-        ..target
-    };
+    let inside = target.inside()?;
     between_items(inside, words, opening, closing)
 }
 
@@ -146,10 +132,10 @@ pub(crate) fn optional_items<R: Read>(
     words: &mut Words<'_>,
     opening: Kind,
     closing: Kind,
-) -> Result<Items<R>, ReadError>
-    ensures { Gives result (standing words.new)
-        ((optional_list opening closing R.wrong target.depth (λ inside.
-        item R.first R.wrong (R.piece target.file target.constant inside))).read (standing words.old)) }
+) -> Reading<Items<R>>
+    ensures { Reads (optional_list opening closing R.wrong target.depth
+        (λ inside. item R.first R.wrong (R.piece target.file target.constant inside)))
+        words.old words.new result }
 {
     optional_list!(
         target,

@@ -7,7 +7,7 @@ ghost use Rattle.graphql_text.specs.Seen.{next_location};
 ghost use Rattle.graphql_productions.proofs.DefinitionLaws.{location_tame};
 
 use crate::reading::separated::Single;
-use crate::reading::target::Target;
+use crate::reading::target::{Reading, Target};
 use graphql_grammar::fault::{FaultKind, Item, ReadError};
 use graphql_grammar::kind::Names;
 use graphql_grammar::words::Words;
@@ -47,7 +47,7 @@ impl Single for DirectiveLocation {
     ghost law = { λ _. location_tame.law };
 
     #[tactic(auto, unfolding(graphql_productions::specs::TypeSystem::location))]
-    fn read(_target: Target, words: &mut Words<'_>) -> Result<DirectiveLocation, ReadError> {
+    fn read(_target: Target, words: &mut Words<'_>) -> Reading<DirectiveLocation> {
         let fault = no_location(words);
         let Some(location) = next_location(words) else {
             return Err(ReadError::Fault(fault));

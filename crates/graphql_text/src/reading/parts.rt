@@ -1,7 +1,7 @@
 //! Reading what definitions and extensions of the type system hold: GraphQL specification of October 2021,
 //! sections 3.3 to 3.10.
 ghost use Rattle.std.specs.Prelude.{◌≡◌, true};
-ghost use Rattle.graphql_grammar.specs.Pieces.{Gives, optional, separated};
+ghost use Rattle.graphql_grammar.specs.Pieces.{optional, separated};
 ghost use Rattle.graphql_grammar.specs.Standing.{standing};
 ghost use Rattle.graphql_grammar.specs.Words.{begins};
 ghost use Rattle.graphql_productions.specs.Nodes.{name};
@@ -14,15 +14,16 @@ ghost use Rattle.graphql_productions.proofs.TypeSystemLaws.{enum_value_tame, fie
 ghost use Rattle.graphql_productions.proofs.TypeSystemLaws.{input_value_tame, root_tame};
 ghost use Rattle.graphql_grammar.specs.declared.fault.Item.TheVariants.{FieldDefinition as FieldItem};
 ghost use Rattle.graphql_grammar.specs.declared.fault.Item.TheVariants.{InputValue};
+ghost use Rattle.graphql_text.specs.Reads.{Reads};
 
 use crate::reading::descriptions::{is_description, optional_description};
 use crate::reading::directives::directives;
 use crate::reading::lists::{Read, enclosed_items, optional_items};
 use crate::reading::operations::{AfterName, operation_type, typed};
-use crate::reading::target::{Target, sign};
+use crate::reading::target::{Reading, Target, sign};
 use crate::reading::types::type_reference;
 use graphql_ast::type_system::{EnumValueDefinition, FieldDefinition, InputValueDefinition};
-use graphql_grammar::fault::{FaultKind, Item, ReadError};
+use graphql_grammar::fault::{FaultKind, Item};
 use graphql_grammar::kind::{Kind, Names};
 use graphql_grammar::words::Words;
 use graphql_nodes::collections::items::Items;
@@ -55,26 +56,19 @@ impl Read for Node<InputValueDefinition> {
     }
 
     #[tactic(auto, unfolding(graphql_productions::specs::TypeSystem::input_node))]
-    fn read(
-        target: Target,
-        words: &mut Words<'_>,
-    ) -> Result<Node<InputValueDefinition>, ReadError> {
-        let start = words.start();
-        let description = optional_description(target, words)?;
-        let name = target.name(words)?;
-        let AfterName {
-            ty,
-            default_value,
-            directives,
-        } = typed(target, words)?;
-        let definition = InputValueDefinition {
-            description,
-            name,
-            ty,
-            default_value,
-            directives,
-        };
-        Ok(target.node(definition, start, words.last)?)
+    fn read(target: Target, words: &mut Words<'_>) -> Reading<Node<InputValueDefinition>> {
+        Ok(node!(target, words; {
+            let description = optional_description(target, words)?;
+            let name = target.name(words)?;
+            let typed = typed(target, words)?;
+            InputValueDefinition {
+                description,
+                name,
+                ty: typed.ty,
+                default_value: typed.default_value,
+                directives: typed.directives,
+            }
+        }))
     }
 }
 
@@ -85,9 +79,8 @@ pub(crate) fn input_values(
     words: &mut Words<'_>,
     opening: Kind,
     closing: Kind,
-) -> Result<Items<Node<InputValueDefinition>>, ReadError>
-    ensures { Gives result (standing words.new)
-        ((input_values target.file opening closing target.depth).read (standing words.old)) }
+) -> Reading<Items<Node<InputValueDefinition>>>
+    ensures { Reads (input_values target.file opening closing target.depth) words.old words.new result }
 {
     optional_items(target, words, opening, closing)
 }
@@ -110,32 +103,28 @@ impl Read for Node<FieldDefinition> {
     }
 
     #[tactic(auto, unfolding(graphql_productions::specs::TypeSystem::field_node))]
-    fn read(target: Target, words: &mut Words<'_>) -> Result<Node<FieldDefinition>, ReadError> {
-        let start = words.start();
-        let description = optional_description(target, words)?;
-        let name = target.name(words)?;
-        let arguments = input_values(target, words, Kind::LeftParen, Kind::RightParen)?;
-        sign(words, Kind::Colon)?;
-        let ty = type_reference(target, words)?;
-        let directives = directives(target.constant(), words)?;
-        let definition = FieldDefinition {
-            description,
-            name,
-            arguments,
-            ty,
-            directives,
-        };
-        Ok(target.node(definition, start, words.last)?)
+    fn read(target: Target, words: &mut Words<'_>) -> Reading<Node<FieldDefinition>> {
+        Ok(node!(target, words; {
+            let description = optional_description(target, words)?;
+            let name = target.name(words)?;
+            let arguments = input_values(target, words, Kind::LeftParen, Kind::RightParen)?;
+            sign(words, Kind::Colon)?;
+            let ty = type_reference(target, words)?;
+            let directives = directives(target.constant(), words)?;
+            FieldDefinition {
+                description,
+                name,
+                arguments,
+                ty,
+                directives,
+            }
+        }))
     }
 }
 
 #[tactic(auto, unfolding(graphql_productions::specs::TypeSystem::fields))]
-pub(crate) fn fields(
-    target: Target,
-    words: &mut Words<'_>,
-) -> Result<Items<Node<FieldDefinition>>, ReadError>
-    ensures { Gives result (standing words.new)
-        ((fields target.file target.depth).read (standing words.old)) }
+pub(crate) fn fields(target: Target, words: &mut Words<'_>) -> Reading<Items<Node<FieldDefinition>>>
+    ensures { Reads (fields target.file target.depth) words.old words.new result }
 {
     optional_items(target, words, Kind::LeftBrace, Kind::RightBrace)
 }
@@ -152,8 +141,8 @@ fn no_enum_value(words: &Words<'_>) -> FaultKind
 
 /// Reads the name of an enum value that is defined.
 #[tactic(auto, unfolding(graphql_productions::specs::TypeSystem::enum_value_name))]
-fn enum_value_name(target: Target, words: &mut Words<'_>) -> Result<Name, ReadError>
-    ensures { Gives result (standing words.new) ((enum_value_name target.file).read (standing words.old)) }
+fn enum_value_name(target: Target, words: &mut Words<'_>) -> Reading<Name>
+    ensures { Reads (enum_value_name target.file) words.old words.new result }
 {
     let fault = no_enum_value(words);
     let word = words.expect_name(Names::EnumValue, fault)?;
@@ -178,17 +167,17 @@ impl Read for Node<EnumValueDefinition> {
     }
 
     #[tactic(auto, unfolding(graphql_productions::specs::TypeSystem::enum_value_node))]
-    fn read(target: Target, words: &mut Words<'_>) -> Result<Node<EnumValueDefinition>, ReadError> {
-        let start = words.start();
-        let description = optional_description(target, words)?;
-        let value = enum_value_name(target, words)?;
-        let directives = directives(target.constant(), words)?;
-        let definition = EnumValueDefinition {
-            description,
-            value,
-            directives,
-        };
-        Ok(target.node(definition, start, words.last)?)
+    fn read(target: Target, words: &mut Words<'_>) -> Reading<Node<EnumValueDefinition>> {
+        Ok(node!(target, words; {
+            let description = optional_description(target, words)?;
+            let value = enum_value_name(target, words)?;
+            let directives = directives(target.constant(), words)?;
+            EnumValueDefinition {
+                description,
+                value,
+                directives,
+            }
+        }))
     }
 }
 
@@ -196,9 +185,8 @@ impl Read for Node<EnumValueDefinition> {
 pub(crate) fn enum_values(
     target: Target,
     words: &mut Words<'_>,
-) -> Result<Items<Node<EnumValueDefinition>>, ReadError>
-    ensures { Gives result (standing words.new)
-        ((enum_values target.file target.depth).read (standing words.old)) }
+) -> Reading<Items<Node<EnumValueDefinition>>>
+    ensures { Reads (enum_values target.file target.depth) words.old words.new result }
 {
     optional_items(target, words, Kind::LeftBrace, Kind::RightBrace)
 }
@@ -221,15 +209,13 @@ impl Read for Node<(OperationType, NamedType)> {
     }
 
     #[tactic(auto, unfolding(graphql_productions::specs::TypeSystem::root_node))]
-    fn read(
-        target: Target,
-        words: &mut Words<'_>,
-    ) -> Result<Node<(OperationType, NamedType)>, ReadError> {
-        let start = words.start();
-        let operation_type = operation_type(words)?;
-        sign(words, Kind::Colon)?;
-        let name = target.name(words)?;
-        Ok(target.node((operation_type, name), start, words.last)?)
+    fn read(target: Target, words: &mut Words<'_>) -> Reading<Node<(OperationType, NamedType)>> {
+        Ok(node!(target, words; {
+            let operation_type = operation_type(words)?;
+            sign(words, Kind::Colon)?;
+            let name = target.name(words)?;
+            (operation_type, name)
+        }))
     }
 }
 
@@ -237,8 +223,8 @@ impl Read for Node<(OperationType, NamedType)> {
 pub(crate) fn roots(
     target: Target,
     words: &mut Words<'_>,
-) -> Result<Items<Node<(OperationType, NamedType)>>, ReadError>
-    ensures { Gives result (standing words.new) ((roots target.file target.depth).read (standing words.old)) }
+) -> Reading<Items<Node<(OperationType, NamedType)>>>
+    ensures { Reads (roots target.file target.depth) words.old words.new result }
 {
     enclosed_items(target, words, Kind::LeftBrace, Kind::RightBrace)
 }

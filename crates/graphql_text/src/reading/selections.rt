@@ -1,16 +1,16 @@
 //! Reading selections: GraphQL specification of October 2021, sections 2.4 to 2.8.
 ghost use Rattle.std.specs.Prelude.{◌≡◌, false};
-ghost use Rattle.graphql_grammar.specs.Pieces.{Adds, Gives, many, optional, some};
+ghost use Rattle.graphql_grammar.specs.Pieces.{Adds, many, optional, some};
 ghost use Rattle.graphql_grammar.specs.Standing.{standing};
-ghost use Rattle.graphql_grammar.specs.Words.{begins};
 ghost use Rattle.graphql_productions.specs.Nodes.{or_none};
 ghost use Rattle.graphql_productions.specs.Selections.{alias, field, field_of, field_selection, fragment};
 ghost use Rattle.graphql_productions.specs.Selections.{fragment_name, inline_body, is_selection, nested_set};
 ghost use Rattle.graphql_productions.specs.Selections.{selection, selection_set, selections_of, spread_body};
 ghost use Rattle.graphql_productions.specs.Selections.{type_condition};
+ghost use Rattle.graphql_text.specs.Reads.{Reads, next_begins};
 
 use crate::reading::directives::{arguments, directives};
-use crate::reading::target::{Target, sign};
+use crate::reading::target::{Reading, Target, sign};
 use graphql_ast::directive::{Argument, DirectiveList};
 use graphql_ast::selection::{Field, FragmentSpread, InlineFragment, Selection};
 use graphql_grammar::fault::{FaultKind, Item, ReadError};
@@ -24,17 +24,13 @@ use graphql_nodes::node::Node;
 const NO_SELECTION: FaultKind = FaultKind::Expected(Item::Selection);
 
 #[tactic(auto, unfolding(graphql_productions::specs::Selections::alias_body))]
-fn alias(target: Target, words: &mut Words<'_>) -> Result<Name, ReadError>
-    ensures { Gives result (standing words.new) ((alias target.file).read (standing words.old)) }
+fn optional_alias(target: Target, words: &mut Words<'_>) -> Reading<Option<Name>>
+    ensures { Reads (optional (alias target.file)) words.old words.new result }
 {
-    sign(words, Kind::Colon)?;
-    target.name(words)
-}
-
-fn optional_alias(target: Target, words: &mut Words<'_>) -> Result<Option<Name>, ReadError>
-    ensures { Gives result (standing words.new) ((optional (alias target.file)).read (standing words.old)) }
-{
-    optional!(words.next_is(Kind::Colon), alias(target, words))
+    optional!(
+        words.next_is(Kind::Colon),
+        target.name_behind(words, Kind::Colon)
+    )
 }
 
 /// The field of these parts: its own name comes second where it has an alias.
@@ -72,8 +68,8 @@ fn or_none(target: Target, selections: Option<Items<Selection>>) -> Items<Select
 
 /// Reads the name of a fragment.
 #[tactic(auto, unfolding(graphql_productions::specs::Selections::fragment_name))]
-pub(crate) fn fragment_name(target: Target, words: &mut Words<'_>) -> Result<Name, ReadError>
-    ensures { Gives result (standing words.new) ((fragment_name target.file).read (standing words.old)) }
+pub(crate) fn fragment_name(target: Target, words: &mut Words<'_>) -> Reading<Name>
+    ensures { Reads (fragment_name target.file) words.old words.new result }
 {
     let fault = if words.next_is(Kind::On) {
         FaultKind::ReservedName
@@ -85,37 +81,32 @@ pub(crate) fn fragment_name(target: Target, words: &mut Words<'_>) -> Result<Nam
 }
 
 #[tactic(auto, unfolding(graphql_productions::specs::Selections::spread_body))]
-fn spread_body(target: Target, words: &mut Words<'_>) -> Result<FragmentSpread, ReadError>
-    ensures { Gives result (standing words.new)
-        ((spread_body target.file target.depth).read (standing words.old)) }
+fn spread_body(target: Target, words: &mut Words<'_>) -> Reading<FragmentSpread>
+    ensures { Reads (spread_body target.file target.depth) words.old words.new result }
 {
-    let fragment_name = fragment_name(target, words)?;
-    let directives = directives(target.with_variables(), words)?;
     Ok(FragmentSpread {
-        fragment_name,
-        directives,
+        fragment_name: fragment_name(target, words)?,
+        directives: directives(target.with_variables(), words)?,
     })
 }
 
 /// Reads a type condition.
 #[tactic(auto, unfolding(graphql_productions::specs::Selections::condition_body))]
-pub(crate) fn type_condition(target: Target, words: &mut Words<'_>) -> Result<Name, ReadError>
-    ensures { Gives result (standing words.new) ((type_condition target.file).read (standing words.old)) }
+pub(crate) fn type_condition(target: Target, words: &mut Words<'_>) -> Reading<Name>
+    ensures { Reads (type_condition target.file) words.old words.new result }
 {
-    sign(words, Kind::On)?;
-    target.name(words)
+    target.name_behind(words, Kind::On)
 }
 
-fn optional_condition(target: Target, words: &mut Words<'_>) -> Result<Option<Name>, ReadError>
-    ensures { Gives result (standing words.new)
-        ((optional (type_condition target.file)).read (standing words.old)) }
+fn optional_condition(target: Target, words: &mut Words<'_>) -> Reading<Option<Name>>
+    ensures { Reads (optional (type_condition target.file)) words.old words.new result }
 {
     optional!(words.next_is(Kind::On), type_condition(target, words))
 }
 
 /// Whether a selection comes next.
 fn next_is_selection(words: &Words<'_>) -> bool
-    ensures { result ≡ begins is_selection (standing words.now).left }
+    ensures { result ≡ next_begins is_selection words.now }
 {
     match words.next_kind() {
         Some(kind) => kind.is_name() || kind.is(Kind::Spread),
@@ -126,29 +117,19 @@ fn next_is_selection(words: &Words<'_>) -> bool
 /// Reads a selection set.
 #[cycle(selections)]
 #[tactic(auto, using(graphql_productions::proofs::NestedLemmas::no_set, graphql_productions::proofs::NestedLemmas::one_set))]
-pub(crate) fn selection_set(
-    target: Target,
-    words: &mut Words<'_>,
-) -> Result<Items<Selection>, ReadError>
-    ensures { Gives result (standing words.new)
-        ((selection_set target.file target.depth).read (standing words.old)) }
+pub(crate) fn selection_set(target: Target, words: &mut Words<'_>) -> Reading<Items<Selection>>
+    ensures { Reads (selection_set target.file target.depth) words.old words.new result }
 {
-    if target.depth == 0 {
-        return Err(ReadError::Fault(FaultKind::TooDeep));
-    }
-    let inside = Target {
-        depth: target.depth - 1,
-        ..target
-    };
+    let inside = target.inside()?;
     selections(inside, words)
 }
 
 #[cycle(selections)]
 #[tactic(auto, unfolding(graphql_productions::specs::Selections::selections_of))]
-fn selections(target: Target, words: &mut Words<'_>) -> Result<Items<Selection>, ReadError>
-    ensures { Gives result (standing words.new)
-        ((selections_of (selection target.file target.depth (selection_set target.file target.depth))).read
-        (standing words.old)) }
+fn selections(target: Target, words: &mut Words<'_>) -> Reading<Items<Selection>>
+    ensures { Reads (selections_of
+        (selection target.file target.depth (selection_set target.file target.depth)))
+        words.old words.new result }
 {
     sign(words, Kind::LeftBrace)?;
     let selections = some_selections(target, words)?;
@@ -158,13 +139,9 @@ fn selections(target: Target, words: &mut Words<'_>) -> Result<Items<Selection>,
 
 /// Reads one selection or more.
 #[cycle(selections)]
-pub(crate) fn some_selections(
-    target: Target,
-    words: &mut Words<'_>,
-) -> Result<Items<Selection>, ReadError>
-    ensures { Gives result (standing words.new)
-        ((some (selection target.file target.depth (selection_set target.file target.depth))).read
-        (standing words.old)) }
+pub(crate) fn some_selections(target: Target, words: &mut Words<'_>) -> Reading<Items<Selection>>
+    ensures { Reads (some (selection target.file target.depth (selection_set target.file target.depth)))
+        words.old words.new result }
 {
     one_or_more!(
         target,
@@ -180,7 +157,7 @@ fn push_selections(
     target: Target,
     words: &mut Words<'_>,
     selections: &mut Items<Selection>,
-) -> Result<(), ReadError>
+) -> Reading<()>
     ensures { Adds result selections.old selections.new (standing words.new)
         ((many (selection target.file target.depth (selection_set target.file target.depth))).read
         (standing words.old)) }
@@ -194,10 +171,9 @@ fn push_selections(
 
 /// Reads a selection, by its first word.
 #[cycle(selections)]
-fn selection(target: Target, words: &mut Words<'_>) -> Result<Selection, ReadError>
-    ensures { Gives result (standing words.new)
-        ((selection target.file target.depth (selection_set target.file target.depth)).read
-        (standing words.old)) }
+fn selection(target: Target, words: &mut Words<'_>) -> Reading<Selection>
+    ensures { Reads (selection target.file target.depth (selection_set target.file target.depth))
+        words.old words.new result }
 {
     match words.next_kind() {
         Some(Kind::Spread) => fragment(target, words),
@@ -208,22 +184,18 @@ fn selection(target: Target, words: &mut Words<'_>) -> Result<Selection, ReadErr
 
 #[cycle(selections)]
 #[tactic(auto, unfolding(graphql_productions::specs::Selections::field_selection))]
-fn field_selection(target: Target, words: &mut Words<'_>) -> Result<Selection, ReadError>
-    ensures { Gives result (standing words.new)
-        ((field_selection target.file target.depth (selection_set target.file target.depth)).read
-        (standing words.old)) }
+fn field_selection(target: Target, words: &mut Words<'_>) -> Reading<Selection>
+    ensures { Reads (field_selection target.file target.depth (selection_set target.file target.depth))
+        words.old words.new result }
 {
-    let start = words.start();
-    let field = field(target, words)?;
-    Ok(Selection::Field(target.node(field, start, words.last)?))
+    Ok(Selection::Field(node!(target, words; field(target, words)?)))
 }
 
 #[cycle(selections)]
 #[tactic(auto, unfolding(graphql_productions::specs::Selections::field))]
-fn field(target: Target, words: &mut Words<'_>) -> Result<Field, ReadError>
-    ensures { Gives result (standing words.new)
-        ((field target.file target.depth (selection_set target.file target.depth)).read
-        (standing words.old)) }
+fn field(target: Target, words: &mut Words<'_>) -> Reading<Field>
+    ensures { Reads (field target.file target.depth (selection_set target.file target.depth))
+        words.old words.new result }
 {
     let first = target.name(words)?;
     let second = optional_alias(target, words)?;
@@ -240,40 +212,31 @@ fn field(target: Target, words: &mut Words<'_>) -> Result<Field, ReadError>
 }
 
 #[cycle(selections)]
-fn optional_set(
-    target: Target,
-    words: &mut Words<'_>,
-) -> Result<Option<Items<Selection>>, ReadError>
-    ensures { Gives result (standing words.new)
-        ((optional (selection_set target.file target.depth)).read (standing words.old)) }
+fn optional_set(target: Target, words: &mut Words<'_>) -> Reading<Option<Items<Selection>>>
+    ensures { Reads (optional (selection_set target.file target.depth)) words.old words.new result }
 {
     optional!(words.next_is(Kind::LeftBrace), selection_set(target, words))
 }
 
 #[cycle(selections)]
 #[tactic(auto, unfolding(graphql_productions::specs::Selections::inline_body))]
-fn inline_body(target: Target, words: &mut Words<'_>) -> Result<InlineFragment, ReadError>
-    ensures { Gives result (standing words.new)
-        ((inline_body target.file target.depth (selection_set target.file target.depth)).read
-        (standing words.old)) }
+fn inline_body(target: Target, words: &mut Words<'_>) -> Reading<InlineFragment>
+    ensures { Reads (inline_body target.file target.depth (selection_set target.file target.depth))
+        words.old words.new result }
 {
-    let type_condition = optional_condition(target, words)?;
-    let directives = directives(target.with_variables(), words)?;
-    let selection_set = selection_set(target, words)?;
     Ok(InlineFragment {
-        type_condition,
-        directives,
-        selection_set,
+        type_condition: optional_condition(target, words)?,
+        directives: directives(target.with_variables(), words)?,
+        selection_set: selection_set(target, words)?,
     })
 }
 
 /// Reads a fragment spread or an inline fragment.
 #[cycle(selections)]
 #[tactic(auto, unfolding(graphql_productions::specs::Selections::fragment))]
-fn fragment(target: Target, words: &mut Words<'_>) -> Result<Selection, ReadError>
-    ensures { Gives result (standing words.new)
-        ((fragment target.file target.depth (selection_set target.file target.depth)).read
-        (standing words.old)) }
+fn fragment(target: Target, words: &mut Words<'_>) -> Reading<Selection>
+    ensures { Reads (fragment target.file target.depth (selection_set target.file target.depth))
+        words.old words.new result }
 {
     let start = words.start();
     sign(words, Kind::Spread)?;

@@ -1,14 +1,14 @@
 //! Reading items with a sign between them, and one before the first or not.
 ghost use Rattle.std.specs.Prelude.{◌≡◌};
 ghost use Rattle.graphql_nodes.specs.declared.source.FileId.{FileId as File};
-ghost use Rattle.graphql_grammar.specs.Pieces.{Adds, Gives, GivesSeen, Piece, behind_sign, many, mapped};
+ghost use Rattle.graphql_grammar.specs.Pieces.{Adds, Piece, behind_sign, many, mapped};
 ghost use Rattle.graphql_grammar.specs.Pieces.{optional, separated, seq, sign};
 ghost use Rattle.graphql_grammar.specs.Standing.{standing};
 ghost use Rattle.graphql_grammar.proofs.PieceLaws.{Lawful};
 ghost use Rattle.graphql_text.specs.Seen.{seen_flag};
+ghost use Rattle.graphql_text.specs.Reads.{Reads, ReadsSeen};
 
-use crate::reading::target::{Target, sign};
-use graphql_grammar::fault::ReadError;
+use crate::reading::target::{Reading, Target, sign};
 use graphql_grammar::kind::Kind;
 use graphql_grammar::words::Words;
 use graphql_nodes::collections::items::Items;
@@ -19,17 +19,16 @@ pub(crate) trait Single: Drop {
     ghost piece: { File → Piece Self };
 
     /// Reads one.
-    fn read(target: Target, words: &mut Words<'_>) -> Result<Self, ReadError>
-        ensures { Gives result (standing words.new) ((piece target.file).read (standing words.old)) };
+    fn read(target: Target, words: &mut Words<'_>) -> Reading<Self>
+        ensures { Reads (piece target.file) words.old words.new result };
 
     /// What is read is spelled so, and the other way round.
     ghost law: { (file : File) → Lawful (piece file) };
 }
 
 /// Takes a sign, if it is there; whether it was.
-pub(crate) fn optional_sign(words: &mut Words<'_>, kind: Kind) -> Result<bool, ReadError>
-    ensures { GivesSeen seen_flag result (standing words.new)
-        ((optional (sign kind)).read (standing words.old)) }
+pub(crate) fn optional_sign(words: &mut Words<'_>, kind: Kind) -> Reading<bool>
+    ensures { ReadsSeen seen_flag (optional (sign kind)) words.old words.new result }
 {
     if !words.next_is(kind) {
         return Ok(false);
@@ -39,9 +38,9 @@ pub(crate) fn optional_sign(words: &mut Words<'_>, kind: Kind) -> Result<bool, R
 }
 
 /// Reads what stands behind a sign.
-fn behind<S: Single>(target: Target, words: &mut Words<'_>, separator: Kind) -> Result<S, ReadError>
-    ensures { Gives result (standing words.new)
-        ((mapped behind_sign (seq (sign separator) (S.piece target.file))).read (standing words.old)) }
+fn behind<S: Single>(target: Target, words: &mut Words<'_>, separator: Kind) -> Reading<S>
+    ensures { Reads (mapped behind_sign (seq (sign separator) (S.piece target.file)))
+        words.old words.new result }
 {
     sign(words, separator)?;
     S::read(target, words)
@@ -53,7 +52,7 @@ fn push_separated<S: Single>(
     words: &mut Words<'_>,
     separator: Kind,
     items: &mut Items<S>,
-) -> Result<(), ReadError>
+) -> Reading<()>
     ensures { Adds result items.old items.new (standing words.new)
         ((many (mapped behind_sign (seq (sign separator) (S.piece target.file)))).read
         (standing words.old)) }
@@ -70,9 +69,8 @@ pub(crate) fn separated<S: Single>(
     target: Target,
     words: &mut Words<'_>,
     separator: Kind,
-) -> Result<Items<S>, ReadError>
-    ensures { Gives result (standing words.new)
-        ((separated separator (S.piece target.file)).read (standing words.old)) }
+) -> Reading<Items<S>>
+    ensures { Reads (separated separator (S.piece target.file)) words.old words.new result }
 {
     optional_sign(words, separator)?;
     one_or_more!(

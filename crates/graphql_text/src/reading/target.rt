@@ -1,9 +1,12 @@
 //! What is read into.
-ghost use Rattle.std.specs.Prelude.{◌≡◌, false, true, IfOk};
-ghost use Rattle.graphql_grammar.specs.Pieces.{Gives, sign};
+ghost use Rattle.std.specs.Prelude.{◌≡◌, ◌≢◌, ◌-◌, false, true, IfOk, MatchResult};
+ghost use Rattle.graphql_grammar.specs.Pieces.{mapped, seq, sign};
 ghost use Rattle.graphql_grammar.specs.Standing.{standing};
 ghost use Rattle.graphql_grammar.specs.Words.{word_view};
-ghost use Rattle.graphql_productions.specs.Nodes.{name, name_of, node_of};
+ghost use Rattle.graphql_grammar.specs.declared.fault.FaultKind.TheVariants.{TooDeep};
+ghost use Rattle.graphql_grammar.specs.declared.fault.ReadError.TheVariants.{Fault};
+ghost use Rattle.graphql_productions.specs.Nodes.{behind, name, name_of, node_of};
+ghost use Rattle.graphql_text.specs.Reads.{Reads};
 
 use graphql_grammar::fault::{FaultKind, Item, ReadError};
 use graphql_grammar::kind::{Kind, Names};
@@ -13,6 +16,9 @@ use graphql_nodes::name::Name;
 use graphql_nodes::node::Node;
 use graphql_nodes::source::{FileId, SourceSpan};
 use std::alloc::{AllocError, Global};
+
+/// What was read of words, or why nothing was.
+pub(crate) type Reading<T> = Result<T, ReadError>;
 
 /// What is read into: where memory comes from, the file that locations name, whether values are constant, and
 /// how many signs may be open inside.
@@ -43,6 +49,21 @@ impl Target {
             constant: false,
             ..self
         }
+    }
+
+    /// The same inside of one more sign that is open; the error is that none more may be.
+    pub(crate) fn inside(self) -> Reading<Target>
+        ensures { MatchResult result
+            (λ inside. (self.depth ≢ 0) × (inside ≡ record self { depth = self.depth - 1 }))
+            (λ e. (self.depth ≡ 0) × (e ≡ Fault TooDeep)) }
+    {
+        if self.depth == 0 {
+            return Err(ReadError::Fault(FaultKind::TooDeep));
+        }
+        Ok(Target {
+            depth: self.depth - 1,
+            ..self
+        })
     }
 
     /// The bytes from the first of these up to the second.
@@ -78,17 +99,25 @@ impl Target {
 
     /// Reads a name.
     #[tactic(auto, unfolding(graphql_productions::specs::Nodes::name))]
-    pub(crate) fn name(self, words: &mut Words<'_>) -> Result<Name, ReadError>
-        ensures { Gives result (standing words.new) ((name self.file).read (standing words.old)) }
+    pub(crate) fn name(self, words: &mut Words<'_>) -> Reading<Name>
+        ensures { Reads (name self.file) words.old words.new result }
     {
         let word = words.expect_name(Names::Any, FaultKind::Expected(Item::Name))?;
         Ok(self.name_of(words, word)?)
     }
+
+    /// Reads a name behind a sign.
+    pub(crate) fn name_behind(self, words: &mut Words<'_>, kind: Kind) -> Reading<Name>
+        ensures { Reads (mapped behind (seq (sign kind) (name self.file))) words.old words.new result }
+    {
+        sign(words, kind)?;
+        self.name(words)
+    }
 }
 
 /// Takes a sign, where nothing else may stand.
-pub(crate) fn sign(words: &mut Words<'_>, kind: Kind) -> Result<(), ReadError>
-    ensures { Gives result (standing words.new) ((sign kind).read (standing words.old)) }
+pub(crate) fn sign(words: &mut Words<'_>, kind: Kind) -> Reading<()>
+    ensures { Reads (sign kind) words.old words.new result }
 {
     words.expect(kind, FaultKind::Expected(Item::Word(kind)))
 }

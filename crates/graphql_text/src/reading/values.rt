@@ -1,14 +1,13 @@
 //! Reading input values: GraphQL specification of October 2021, section 2.9.
 ghost use Rattle.std.specs.Prelude.{◌≡◌, ◌-◌};
-ghost use Rattle.graphql_grammar.specs.Pieces.{Adds, Gives, many};
-ghost use Rattle.graphql_grammar.specs.Standing.{standing};
-ghost use Rattle.graphql_grammar.specs.Words.{begins};
+ghost use Rattle.graphql_grammar.specs.Pieces.{Adds, many};
 ghost use Rattle.graphql_productions.specs.Values.{block_value, enum_value, false_value, float_value, group};
 ghost use Rattle.graphql_productions.specs.Values.{int_value, is_value, list_of, member, nested_group};
 ghost use Rattle.graphql_productions.specs.Values.{null_value, object_of, quoted_value, true_value, value};
 ghost use Rattle.graphql_productions.specs.Values.{value_node, variable, variable_value};
+ghost use Rattle.graphql_text.specs.Reads.{Reads, next_begins};
 
-use crate::reading::target::{Target, sign};
+use crate::reading::target::{Reading, Target, sign};
 use graphql_ast::value::Value;
 use graphql_grammar::fault::{FaultKind, Item, ReadError};
 use graphql_grammar::kind::{Kind, Names};
@@ -23,82 +22,80 @@ use graphql_tokens::values::{block_string_value, string_value};
 const NO_VALUE: FaultKind = FaultKind::Expected(Item::Value);
 
 #[tactic(auto, unfolding(graphql_productions::specs::Values::int_value))]
-fn int_value(target: Target, words: &mut Words<'_>) -> Result<Value, ReadError>
-    ensures { Gives result (standing words.new) (int_value.read (standing words.old)) }
+fn int_value(target: Target, words: &mut Words<'_>) -> Reading<Value>
+    ensures { Reads int_value words.old words.new result }
 {
     let word = words.expect_word(Kind::Int, NO_VALUE)?;
     Ok(Value::Int(Text::from_str(target.alloc, word.text)?))
 }
 
 #[tactic(auto, unfolding(graphql_productions::specs::Values::float_value))]
-fn float_value(target: Target, words: &mut Words<'_>) -> Result<Value, ReadError>
-    ensures { Gives result (standing words.new) (float_value.read (standing words.old)) }
+fn float_value(target: Target, words: &mut Words<'_>) -> Reading<Value>
+    ensures { Reads float_value words.old words.new result }
 {
     let word = words.expect_word(Kind::Float, NO_VALUE)?;
     Ok(Value::Float(Text::from_str(target.alloc, word.text)?))
 }
 
 #[tactic(auto, unfolding(graphql_productions::specs::Values::quoted_value))]
-fn quoted_value(target: Target, words: &mut Words<'_>) -> Result<Value, ReadError>
-    ensures { Gives result (standing words.new) (quoted_value.read (standing words.old)) }
+fn quoted_value(target: Target, words: &mut Words<'_>) -> Reading<Value>
+    ensures { Reads quoted_value words.old words.new result }
 {
     let word = words.expect_word(Kind::String, NO_VALUE)?;
     Ok(Value::String(string_value(target.alloc, word.text)?))
 }
 
 #[tactic(auto, unfolding(graphql_productions::specs::Values::block_value))]
-fn block_value(target: Target, words: &mut Words<'_>) -> Result<Value, ReadError>
-    ensures { Gives result (standing words.new) (block_value.read (standing words.old)) }
+fn block_value(target: Target, words: &mut Words<'_>) -> Reading<Value>
+    ensures { Reads block_value words.old words.new result }
 {
     let word = words.expect_word(Kind::BlockString, NO_VALUE)?;
     Ok(Value::String(block_string_value(target.alloc, word.text)?))
 }
 
 #[tactic(auto, unfolding(graphql_productions::specs::Values::true_value))]
-fn true_value(words: &mut Words<'_>) -> Result<Value, ReadError>
-    ensures { Gives result (standing words.new) (true_value.read (standing words.old)) }
+fn true_value(words: &mut Words<'_>) -> Reading<Value>
+    ensures { Reads true_value words.old words.new result }
 {
     sign(words, Kind::True)?;
     Ok(Value::Boolean(true))
 }
 
 #[tactic(auto, unfolding(graphql_productions::specs::Values::false_value))]
-fn false_value(words: &mut Words<'_>) -> Result<Value, ReadError>
-    ensures { Gives result (standing words.new) (false_value.read (standing words.old)) }
+fn false_value(words: &mut Words<'_>) -> Reading<Value>
+    ensures { Reads false_value words.old words.new result }
 {
     sign(words, Kind::False)?;
     Ok(Value::Boolean(false))
 }
 
 #[tactic(auto, unfolding(graphql_productions::specs::Values::null_value))]
-fn null_value(words: &mut Words<'_>) -> Result<Value, ReadError>
-    ensures { Gives result (standing words.new) (null_value.read (standing words.old)) }
+fn null_value(words: &mut Words<'_>) -> Reading<Value>
+    ensures { Reads null_value words.old words.new result }
 {
     sign(words, Kind::Null)?;
     Ok(Value::Null)
 }
 
 #[tactic(auto, unfolding(graphql_productions::specs::Values::enum_value))]
-fn enum_value(target: Target, words: &mut Words<'_>) -> Result<Value, ReadError>
-    ensures { Gives result (standing words.new) ((enum_value target.file).read (standing words.old)) }
+fn enum_value(target: Target, words: &mut Words<'_>) -> Reading<Value>
+    ensures { Reads (enum_value target.file) words.old words.new result }
 {
     Ok(Value::Enum(target.name(words)?))
 }
 
 /// Reads a variable.
 #[tactic(auto, unfolding(graphql_productions::specs::Values::variable))]
-pub(crate) fn variable(target: Target, words: &mut Words<'_>) -> Result<Name, ReadError>
-    ensures { Gives result (standing words.new) ((variable target.file).read (standing words.old)) }
+pub(crate) fn variable(target: Target, words: &mut Words<'_>) -> Reading<Name>
+    ensures { Reads (variable target.file) words.old words.new result }
 {
-    sign(words, Kind::Dollar)?;
-    target.name(words)
+    target.name_behind(words, Kind::Dollar)
 }
 
 /// Reads a variable, where the value isn't constant.
 #[tactic(auto, unfolding(graphql_productions::specs::Values::variable_or_none))]
-fn variable_value(target: Target, words: &mut Words<'_>) -> Result<Value, ReadError>
-    ensures { Gives result (standing words.new)
-        ((variable_value target.file target.constant).read (standing words.old)) }
+fn variable_value(target: Target, words: &mut Words<'_>) -> Reading<Value>
+    ensures { Reads (variable_value target.file target.constant) words.old words.new result }
 {
     if target.constant {
         return Err(ReadError::Fault(FaultKind::VariableInConstant));
@@ -122,7 +119,7 @@ fn is_value(kind: Kind) -> bool
 
 /// Whether a value comes next.
 fn next_is_value(words: &Words<'_>) -> bool
-    ensures { result ≡ begins is_value (standing words.now).left }
+    ensures { result ≡ next_begins is_value words.now }
 {
     match words.next_kind() {
         Some(kind) => is_value(kind),
@@ -132,9 +129,8 @@ fn next_is_value(words: &Words<'_>) -> bool
 
 /// Reads a value, by its first word.
 #[cycle(value)]
-fn value(target: Target, words: &mut Words<'_>) -> Result<Value, ReadError>
-    ensures { Gives result (standing words.new)
-        ((value target.file target.constant target.depth).read (standing words.old)) }
+fn value(target: Target, words: &mut Words<'_>) -> Reading<Value>
+    ensures { Reads (value target.file target.constant target.depth) words.old words.new result }
 {
     match words.next_kind() {
         Some(Kind::Int) => int_value(target, words),
@@ -154,26 +150,18 @@ fn value(target: Target, words: &mut Words<'_>) -> Result<Value, ReadError>
 /// Reads a list or an object.
 #[cycle(value)]
 #[tactic(auto, using(graphql_productions::proofs::NestedLemmas::no_group, graphql_productions::proofs::NestedLemmas::one_group))]
-fn nested_group(target: Target, words: &mut Words<'_>) -> Result<Value, ReadError>
-    ensures { Gives result (standing words.new)
-        ((nested_group target.file target.constant target.depth).read (standing words.old)) }
+fn nested_group(target: Target, words: &mut Words<'_>) -> Reading<Value>
+    ensures { Reads (nested_group target.file target.constant target.depth) words.old words.new result }
 {
-    if target.depth == 0 {
-        return Err(ReadError::Fault(FaultKind::TooDeep));
-    }
-    let inside = Target {
-        depth: target.depth - 1,
-        ..target
-    };
+    let inside = target.inside()?;
     group(inside, words)
 }
 
 /// Reads a list or an object, whose values may be such.
 #[cycle(value)]
-fn group(target: Target, words: &mut Words<'_>) -> Result<Value, ReadError>
-    ensures { Gives result (standing words.new)
-        ((group target.file (value_node target.file target.constant target.depth)).read
-        (standing words.old)) }
+fn group(target: Target, words: &mut Words<'_>) -> Reading<Value>
+    ensures { Reads (group target.file (value_node target.file target.constant target.depth))
+        words.old words.new result }
 {
     match words.next_kind() {
         Some(Kind::LeftBracket) => list(target, words),
@@ -184,9 +172,9 @@ fn group(target: Target, words: &mut Words<'_>) -> Result<Value, ReadError>
 
 #[cycle(value)]
 #[tactic(auto, unfolding(graphql_productions::specs::Values::list_of))]
-fn list(target: Target, words: &mut Words<'_>) -> Result<Value, ReadError>
-    ensures { Gives result (standing words.new)
-        ((list_of (value_node target.file target.constant target.depth)).read (standing words.old)) }
+fn list(target: Target, words: &mut Words<'_>) -> Reading<Value>
+    ensures { Reads (list_of (value_node target.file target.constant target.depth))
+        words.old words.new result }
 {
     sign(words, Kind::LeftBracket)?;
     let values = values(target, words)?;
@@ -195,9 +183,8 @@ fn list(target: Target, words: &mut Words<'_>) -> Result<Value, ReadError>
 }
 
 #[cycle(value)]
-fn values(target: Target, words: &mut Words<'_>) -> Result<Items<Node<Value>>, ReadError>
-    ensures { Gives result (standing words.new)
-        ((many (value_node target.file target.constant target.depth)).read (standing words.old)) }
+fn values(target: Target, words: &mut Words<'_>) -> Reading<Items<Node<Value>>>
+    ensures { Reads (many (value_node target.file target.constant target.depth)) words.old words.new result }
 {
     let mut values = Items::new(target.alloc);
     'values: while next_is_value(words) {
@@ -209,10 +196,9 @@ fn values(target: Target, words: &mut Words<'_>) -> Result<Items<Node<Value>>, R
 
 #[cycle(value)]
 #[tactic(auto, unfolding(graphql_productions::specs::Values::object_of))]
-fn object(target: Target, words: &mut Words<'_>) -> Result<Value, ReadError>
-    ensures { Gives result (standing words.new)
-        ((object_of target.file (value_node target.file target.constant target.depth)).read
-        (standing words.old)) }
+fn object(target: Target, words: &mut Words<'_>) -> Reading<Value>
+    ensures { Reads (object_of target.file (value_node target.file target.constant target.depth))
+        words.old words.new result }
 {
     sign(words, Kind::LeftBrace)?;
     let members = members(target, words)?;
@@ -221,10 +207,9 @@ fn object(target: Target, words: &mut Words<'_>) -> Result<Value, ReadError>
 }
 
 #[cycle(value)]
-fn members(target: Target, words: &mut Words<'_>) -> Result<Items<(Name, Node<Value>)>, ReadError>
-    ensures { Gives result (standing words.new)
-        ((many (member target.file (value_node target.file target.constant target.depth))).read
-        (standing words.old)) }
+fn members(target: Target, words: &mut Words<'_>) -> Reading<Items<(Name, Node<Value>)>>
+    ensures { Reads (many (member target.file (value_node target.file target.constant target.depth)))
+        words.old words.new result }
 {
     let mut members = Items::new(target.alloc);
     'members: while words.next_is_name(Names::Any) {
@@ -236,10 +221,9 @@ fn members(target: Target, words: &mut Words<'_>) -> Result<Items<(Name, Node<Va
 
 #[cycle(value)]
 #[tactic(auto, unfolding(graphql_productions::specs::Values::member_body))]
-fn member(target: Target, words: &mut Words<'_>) -> Result<(Name, Node<Value>), ReadError>
-    ensures { Gives result (standing words.new)
-        ((member target.file (value_node target.file target.constant target.depth)).read
-        (standing words.old)) }
+fn member(target: Target, words: &mut Words<'_>) -> Reading<(Name, Node<Value>)>
+    ensures { Reads (member target.file (value_node target.file target.constant target.depth))
+        words.old words.new result }
 {
     let name = target.name(words)?;
     sign(words, Kind::Colon)?;
@@ -249,11 +233,8 @@ fn member(target: Target, words: &mut Words<'_>) -> Result<(Name, Node<Value>), 
 
 /// Reads a value, at its location.
 #[cycle(value)]
-pub(crate) fn value_node(target: Target, words: &mut Words<'_>) -> Result<Node<Value>, ReadError>
-    ensures { Gives result (standing words.new)
-        ((value_node target.file target.constant target.depth).read (standing words.old)) }
+pub(crate) fn value_node(target: Target, words: &mut Words<'_>) -> Reading<Node<Value>>
+    ensures { Reads (value_node target.file target.constant target.depth) words.old words.new result }
 {
-    let start = words.start();
-    let value = value(target, words)?;
-    Ok(target.node(value, start, words.last)?)
+    Ok(node!(target, words; value(target, words)?))
 }

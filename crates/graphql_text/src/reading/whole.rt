@@ -1,7 +1,7 @@
 //! Reading all words of a text.
 ghost use Rattle.std.specs.Prelude.{◌≡◌, ℕ, suc, List, true};
 ghost use Rattle.graphql_nodes.specs.declared.source.FileId.{FileId as File};
-ghost use Rattle.graphql_grammar.specs.Pieces.{Gives, GivesAll, Piece, read_whole};
+ghost use Rattle.graphql_grammar.specs.Pieces.{GivesAll, Piece, read_whole};
 ghost use Rattle.graphql_grammar.specs.Standing.{standing};
 ghost use Rattle.graphql_grammar.specs.Words.{WordView};
 ghost use Rattle.graphql_grammar.specs.declared.fault.Item.TheVariants.{Definition as DefinitionItem};
@@ -14,11 +14,12 @@ ghost use Rattle.graphql_productions.specs.Values.{value_node};
 ghost use Rattle.graphql_productions.proofs.DefinitionLaws.{one_tame};
 ghost use Rattle.graphql_productions.proofs.JudgedProductions.{document_judged, selections_judged};
 ghost use Rattle.graphql_productions.proofs.JudgedProductions.{type_judged, value_node_judged};
+ghost use Rattle.graphql_text.specs.Reads.{Reads};
 
 use crate::reading::definitions::definition;
 use crate::reading::lists::{Read, some_items};
 use crate::reading::selections::{selection_set, some_selections};
-use crate::reading::target::Target;
+use crate::reading::target::{Reading, Target};
 use crate::reading::types::type_reference;
 use crate::reading::values::value_node;
 use graphql_ast::definition::Definition;
@@ -40,9 +41,8 @@ pub(crate) trait Tree: Drop {
     ghost spells: { File → ℕ → Self → List WordView → Type 0 };
 
     /// Reads it, and leaves what stands behind it.
-    fn read(target: Target, words: &mut Words<'_>) -> Result<Self, ReadError>
-        ensures { Gives result (standing words.new)
-            ((piece target.file target.depth).read (standing words.old)) };
+    fn read(target: Target, words: &mut Words<'_>) -> Reading<Self>
+        ensures { Reads (piece target.file target.depth) words.old words.new result };
 
     /// What is read is spelled so, and the other way round; what is refused is refused for all words so far.
     ghost law: { (file : File) (depth : ℕ)
@@ -50,7 +50,7 @@ pub(crate) trait Tree: Drop {
 }
 
 /// Reads what a whole text is, and nothing behind it.
-pub(crate) fn whole<T: Tree>(target: Target, words: &mut Words<'_>) -> Result<T, ReadError>
+pub(crate) fn whole<T: Tree>(target: Target, words: &mut Words<'_>) -> Reading<T>
     ensures { GivesAll result (standing words.new).left
         (read_whole (T.piece target.file target.depth) (standing words.old)) }
 {
@@ -68,7 +68,7 @@ impl Tree for Type {
 
     ghost law = { type_judged };
 
-    fn read(target: Target, words: &mut Words<'_>) -> Result<Type, ReadError> {
+    fn read(target: Target, words: &mut Words<'_>) -> Reading<Type> {
         type_reference(target, words)
     }
 }
@@ -80,7 +80,7 @@ impl Tree for Node<Value> {
 
     ghost law = { λ file depth. value_node_judged file true depth };
 
-    fn read(target: Target, words: &mut Words<'_>) -> Result<Node<Value>, ReadError> {
+    fn read(target: Target, words: &mut Words<'_>) -> Reading<Node<Value>> {
         value_node(target.constant(), words)
     }
 }
@@ -94,7 +94,7 @@ impl Tree for Items<Selection> {
 
     /// Reads selections, with braces or without.
     #[tactic(auto, unfolding(graphql_productions::specs::Selections::bare_selections))]
-    fn read(target: Target, words: &mut Words<'_>) -> Result<Items<Selection>, ReadError> {
+    fn read(target: Target, words: &mut Words<'_>) -> Reading<Items<Selection>> {
         match words.next_kind() {
             Some(Kind::LeftBrace) => selection_set(target, words),
             Some(_) => some_selections(target, words),
@@ -120,7 +120,7 @@ impl Read for Definition {
         FaultKind::Expected(Item::Definition)
     }
 
-    fn read(target: Target, words: &mut Words<'_>) -> Result<Definition, ReadError> {
+    fn read(target: Target, words: &mut Words<'_>) -> Reading<Definition> {
         definition(target, words)
     }
 }
@@ -132,7 +132,7 @@ impl Tree for Items<Definition> {
 
     ghost law = { document_judged };
 
-    fn read(target: Target, words: &mut Words<'_>) -> Result<Items<Definition>, ReadError> {
+    fn read(target: Target, words: &mut Words<'_>) -> Reading<Items<Definition>> {
         some_items(target, words)
     }
 }
