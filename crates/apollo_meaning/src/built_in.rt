@@ -23,33 +23,60 @@ const SCALARS: [DefinitionRow; 5] = [
     Scalar("ID"),
 ];
 
+/// The type that GraphQL writes so, but for the quotes of its name, as the table has it.
+macro_rules! type_row {
+    ([$ty:literal!]!) => { NonNullListOf($ty) };
+    ([$ty:literal!]) => { ListOf($ty) };
+    ($ty:literal!) => { NonNull($ty) };
+    ($ty:literal) => { Named($ty) };
+}
+
+/// The fields that GraphQL writes so, as rows of the table, behind those that stand in brackets.
+macro_rules! fields_after {
+    ([$($row:expr,)*]) => { &[$($row,)*] };
+    ([$($row:expr,)*] $field:ident(includeDeprecated: Boolean = false): $ty:tt $($rest:tt)*) => {
+        fields_after!([$($row,)* Filtered(stringify!($field), type_row!($ty)),] $($rest)*)
+    };
+    ([$($row:expr,)*] $field:ident: $ty:tt! $($rest:tt)*) => {
+        fields_after!([$($row,)* Field(stringify!($field), type_row!($ty!)),] $($rest)*)
+    };
+    ([$($row:expr,)*] $field:ident: $ty:tt $($rest:tt)*) => {
+        fields_after!([$($row,)* Field(stringify!($field), type_row!($ty)),] $($rest)*)
+    };
+}
+
+/// The fields of a type, as GraphQL writes them, but for the quotes of names of types.
+macro_rules! fields {
+    ($($field:tt)*) => { fields_after!([] $($field)*) };
+}
+
 /// The types of introspection.
 const INTROSPECTION_TYPES: [DefinitionRow; 8] = [
     Object(
         "__Schema",
-        &[
-            Field("description", Named("String")),
-            Field("types", NonNullListOf("__Type")),
-            Field("queryType", NonNull("__Type")),
-            Field("mutationType", Named("__Type")),
-            Field("subscriptionType", Named("__Type")),
-            Field("directives", NonNullListOf("__Directive")),
-        ],
+        fields! {
+            description: "String"
+            types: ["__Type"!]!
+            queryType: "__Type"!
+            mutationType: "__Type"
+            subscriptionType: "__Type"
+            directives: ["__Directive"!]!
+        },
     ),
     Object(
         "__Type",
-        &[
-            Field("kind", NonNull("__TypeKind")),
-            Field("name", Named("String")),
-            Field("description", Named("String")),
-            Filtered("fields", ListOf("__Field")),
-            Field("interfaces", ListOf("__Type")),
-            Field("possibleTypes", ListOf("__Type")),
-            Filtered("enumValues", ListOf("__EnumValue")),
-            Field("inputFields", ListOf("__InputValue")),
-            Field("ofType", Named("__Type")),
-            Field("specifiedByURL", Named("String")),
-        ],
+        fields! {
+            kind: "__TypeKind"!
+            name: "String"
+            description: "String"
+            fields(includeDeprecated: Boolean = false): ["__Field"!]
+            interfaces: ["__Type"!]
+            possibleTypes: ["__Type"!]
+            enumValues(includeDeprecated: Boolean = false): ["__EnumValue"!]
+            inputFields: ["__InputValue"!]
+            ofType: "__Type"
+            specifiedByURL: "String"
+        },
     ),
     Enumeration(
         "__TypeKind",
@@ -66,42 +93,42 @@ const INTROSPECTION_TYPES: [DefinitionRow; 8] = [
     ),
     Object(
         "__Field",
-        &[
-            Field("name", NonNull("String")),
-            Field("description", Named("String")),
-            Field("args", NonNullListOf("__InputValue")),
-            Field("type", NonNull("__Type")),
-            Field("isDeprecated", NonNull("Boolean")),
-            Field("deprecationReason", Named("String")),
-        ],
+        fields! {
+            name: "String"!
+            description: "String"
+            args: ["__InputValue"!]!
+            type: "__Type"!
+            isDeprecated: "Boolean"!
+            deprecationReason: "String"
+        },
     ),
     Object(
         "__InputValue",
-        &[
-            Field("name", NonNull("String")),
-            Field("description", Named("String")),
-            Field("type", NonNull("__Type")),
-            Field("defaultValue", Named("String")),
-        ],
+        fields! {
+            name: "String"!
+            description: "String"
+            type: "__Type"!
+            defaultValue: "String"
+        },
     ),
     Object(
         "__EnumValue",
-        &[
-            Field("name", NonNull("String")),
-            Field("description", Named("String")),
-            Field("isDeprecated", NonNull("Boolean")),
-            Field("deprecationReason", Named("String")),
-        ],
+        fields! {
+            name: "String"!
+            description: "String"
+            isDeprecated: "Boolean"!
+            deprecationReason: "String"
+        },
     ),
     Object(
         "__Directive",
-        &[
-            Field("name", NonNull("String")),
-            Field("description", Named("String")),
-            Field("locations", NonNullListOf("__DirectiveLocation")),
-            Field("args", NonNullListOf("__InputValue")),
-            Field("isRepeatable", NonNull("Boolean")),
-        ],
+        fields! {
+            name: "String"!
+            description: "String"
+            locations: ["__DirectiveLocation"!]!
+            args: ["__InputValue"!]!
+            isRepeatable: "Boolean"!
+        },
     ),
     Enumeration(
         "__DirectiveLocation",

@@ -66,6 +66,21 @@ fn name(alloc: Global, text: &str) -> Result<Name, AllocError>
     Ok(name.with_location(PLACE))
 }
 
+/// A node in the file of built-in definitions: a definition of this name, with these fields.
+macro_rules! named_node {
+    ($alloc:ident, $definition:ident, $text:expr $(, $field:ident $(: $value:expr)?)*) => {
+        node(
+            $alloc,
+            $definition {
+                description: None,
+                name: name($alloc, $text)?,
+                directives: DirectiveList::new($alloc),
+                $($field $(: $value)?,)*
+            },
+        )
+    };
+}
+
 /// The type that a row writes.
 fn type_reference(alloc: Global, row: TypeRow) -> Result<Type, AllocError>
     ensures { IfOk result (λ made. made ≡ row_type row) }
@@ -105,34 +120,7 @@ pub fn argument(
 {
     let default_value = default_node(alloc, default_value)?;
     let ty = node(alloc, type_reference(alloc, ty)?)?;
-    let definition = InputValueDefinition {
-        description: None,
-        name: name(alloc, text)?,
-        ty,
-        default_value,
-        directives: DirectiveList::new(alloc),
-    };
-    node(alloc, definition)
-}
-
-/// A field with these arguments.
-fn field_with(
-    alloc: Global,
-    text: &str,
-    arguments: Items<Node<InputValueDefinition>>,
-    ty: TypeRow,
-) -> Result<Node<FieldDefinition>, AllocError>
-    ensures { IfOk result (λ made. made ≡ nodes.field text.now arguments (row_type ty)) }
-{
-    let ty = type_reference(alloc, ty)?;
-    let definition = FieldDefinition {
-        description: None,
-        name: name(alloc, text)?,
-        arguments,
-        ty,
-        directives: DirectiveList::new(alloc),
-    };
-    node(alloc, definition)
+    named_node!(alloc, InputValueDefinition, text, ty, default_value)
 }
 
 /// A list of one argument.
@@ -164,10 +152,14 @@ fn field(alloc: Global, row: FieldRow) -> Result<Node<FieldDefinition>, AllocErr
     ensures { IfOk result (λ made. made ≡ row_field row) }
 {
     match row {
-        FieldRow::Field(text, ty) => field_with(alloc, text, Items::new(alloc), ty),
+        FieldRow::Field(text, ty) => {
+            let ty = type_reference(alloc, ty)?;
+            named_node!(alloc, FieldDefinition, text, arguments: Items::new(alloc), ty)
+        }
         FieldRow::Filtered(text, ty) => {
+            let ty = type_reference(alloc, ty)?;
             let arguments = only(alloc, include_deprecated(alloc)?)?;
-            field_with(alloc, text, arguments, ty)
+            named_node!(alloc, FieldDefinition, text, arguments, ty)
         }
     }
 }
@@ -188,14 +180,15 @@ fn object(alloc: Global, text: &str, rows: &[FieldRow]) -> Result<Definition, Al
     ensures { IfOk result (λ made. made ≡ nodes.object text.now (map row_field rows.now)) }
 {
     let fields = fields(alloc, rows)?;
-    let definition = ObjectTypeDefinition {
-        description: None,
-        name: name(alloc, text)?,
-        implements_interfaces: Items::new(alloc),
-        directives: DirectiveList::new(alloc),
-        fields,
-    };
-    Ok(Definition::ObjectTypeDefinition(node(alloc, definition)?))
+    let implements_interfaces = Items::new(alloc);
+    let object = named_node!(
+        alloc,
+        ObjectTypeDefinition,
+        text,
+        implements_interfaces,
+        fields
+    )?;
+    Ok(Definition::ObjectTypeDefinition(object))
 }
 
 /// A value of an enum type.
@@ -230,25 +223,16 @@ fn enumeration(alloc: Global, text: &str, values: &[&str]) -> Result<Definition,
         ≡ nodes.enumeration text.now (map (λ value. nodes.enum_value value.now) values.now)) }
 {
     let values = enum_values(alloc, values)?;
-    let definition = EnumTypeDefinition {
-        description: None,
-        name: name(alloc, text)?,
-        directives: DirectiveList::new(alloc),
-        values,
-    };
-    Ok(Definition::EnumTypeDefinition(node(alloc, definition)?))
+    let enumeration = named_node!(alloc, EnumTypeDefinition, text, values)?;
+    Ok(Definition::EnumTypeDefinition(enumeration))
 }
 
 /// A scalar type.
 fn scalar(alloc: Global, text: &str) -> Result<Definition, AllocError>
     ensures { IfOk result (λ made. made ≡ nodes.scalar text.now) }
 {
-    let definition = ScalarTypeDefinition {
-        description: None,
-        name: name(alloc, text)?,
-        directives: DirectiveList::new(alloc),
-    };
-    Ok(Definition::ScalarTypeDefinition(node(alloc, definition)?))
+    let scalar = named_node!(alloc, ScalarTypeDefinition, text)?;
+    Ok(Definition::ScalarTypeDefinition(scalar))
 }
 
 /// The definition that a row writes.
