@@ -5,29 +5,42 @@ use Rattle.apollo_meaning.proofs.Prelude.{None, Some, length, map, refl, arith, 
 use Rattle.apollo_meaning.proofs.Prelude.{list_any, option_map, take-append-drop, NodeView, Definition}
 use Rattle.apollo_meaning.proofs.Prelude.{schema_extension_part, Root, roots_in, Defined}
 use Rattle.apollo_meaning.proofs.Prelude.{SchemaDefined, item_of, extended_part, extended_parts, adopted_part}
-use Rattle.apollo_meaning.proofs.Prelude.{adopted_by, schema_for}
+use Rattle.apollo_meaning.proofs.Prelude.{is_some, schema_for, TypePart, Option, sym, ap}
+use Rattle.apollo_folding.specs.Adopting.{adopted_for}
 use Rattle.graphql_ast.specs.declared.type_system.SchemaExtension.{SchemaExtension}
 use Rattle.apollo_meaning.specs.Completion.ImpliedSchema.{schema_of_roots, rooted_schema}
 use Rattle.apollo_meaning.proofs.Order.FoldingLemmas.{extended_parts-append, extended_parts-turn}
 
--- what the first extension of a type among definitions is adopted as
-pub adopted-first : (xs : List Definition) (i : ℕ) (x d : Definition) → i < length xs → x ≡ get_or xs i x
-    → extended_parts (take i xs) ≡ []
-    → Some (item_of d) ≡ option_map (λ e. Defined (adopted_part e)) (extended_part (item_of x))
-    → adopted_by (extended_parts xs) ≡ item_of d ∷ []
-adopted-first xs i x d lt is none made = grind (
+-- what is made of a value that is there, is there
+pub mapped-some : {X Y : Type 0} (f : X → Y) (o : Option X) {p : Option Y} → option_map f o ≡ p
+    → is_some p ≡ is_some o
+mapped-some f None is = ap is_some (sym is)
+mapped-some f (Some x) is = ap is_some (sym is)
+
+-- what is adopted for definitions is what is adopted for the first of them that extends a type
+pub adopted-first : (xs : List Definition) (i : ℕ) (x : Definition) → i < length xs → x ≡ get_or xs i x
+    → extended_parts (take i xs) ≡ [] → is_some (extended_part (item_of x)) ≡ true
+    → adopted_for (x ∷ []) ≡ adopted_for xs
+adopted-first xs i x lt is none extends = grind (
   arith,
   extended_parts-append (take (i + 1) xs) (drop (i + 1) xs),
   take-append-drop (i + 1) xs,
   extended_parts-turn xs i x lt is,
 )
 
--- a definition that is adopted as nothing extends no type
-pub adopted-none : (xs : List Definition) (i : ℕ) (x : Definition) → i < length xs → x ≡ get_or xs i x
-    → extended_parts (take i xs) ≡ []
-    → None ≡ option_map (λ e. Defined (adopted_part e)) (extended_part (item_of x))
+-- a definition that extends no type adds no extension
+pub unextended-turn : (xs : List Definition) (i : ℕ) (x : Definition) → i < length xs → x ≡ get_or xs i x
+    → extended_parts (take i xs) ≡ [] → is_some (extended_part (item_of x)) ≡ false
     → extended_parts (take (i + 1) xs) ≡ []
-adopted-none xs i x lt is none made = grind (arith, extended_parts-turn xs i x lt is)
+unextended-turn xs i x lt is none extends = grind (arith, extended_parts-turn xs i x lt is)
+
+-- what is adopted for an extension of a type alone
+pub adopted-alone : (x : Definition) (e : TypePart) → Some e ≡ extended_part (item_of x)
+    → adopted_for (x ∷ []) ≡ Defined (adopted_part e) ∷ []
+adopted-alone x e is = grind (arith, is)
+
+pub adopted-nothing : (x : Definition) → None ≡ extended_part (item_of x) → adopted_for (x ∷ []) ≡ []
+adopted-nothing x is = grind (arith, is)
 
 some-apart : {X : Type 0} (x : X) (xs : List X) → (length (x ∷ xs) == 0) ≡ false
 some-apart x xs = grind (arith, nat_tests)

@@ -1,5 +1,5 @@
 -- Components that are dropped from what was made of parts are those that are dropped where a part joins them.
-use Rattle.apollo_meaning.proofs.Prelude.{◌≡◌, List, [], ◌∷◌, ◌++◌, ◌∙◌, map, refl, append_assoc}
+use Rattle.apollo_meaning.proofs.Prelude.{◌≡◌, List, [], ◌∷◌, ◌++◌, ◌∙◌, sym, ap, map, refl, append_assoc}
 use Rattle.apollo_meaning.proofs.Prelude.{append-nil, flat_map, keys_of, map-append, NameView, TypePart}
 use Rattle.apollo_meaning.proofs.Prelude.{Sourced, Fault, collisions}
 use Rattle.apollo_meaning.specs.declared.collision.Collection.{Collection}
@@ -46,14 +46,15 @@ module _ (c : Collection) (done : List Sourced) (p : TypePart) (before after : L
   pub found-last : after ≡ before ++ (dropped ++ [])
   found-last = rw (found, are, append-nil)
 
--- and in two collections, one after the other
-pub found-both : (c d : Collection) (done : List Sourced) (p : TypePart) (before between after : List Fault)
-    (names others : List NameView) → names ≡ names_in (held_sort c) (map (λ s. s.1) done)
-    → others ≡ names_in (held_sort d) (map (λ s. s.1) done)
-    → between ≡ before ++ collisions c p.name names (entries_of (held_sort c) p)
-    → after ≡ between ++ collisions d p.name others (entries_of (held_sort d) p)
+-- and in the interfaces and fields that a type is made of, one after the other
+pub found-both : (c d : Collection) → held_sort c ≡ Names → held_sort d ≡ Fields → (done : List Sourced)
+    (p : TypePart) (before between after : List Fault)
+    → between ≡ before ++ collisions c p.name (map (λ k. k.name) (flat_map names_of done))
+    (entries_of (held_sort c) p)
+    → after ≡ between ++ collisions d p.name (keys_of (flat_map fields_of done)) (entries_of (held_sort d) p)
     → after ≡ before ++ (dropped_from (map (λ s. s.1) done) p c ++ (dropped_from (map (λ s. s.1) done) p d
     ++ []))
-found-both c d done p before between after names others are these found then =
-    found-last d done p between after others these then
-    ∙ found-before c done p before between names are found _
+found-both c d listed declared done p before between after found then =
+    let named : Sort → List NameView = λ s. names_in s (map (λ q. q.1) done) in
+    found-last d done p between after _ (fields-joined done ∙ ap named (sym declared)) then
+    ∙ found-before c done p before between _ (names-joined done ∙ ap named (sym listed)) found _

@@ -1,3 +1,4 @@
+pub mod Adopting
 pub mod DeclaredParts
 pub mod HeldRoots
 pub mod Joins

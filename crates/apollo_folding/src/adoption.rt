@@ -3,21 +3,20 @@
 ghost use Rattle.std.specs.Prelude.{◌≡◌, ◌==◌, ◌&&◌, if◌then◌else◌, [], ◌++◌, length, map, not, IfOk, OnOk};
 ghost use Rattle.std.specs.List.{flat_map, list_any};
 ghost use Rattle.graphql_nodes.specs.Tables.{values_of};
-ghost use Rattle.apollo_meaning.specs.Items.ListItems.{schema_item, Defined, item_of, items_of};
-ghost use Rattle.apollo_meaning.specs.Items.ListItems.{extended_parts};
+ghost use Rattle.apollo_meaning.specs.Items.ListItems.{schema_item};
 ghost use Rattle.apollo_meaning.specs.Items.Parts.{schema_extension_part, roots_in};
-ghost use Rattle.apollo_meaning.specs.Completion.Adoption.{adopted_part, adopted_by};
+ghost use Rattle.apollo_meaning.specs.Completion.Adoption.{adopted_part};
 ghost use Rattle.apollo_meaning.specs.Completion.ImpliedSchema.{schema_for};
+ghost use Rattle.apollo_folding.specs.Adopting.{adopted_for, adopted_for_each};
 ghost use Rattle.apollo_folding.specs.DeclaredParts.{part_seen};
 ghost use Rattle.apollo_folding.specs.HeldRoots.{held_root, held_roots};
 
 use crate::extension::extension_of;
 use apollo_types::extended_type::ExtendedType;
-use graphql_ast::declaration::TypeDeclaration;
 use graphql_ast::declaration_ref::TypeDeclarationRef;
 use graphql_ast::definition::Definition;
 use graphql_ast::directive::DirectiveList;
-use graphql_ast::parts::Parts;
+use graphql_ast::parts::PartsRef;
 use graphql_ast::type_system as ast;
 use graphql_ast::type_system::SchemaExtension;
 use graphql_nodes::collections::items::Items;
@@ -27,57 +26,53 @@ use graphql_nodes::node::Node;
 use graphql_nodes::operation_type::OperationType;
 use std::alloc::{AllocError, Global};
 
-/// The empty definition of the kind of an extension, with its name and at its location. The error is out of
-/// memory.
-fn empty_definition(
-    alloc: Global,
-    extension: &TypeDeclarationRef<'_>,
-) -> Result<Definition, AllocError>
-    ensures { IfOk result (λ made. item_of made ≡ Defined (adopted_part (part_seen extension.now))) }
+/// What the definition says that a type is adopted by: it is empty, of the kind of this extension, with its
+/// name and at its location (section 3.4.3).
+pub fn adopted_from<'a>(extension: &TypeDeclarationRef<'a>) -> TypeDeclarationRef<'a>
+    ensures { part_seen result ≡ adopted_part (part_seen extension.now) }
 {
-    let declaration = TypeDeclaration {
-        kind: extension.kind,
-        name: extension.name.clone()?,
+    TypeDeclarationRef {
         is_extension: false,
         description: None,
-        location: extension.location,
-        parts: Parts::new(alloc),
-    };
-    declaration.into_definition(alloc)
+        parts: PartsRef {
+            directives: &[],
+            names: &[],
+            fields: &[],
+            values: &[],
+            input_fields: &[],
+            roots: &[],
+        },
+        ..*extension
+    }
 }
 
-/// Adds the empty definition of the first of these that extends a type.
-fn adopt_first(
-    alloc: Global,
-    extensions: &[Definition],
-    adopted: &mut Items<Definition>,
-) -> Result<(), AllocError>
-    ensures { OnOk result (items_of adopted.new
-        ≡ items_of adopted.old ++ adopted_by (extended_parts extensions.now)) }
+/// Adds a copy of the first of these that extends a type.
+fn add_first(extensions: &[Definition], firsts: &mut Items<Definition>) -> Result<(), AllocError>
+    ensures { OnOk result (adopted_for_each firsts.new
+        ≡ adopted_for_each firsts.old ++ adopted_for extensions.now) }
 {
     for definition in extensions {
-        if let Some(extension) = extension_of(definition) {
-            adopted.push(empty_definition(alloc, &extension)?)?;
+        if extension_of(definition).is_some() {
+            firsts.push(definition.clone()?)?;
             return Ok(());
         }
     }
     Ok(())
 }
 
-/// The empty definitions of the names under which extensions wait, in order. Each is of the kind of the first
-/// of these, with its name and at its location (section 3.4.3). The error is out of memory.
-pub fn adopted_definitions(
+/// Copies of the first extensions of the names under which extensions wait, in order. The error is out of
+/// memory.
+pub fn first_extensions(
     alloc: Global,
     waiting: &Table<Name, Items<Definition>>,
 ) -> Result<Items<Definition>, AllocError>
-    ensures { IfOk result (λ adopted. items_of adopted
-        ≡ flat_map (λ held. adopted_by (extended_parts held)) (values_of waiting.now)) }
+    ensures { IfOk result (λ firsts. adopted_for_each firsts ≡ flat_map adopted_for (values_of waiting.now)) }
 {
-    let mut adopted = Items::new(alloc);
+    let mut firsts = Items::new(alloc);
     for extensions in waiting.values() {
-        adopt_first(alloc, extensions.as_slice(), &mut adopted)?;
+        add_first(extensions.as_slice(), &mut firsts)?;
     }
-    Ok(adopted)
+    Ok(firsts)
 }
 
 /// Adds the implicit root of an operation, if its default name is an object type's.

@@ -1,4 +1,6 @@
 //! Why a step of a builder is refused.
+ghost use Rattle.std.specs.Prelude.{◌≡◌};
+ghost use Rattle.apollo_folding.specs.declared.builder_error.BuilderError.TheVariants as errors;
 
 use apollo_component::extension::IdsSpent;
 use std::alloc::{AllocError, AllocFailed};
@@ -19,11 +21,7 @@ pub enum BuilderError {
 }
 
 impl From<AllocError> for BuilderError {
-    ghost use Rattle.std.specs.Prelude.{◌≡◌};
-    ghost use Rattle.apollo_folding.specs.declared.builder_error.BuilderError.{BuilderError};
-    ghost use Rattle.apollo_folding.specs.declared.builder_error.BuilderError.TheVariants.{Memory};
-
-    ghost from_gives = { λ _ error. error ≡ Memory };
+    ghost from_gives = { λ _ error. error ≡ errors.Memory };
 
     /// `Memory`.
     fn from(_error: AllocError) -> BuilderError {
@@ -32,11 +30,7 @@ impl From<AllocError> for BuilderError {
 }
 
 impl<T: Drop> From<AllocFailed<T>> for BuilderError {
-    ghost use Rattle.std.specs.Prelude.{◌≡◌};
-    ghost use Rattle.apollo_folding.specs.declared.builder_error.BuilderError.{BuilderError};
-    ghost use Rattle.apollo_folding.specs.declared.builder_error.BuilderError.TheVariants.{Memory};
-
-    ghost from_gives = { λ _ error. error ≡ Memory };
+    ghost from_gives = { λ _ error. error ≡ errors.Memory };
 
     /// `Memory`. What the error gives back is dropped.
     fn from(_error: AllocFailed<T>) -> BuilderError {
@@ -45,11 +39,7 @@ impl<T: Drop> From<AllocFailed<T>> for BuilderError {
 }
 
 impl From<IdsSpent> for BuilderError {
-    ghost use Rattle.std.specs.Prelude.{◌≡◌};
-    ghost use Rattle.apollo_folding.specs.declared.builder_error.BuilderError.{BuilderError};
-    ghost use Rattle.apollo_folding.specs.declared.builder_error.BuilderError.TheVariants.{ExtensionIds};
-
-    ghost from_gives = { λ _ error. error ≡ ExtensionIds };
+    ghost from_gives = { λ _ error. error ≡ errors.ExtensionIds };
 
     /// `ExtensionIds`.
     fn from(_error: IdsSpent) -> BuilderError {

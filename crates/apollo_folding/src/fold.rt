@@ -23,12 +23,10 @@ impl Clone for Fold {
     ghost is_clone = { λ a b. b ≡ a };
 
     fn clone(&self) -> Result<Fold, AllocError> {
-        let faults = self.faults.clone()?;
         Ok(Fold {
-            alloc: self.alloc,
-            keys: self.keys,
             ids: ExtensionSource::starting_at(self.ids.next_number()),
-            faults,
+            faults: self.faults.clone()?,
+            ..*self
         })
     }
 }

@@ -52,14 +52,14 @@ impl Fold {
         ensures faults { OnOk result (self.new ≡ noting (part_faults [] (part_seen head.now)) self.old) }
         ensures rest { self.new ≡ record self.old { faults = self.new.faults } }
     {
-        match head.kind {
-            TypeKind::Scalar => Ok(ExtendedType::Scalar(self.type_of_definition(head)?)),
-            TypeKind::Object => Ok(ExtendedType::Object(self.type_of_definition(head)?)),
-            TypeKind::Interface => Ok(ExtendedType::Interface(self.type_of_definition(head)?)),
-            TypeKind::Union => Ok(ExtendedType::Union(self.type_of_definition(head)?)),
-            TypeKind::Enum => Ok(ExtendedType::Enum(self.type_of_definition(head)?)),
-            TypeKind::InputObject => Ok(ExtendedType::InputObject(self.type_of_definition(head)?)),
-        }
+        Ok(match head.kind {
+            TypeKind::Scalar => ExtendedType::Scalar(self.type_of_definition(head)?),
+            TypeKind::Object => ExtendedType::Object(self.type_of_definition(head)?),
+            TypeKind::Interface => ExtendedType::Interface(self.type_of_definition(head)?),
+            TypeKind::Union => ExtendedType::Union(self.type_of_definition(head)?),
+            TypeKind::Enum => ExtendedType::Enum(self.type_of_definition(head)?),
+            TypeKind::InputObject => ExtendedType::InputObject(self.type_of_definition(head)?),
+        })
     }
 
     /// Folds an extension in under the source's next identity, if it has the type's kind (section 3.4.3).

@@ -10,7 +10,7 @@
 pub mod adoption;
 pub mod builder_error;
 pub mod directive_definition;
-mod extension;
+pub mod extension;
 pub mod fold;
 pub mod from_ast;
 pub mod orphans;

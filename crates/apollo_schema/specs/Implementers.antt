@@ -5,16 +5,16 @@
 -- keys of the interface types, that declare it. They are in the order of the types, each once. The
 -- **implementers map** has them under each name that some type declares, in the order of the first
 -- declarations.
-use Rattle.std.specs.Prelude.{Bool, false, ◌&&◌, ◌||◌, List, map, filter, Option, None, Some}
+use Rattle.std.specs.Prelude.{Bool, false, ◌&&◌, ◌||◌, List, map, filter, Option, None, Some, IsSome}
 use Rattle.std.specs.List.{flat_map}
 use Rattle.graphql_nodes.specs.KeySets.{has_key}
 use Rattle.graphql_nodes.specs.NameView.{NameView}
 use Rattle.graphql_nodes.specs.SameText.{same_text}
 use Rattle.graphql_nodes.specs.Tables.{lookup, keys_of}
 use Rattle.apollo_component.specs.FirstOfEach.{first_of_each}
-use Rattle.apollo_types.specs.TypeKinds.{is_object, is_interface}
+use Rattle.apollo_types.specs.TypeKinds.{as_interface, is_object, is_interface}
 use Rattle.apollo_types.specs.declared.extended_type.ExtendedType.{ExtendedType}
-use Rattle.apollo_schema.specs.Lookups.{Types, declared_interfaces, declares}
+use Rattle.apollo_schema.specs.Lookups.{Types, type_at, node_if, declared_interfaces, declares}
 use Rattle.apollo_schema.specs.declared.implementers.Implementers.{Implementers}
 
 -- the names of the interfaces that a type declares
@@ -37,6 +37,10 @@ implementers_of types i =
 -- under each name that is declared, the types that declare it
 abbrev pub implementers_map : Types → List (NameView × Implementers)
 implementers_map types = map (λ i. (i, implementers_of types i)) (interfaces_declared types)
+
+-- the type of this name is an interface
+abbrev pub IsInterface : Types → NameView → Type 0
+IsInterface types i = IsSome (node_if as_interface (type_at types i))
 
 -- whether a name is one of an interface's implementers
 abbrev pub is_among : NameView → Option Implementers → Bool

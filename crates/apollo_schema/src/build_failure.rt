@@ -2,6 +2,7 @@
 //! 3.
 
 use crate::schema::Schema;
+use apollo_folding::builder_error::BuilderError;
 use apollo_meaning::build_error::Faults;
 use apollo_meaning::laws::clones_are_exact;
 use std::alloc::AllocError;
@@ -53,12 +54,12 @@ pub enum BuildFailure {
     #[error("{0}")]
     Faults(WithErrors<Schema>),
     /// Out of memory.
-    #[error("out of memory")]
+    #[error("{}", BuilderError::Memory)]
     Memory,
     /// The extensions that are folded would pass the largest number.
-    #[error("extension identities spent")]
+    #[error("{}", BuilderError::ExtensionIds)]
     ExtensionIds,
     /// A call of the builder was refused before, or of the one that it was cloned from.
-    #[error("builder has failed")]
+    #[error("{}", BuilderError::Failed)]
     Failed,
 }

@@ -8,7 +8,7 @@ ghost use Rattle.apollo_schema.specs.Noted.{no_implementers, with_implementer};
 use graphql_nodes::collections::hash_keys::HashKeys;
 use graphql_nodes::collections::key_set::KeySet;
 use graphql_nodes::name::Name;
-use graphql_nodes::take_apart;
+use graphql_nodes::{clone_fields, take_apart};
 use indexmap::set::Iter;
 use std::alloc::{AllocError, Global};
 use std::iter::FusedIterator;
@@ -32,10 +32,7 @@ impl Clone for Implementers {
 
     /// The same names, in the same order, with their locations. The error is out of memory.
     fn clone(&self) -> Result<Implementers, AllocError> {
-        Ok(Implementers {
-            objects: self.objects.clone()?,
-            interfaces: self.interfaces.clone()?,
-        })
+        clone_fields!(self: objects, interfaces)
     }
 }
 

@@ -1,16 +1,15 @@
 //! Laws of the definitions, for those who build on them. Also what `==` answers at schemas, at what lookups
 //! answer and at the errors of builders.
-ghost use Rattle.std.specs.Prelude.{◌≡◌, ◌⊎◌, ◌↔◌, ℕ, Bool, List, All, IsTrue, IsSome};
+ghost use Rattle.std.specs.Prelude.{◌≡◌, ◌⊎◌, ◌↔◌, ℕ, Bool, List, All, IsTrue};
 ghost use Rattle.apollo_meaning.specs.Completion.OrphanNames.{orphan_names};
 ghost use Rattle.apollo_meaning.specs.Items.ListItems.{Added, added_items};
 ghost use Rattle.apollo_schema.specs.BuilderStands.{Building, HasFailed, StandsFor};
 ghost use Rattle.apollo_schema.specs.EqualLookups.{bare_implementers, bare_field_lookup_error};
 ghost use Rattle.apollo_schema.specs.EqualSchemas.{AreEqualSchemas};
-ghost use Rattle.apollo_schema.specs.Implementers.{is_implementer};
-ghost use Rattle.apollo_schema.specs.Lookups.{Types, type_at, node_if, is_subtype};
+ghost use Rattle.apollo_schema.specs.Implementers.{IsInterface, is_implementer};
+ghost use Rattle.apollo_schema.specs.Lookups.{Types, is_subtype};
 ghost use Rattle.apollo_schema.specs.MeantSchema.{MeansSchema};
 ghost use Rattle.apollo_schema.specs.NamesLeft.{IsOrphanName};
-ghost use Rattle.apollo_types.specs.TypeKinds.{as_interface};
 ghost use Rattle.graphql_nodes.specs.Clones.{IsExact};
 ghost use Rattle.graphql_nodes.specs.Comparing.{ComparesBy, entries_by_text};
 ghost use Rattle.graphql_nodes.specs.NameView.{NameView};
@@ -73,15 +72,14 @@ pub fn clones_of_field_lookup_errors_are_exact<'schema>()
 /// sections 3.6 and 3.7.
 pub fn implementers()
     ensures { (types : Types) → HasUniqueKeys same_text types → (i t : NameView)
-        → IsSome (node_if as_interface (type_at types i))
-        → IsTrue (is_subtype types i t) ↔ IsTrue (is_implementer types i t) }
+        → IsInterface types i → IsTrue (is_subtype types i t) ↔ IsTrue (is_implementer types i t) }
 {}
 
 /// A type of a schema, whatever made it, is a subtype of an interface exactly where it is among the
 /// interface's implementers. Its table has no two types of one name. Contracts see a table as the list of its
 /// entries, which doesn't say so, but the table itself does.
 pub fn implementers_in_a_schema(schema: &Schema)
-    ensures { (i t : NameView) → IsSome (node_if as_interface (type_at schema.now.types i))
+    ensures { (i t : NameView) → IsInterface schema.now.types i
         → IsTrue (is_subtype schema.now.types i t) ↔ IsTrue (is_implementer schema.now.types i t) }
 {
     implementers();

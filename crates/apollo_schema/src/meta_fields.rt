@@ -13,7 +13,7 @@ use graphql_ast::type_system::{FieldDefinition, InputValueDefinition};
 use graphql_nodes::collections::items::Items;
 use graphql_nodes::name::Name;
 use graphql_nodes::node::Node;
-use graphql_nodes::take_apart;
+use graphql_nodes::{clone_fields, take_apart};
 use std::alloc::{AllocError, Global};
 use std::marker::Model;
 
@@ -133,10 +133,6 @@ impl Clone for MetaFields {
     ghost is_clone = { λ a b. b ≡ a };
 
     fn clone(&self) -> Result<MetaFields, AllocError> {
-        Ok(MetaFields {
-            typename: self.typename.clone()?,
-            schema: self.schema.clone()?,
-            type_by_name: self.type_by_name.clone()?,
-        })
+        clone_fields!(self: typename, schema, type_by_name)
     }
 }

@@ -24,6 +24,18 @@ use graphql_nodes::collections::key_set::KeySet;
 use graphql_nodes::collections::table::Table;
 use std::alloc::AllocError;
 
+/// A type of `Self` without its components, whose collections are named: the body of [`Kind::bare`].
+macro_rules! bare {
+    ($fold:ident, $head:ident $(, $field:ident: $collection:ident)*) => {
+        Ok(Self {
+            description: description_of($head)?,
+            name: $head.name.clone()?,
+            directives: DirectiveList::new($fold.alloc),
+            $($field: $collection::with_keys($fold.alloc, $fold.keys),)*
+        })
+    };
+}
+
 impl Kind for ScalarType {
     ghost kind = { kinds.Scalar };
 
@@ -32,11 +44,7 @@ impl Kind for ScalarType {
     ghost wrapped = { types.Scalar };
 
     fn bare(fold: &Fold, head: &TypeDeclarationRef<'_>) -> Result<Self, AllocError> {
-        Ok(ScalarType {
-            description: description_of(head)?,
-            name: head.name.clone()?,
-            directives: DirectiveList::new(fold.alloc),
-        })
+        bare!(fold, head)
     }
 
     fn fold(&mut self, part: &Part<'_>, _faults: &mut Items<Fault>) -> Result<(), AllocError> {
@@ -58,13 +66,7 @@ impl Kind for ObjectType {
     ghost wrapped = { types.Object };
 
     fn bare(fold: &Fold, head: &TypeDeclarationRef<'_>) -> Result<Self, AllocError> {
-        Ok(ObjectType {
-            description: description_of(head)?,
-            name: head.name.clone()?,
-            implements_interfaces: KeySet::with_keys(fold.alloc, fold.keys),
-            directives: DirectiveList::new(fold.alloc),
-            fields: Table::with_keys(fold.alloc, fold.keys),
-        })
+        bare!(fold, head, implements_interfaces: KeySet, fields: Table)
     }
 
     fn fold(&mut self, part: &Part<'_>, faults: &mut Items<Fault>) -> Result<(), AllocError> {
@@ -97,13 +99,7 @@ impl Kind for InterfaceType {
     ghost wrapped = { types.Interface };
 
     fn bare(fold: &Fold, head: &TypeDeclarationRef<'_>) -> Result<Self, AllocError> {
-        Ok(InterfaceType {
-            description: description_of(head)?,
-            name: head.name.clone()?,
-            implements_interfaces: KeySet::with_keys(fold.alloc, fold.keys),
-            directives: DirectiveList::new(fold.alloc),
-            fields: Table::with_keys(fold.alloc, fold.keys),
-        })
+        bare!(fold, head, implements_interfaces: KeySet, fields: Table)
     }
 
     fn fold(&mut self, part: &Part<'_>, faults: &mut Items<Fault>) -> Result<(), AllocError> {
@@ -136,12 +132,7 @@ impl Kind for UnionType {
     ghost wrapped = { types.Union };
 
     fn bare(fold: &Fold, head: &TypeDeclarationRef<'_>) -> Result<Self, AllocError> {
-        Ok(UnionType {
-            description: description_of(head)?,
-            name: head.name.clone()?,
-            directives: DirectiveList::new(fold.alloc),
-            members: KeySet::with_keys(fold.alloc, fold.keys),
-        })
+        bare!(fold, head, members: KeySet)
     }
 
     fn fold(&mut self, part: &Part<'_>, faults: &mut Items<Fault>) -> Result<(), AllocError> {
@@ -164,12 +155,7 @@ impl Kind for EnumType {
     ghost wrapped = { types.Enum };
 
     fn bare(fold: &Fold, head: &TypeDeclarationRef<'_>) -> Result<Self, AllocError> {
-        Ok(EnumType {
-            description: description_of(head)?,
-            name: head.name.clone()?,
-            directives: DirectiveList::new(fold.alloc),
-            values: Table::with_keys(fold.alloc, fold.keys),
-        })
+        bare!(fold, head, values: Table)
     }
 
     fn fold(&mut self, part: &Part<'_>, faults: &mut Items<Fault>) -> Result<(), AllocError> {
@@ -197,12 +183,7 @@ impl Kind for InputObjectType {
     ghost wrapped = { types.InputObject };
 
     fn bare(fold: &Fold, head: &TypeDeclarationRef<'_>) -> Result<Self, AllocError> {
-        Ok(InputObjectType {
-            description: description_of(head)?,
-            name: head.name.clone()?,
-            directives: DirectiveList::new(fold.alloc),
-            fields: Table::with_keys(fold.alloc, fold.keys),
-        })
+        bare!(fold, head, fields: Table)
     }
 
     fn fold(&mut self, part: &Part<'_>, faults: &mut Items<Fault>) -> Result<(), AllocError> {

@@ -1,7 +1,7 @@
--- What a definition does that neither defines nor extends a type, and what the settings leave.
-use Rattle.apollo_meaning.proofs.Prelude.{◌≡◌, false, List, [], ◌∷◌, refl, sym, ◌∙◌, arith, NodeView}
-use Rattle.apollo_meaning.proofs.Prelude.{Directives, directive_definitions, other_faults, Definition, Other}
-use Rattle.apollo_meaning.proofs.Prelude.{item_of, items_of, added, added_items, ◌⊎◌, inl, inr}
+-- What a definition does that neither defines nor extends a type.
+use Rattle.apollo_meaning.proofs.Prelude.{◌≡◌, [], ◌∷◌, refl, sym, ◌∙◌, arith, NodeView, Directives}
+use Rattle.apollo_meaning.proofs.Prelude.{directive_definitions, other_faults, Definition, Other, item_of}
+use Rattle.apollo_meaning.proofs.Prelude.{◌⊎◌, inl, inr}
 use Rattle.graphql_ast.specs.Declarations.{OfSchema, declaration_of}
 use Rattle.graphql_ast.specs.DeclarationsSeen.{declaration_seen}
 use Rattle.graphql_ast.specs.Definitions.{definition_location}
@@ -17,7 +17,6 @@ use Rattle.graphql_ast.specs.declared.type_system.SchemaDefinition.{SchemaDefini
 use Rattle.graphql_ast.specs.declared.type_system.SchemaExtension.{SchemaExtension}
 use Rattle.apollo_meaning.specs.declared.build_error.BuildError.TheVariants as errors
 use Rattle.graphql_ast.specs.declared.definition.Definition.TheVariants as ast
-use Rattle.apollo_meaning.specs.Items.ListItems.{ignorable_if}
 use Rattle.apollo_folding.specs.DeclaredParts.{item_seen}
 use Rattle.apollo_folding.proofs.DeclarationLemmas.{item-seen}
 
@@ -66,11 +65,3 @@ module _ (d : Definition) (undefined : (n : NodeView SchemaDefinition) → d ≡
       absurd (undirected n.now (declared (seen.Directive n) sees _ refl))
   executable-seen (seen.Operation n) sees untyped = inl (n.now, declared (seen.Operation n) sees _ refl)
   executable-seen (seen.Fragment n) sees untyped = inr (n.now, declared (seen.Fragment n) sees _ refl)
-
--- without the setting an item is what the definition says
-unset-item : (d : Definition) → ignorable_if false (item_of d) ≡ item_of d
-unset-item d = grind arith
-
-pub unset-items : (ds : List Definition) → added_items (added false ds) ≡ items_of ds
-unset-items [] = refl
-unset-items (d ∷ ds) = λ i. unset-item d i ∷ unset-items ds i

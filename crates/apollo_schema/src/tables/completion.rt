@@ -1,16 +1,17 @@
 //! The end of a list: what it leaves to adopt, to imply and to refuse, and the schema.
-ghost use Rattle.std.specs.Prelude.{◌≡◌, ◌≢◌, ℕ, ◌+◌, ◌≤◌, List, [], ◌++◌, Err, OnOk, IfOk, IfErr};
+ghost use Rattle.std.specs.Prelude.{◌≡◌, ◌≢◌, ℕ, ◌+◌, ◌≤◌, List, [], ◌∷◌, ◌++◌, Err, OnOk, IfOk, IfErr};
 ghost use Rattle.std.specs.Option.{unwrap_or};
 ghost use Rattle.apollo_component.specs.Extensions.{next_number, source_at};
 ghost use Rattle.apollo_meaning.specs.Items.ListItems.{schema_item, ListItem};
 ghost use Rattle.apollo_meaning.specs.Completion.Adoption.{with_adopted};
 ghost use Rattle.apollo_meaning.specs.Completion.ImpliedSchema.{implied_schema, completed};
 ghost use Rattle.apollo_schema.specs.MeantSchema.{MeansSchema, IsPartOf};
-ghost use Rattle.apollo_schema.specs.Takes.{Becomes, SpentOn, ForLists, ForCompleted};
+ghost use Rattle.apollo_schema.specs.Takes.{Becomes, Takes, SpentOn, SpentBy, ForLists, ForCompleted};
 ghost use Rattle.apollo_meaning.specs.Schema.Definition.{no_schema};
 ghost use Rattle.apollo_meaning.specs.Schema.Whole.{folds};
 ghost use Rattle.apollo_meaning.specs.Faults.ListFaults.{faults_of};
 ghost use Rattle.apollo_schema.specs.BuildAnswers.{IfFaults, failure_of, HasBuilt, WasRefused};
+ghost use Rattle.apollo_folding.specs.Adopting.{adopted_for, adopted_for_each};
 ghost use Rattle.apollo_folding.specs.Refusals.{RefusedAs};
 ghost use Rattle.apollo_schema.specs.Stands.{Stands, Ends, Completes};
 ghost use Rattle.apollo_meaning.specs.Order.SpentIds.{SpendsIds};
@@ -19,16 +20,42 @@ use crate::build_failure::{BuildFailure, WithErrors};
 use crate::schema::Schema;
 use crate::tables::Tables;
 use apollo_component::extension::ExtensionSource;
-use apollo_folding::adoption::{adopted_definitions, implied_definition};
+use apollo_folding::adoption::{adopted_from, first_extensions, implied_definition};
 use apollo_folding::builder_error::BuilderError;
+use apollo_folding::extension::extension_of;
 use apollo_folding::fold::Fold;
 use apollo_types::schema_definition::SchemaDefinition;
+use graphql_ast::definition::Definition;
 use graphql_ast::type_system as ast;
 use graphql_nodes::node::Node;
 use graphql_nodes::source::SourceMap;
 use std::alloc::{AllocError, Global};
 
 impl Tables {
+    /// Takes the empty definition by which this extension of a type is adopted.
+    fn adopt_one(&mut self, extension: &Definition) -> Result<(), BuilderError>
+        ensures stands { OnOk result (Takes self.old (adopted_for (extension.now ∷ [])) self.new) }
+        ensures refused { IfErr result (λ error.
+            RefusedAs error (SpentBy self.old (adopted_for (extension.now ∷ [])))) }
+    {
+        let Some(said) = extension_of(extension) else {
+            return Ok(());
+        };
+        self.define(&adopted_from(&said), false)
+    }
+
+    /// Takes the empty definitions by which these extensions of types are adopted, in order.
+    fn adopt_each(&mut self, firsts: &[Definition]) -> Result<(), BuilderError>
+        ensures stands { OnOk result (Takes self.old (adopted_for_each firsts.now) self.new) }
+        ensures refused { IfErr result (λ error.
+            RefusedAs error (SpentBy self.old (adopted_for_each firsts.now))) }
+    {
+        for extension in firsts {
+            self.adopt_one(extension)?;
+        }
+        Ok(())
+    }
+
     /// Takes an empty definition for each name that is extended only, where such names are adopted.
     fn adopt(&mut self, adopts: bool) -> Result<(), BuilderError>
         ensures stands { OnOk result (Becomes self.old (with_adopted adopts) self.new) }
@@ -37,8 +64,8 @@ impl Tables {
         if !adopts {
             return Ok(());
         }
-        let definitions = adopted_definitions(self.fold.alloc, &self.waiting)?;
-        self.take(definitions.as_slice(), false)?;
+        let firsts = first_extensions(self.fold.alloc, &self.waiting)?;
+        self.adopt_each(firsts.as_slice())?;
         Ok(())
     }
 
