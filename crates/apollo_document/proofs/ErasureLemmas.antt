@@ -43,18 +43,18 @@ module _ (s : Option Schema) where
   abbrev kept_in : List ast.Selection → NameView → List ast.Selection
   kept_in xs t = stripped s t xs
 
-  pub stripped-field : (ty : NameView) (f : ast_field.Field)
+  pub field_stripped : (ty : NameView) (f : ast_field.Field)
       → stripped_field s ty f ≡ if_typable (kept_field f.alias f.name f.arguments f.directives
       (kept_in f.selection_set)) (typable_field s ty f.name (is_bare f.selection_set))
-  stripped-field ty f =
+  field_stripped ty f =
       (λ i. folds.fold_out-Field SS SF SI strip_step (strip_field_step s) (strip_fragment_step s) f i ty)
       ∙ below-each each_stripped f.selection_set (kept_field f.alias f.name f.arguments f.directives)
       (typable_field s ty f.name)
 
-  pub stripped-fragment : (ty : NameView) (f : ast_inline.InlineFragment)
+  pub fragment_stripped : (ty : NameView) (f : ast_inline.InlineFragment)
       → stripped_inline_fragment s ty f ≡ if_typable (kept_fragment f.type_condition f.directives
       (kept_in f.selection_set)) (typable_fragment s ty f.type_condition)
-  stripped-fragment ty f = (λ i. folds.fold_out-InlineFragment SS SF SI strip_step (strip_field_step s)
+  fragment_stripped ty f = (λ i. folds.fold_out-InlineFragment SS SF SI strip_step (strip_field_step s)
       (strip_fragment_step s) f i ty) ∙ below-each each_stripped f.selection_set
       (kept_fragment f.type_condition f.directives) (λ _. typable_fragment s ty f.type_condition)
 
@@ -144,14 +144,14 @@ module _ (s : Option Schema) where
   field_same f h ty = ap (option_map erased_field) (elaborated-field s ty f) ∙ map-if_typable erased_field _ _
       (λ d. erased-typed_field f.alias f.name f.arguments f.directives (typed_in s f.selection_set) d
       ∙ (λ i. kept_field f.alias f.name f.arguments f.directives (λ t. h t i) d)) _
-      ∙ sym (stripped-field s ty f)
+      ∙ sym (field_stripped s ty f)
 
   fragment_same : (f : ast_inline.InlineFragment) → AreSame f.selection_set → (ty : NameView)
       → option_map erased_inline_fragment (elaborated_fragment s ty f) ≡ stripped_inline_fragment s ty f
   fragment_same f h ty = ap (option_map erased_inline_fragment) (elaborated-fragment s ty f)
       ∙ map-if_typable erased_inline_fragment _ _ (λ c. erased-typed_inline_fragment f.type_condition
       f.directives (typed_in s f.selection_set) c ∙ (λ i. kept_fragment f.type_condition f.directives
-      (λ t. h t i) c)) _ ∙ sym (stripped-fragment s ty f)
+      (λ t. h t i) c)) _ ∙ sym (fragment_stripped s ty f)
 
   of_field : (n : NodeView ast_field.Field) → AreSame n.value.selection_set → IsSame (field n)
   of_field n h ty = ap (option_map erased) (elaborated-roll ty _)
@@ -176,8 +176,8 @@ module _ (s : Option Schema) where
       (λ x others one rest t. map-cons_option erased _ _ ∙ (λ i. cons_option (one t i) (rest t i)))
       of_field of_spread of_inline xs ty
 
-  pub stripped-spread : (ty : NameView) (n : NodeView syntax_spread.FragmentSpread)
+  pub spread_stripped : (ty : NameView) (n : NodeView syntax_spread.FragmentSpread)
       → stripped_selection s ty (variant.FragmentSpread n) ≡ Some (variant.FragmentSpread n)
-  stripped-spread ty n = ap (stripped_selection s ty) (sym (variant.rolls-FragmentSpread n))
+  spread_stripped ty n = ap (stripped_selection s ty) (sym (variant.rolls-FragmentSpread n))
       ∙ rolled strip_step (strip_field_step s) (strip_fragment_step s) ty _
       ∙ ap Some (variant.rolls-FragmentSpread n)

@@ -2,13 +2,15 @@
 use Rattle.std.specs.Prelude.{◌≡◌, Bool, List, [], ◌++◌, Option, None, Some, refl}
 use Rattle.std.specs.Coded.{Coded, code_by, coded×, coded_bool, coded_list, coded_option}
 use Rattle.graphql_nodes.specs.Sources.{Files, merged}
-use Rattle.graphql_nodes.specs.declared.source.FileId.{FileId}
-use Rattle.graphql_nodes.specs.declared.source.SourceFile.{SourceFile}
-use Rattle.graphql_ast.specs.declared.definition.Definition.{Definition}
+use Rattle.graphql_nodes.specs.contracts.source.FileId as numbers
+use Rattle.graphql_nodes.specs.contracts.source.SourceFile as files
+use Rattle.graphql_ast.specs.contracts.definition.Definition as definitions
 use Rattle.graphql_ast.specs.declared.document.Document.{Document}
+use Rattle.apollo_schema.specs.contracts.schema.Schema as schemas
 use Rattle.apollo_schema.specs.declared.schema.Schema.{Schema}
 use Rattle.apollo_executable.specs.declared.document.ExecutableDocument.{ExecutableDocument}
-use Rattle.apollo_document.specs.AddedDefinitions.{DocumentItem, document_list}
+pub use Rattle.apollo_document.specs.AddedDefinitions.{DocumentItem}
+use Rattle.apollo_document.specs.AddedDefinitions.{document_list}
 use Rattle.apollo_document.specs.DocumentFaults.{document_faults}
 use Rattle.apollo_document.specs.Documents.{IsDocumentOf}
 use Rattle.apollo_document.specs.Typable.{Fault}
@@ -39,10 +41,11 @@ as_added-back (Open xs files) = refl
 as_added-back Failed = refl
 
 -- builders can be told apart, as all that a reference refers to has to be
-abbrev pub building_code : Coded Schema → Coded Definition → Coded FileId → Coded SourceFile → Coded Building
-building_code schema definition number file = code_by (Option Schema × Option (List DocumentItem × Files))
-    (coded× (coded_option schema)
-    (coded_option (coded× (coded_list (coded× coded_bool definition)) (coded_list (coded× number file)))))
+abbrev pub building_code : Coded Building
+building_code = code_by (Option Schema × Option (List DocumentItem × Files))
+    (coded× (coded_option schemas.the_row.coded)
+    (coded_option (coded× (coded_list (coded× coded_bool definitions.the_row.coded))
+    (coded_list (coded× numbers.the_row.coded files.the_row.coded)))))
     (λ b. (b.schema, as_added b.standing)) (λ p. record { schema = p.0; standing = from_added p.1 })
     (λ b i. record { schema = b.schema; standing = as_added-back b.standing i })
 

@@ -11,6 +11,7 @@ pub mod KeptDefinitions
 pub mod Noted
 pub mod Parents
 pub mod PathTexts
+pub mod Prelude
 pub mod SelectionFaults
 pub mod Stands
 pub mod Stripped

@@ -47,16 +47,11 @@ impl<'schema> Drop for ExecutableDocumentBuilder<'schema> {
 
 impl<'schema> Model for ExecutableDocumentBuilder<'schema> {
     ghost use Rattle.std.specs.Option.{option_copied};
-    ghost use Rattle.graphql_nodes.specs.contracts.source.FileId as number;
-    ghost use Rattle.graphql_nodes.specs.contracts.source.SourceFile as file;
-    ghost use Rattle.graphql_ast.specs.contracts.definition.Definition as definition;
-    ghost use Rattle.apollo_schema.specs.contracts.schema.Schema as schemas;
     ghost use Rattle.apollo_document.specs.BuilderStands.{Building, building_code};
 
     ghost Value = { Building };
 
-    ghost coded = { building_code schemas.the_row.coded definition.the_row.coded
-        number.the_row.coded file.the_row.coded };
+    ghost coded = { building_code };
 
     ghost use Rattle.apollo_document.specs.Stands.{HoldsFor, standing_of};
 

@@ -25,7 +25,6 @@ use graphql_ast::type_system::FieldDefinition;
 use graphql_nodes::collections::items::Items;
 use graphql_nodes::name::{Name, NamedType};
 use graphql_nodes::node::Node;
-use graphql_nodes::take_apart;
 use std::alloc::{AllocError, Global};
 
 /// What is typed of a node, if it is typable, where the node stands.
@@ -99,16 +98,11 @@ fn inline_fragment_over(
 
 /// Selections on their way to typed ones: where they stand, and what was found wrong so far. Each call leaves
 /// the path as it was, also out of memory.
+#[derive(Drop)]
 pub struct Elaboration {
     pub alloc: Global,
     pub path: SelectionPath,
     pub faults: Items<Fault>,
-}
-
-impl Drop for Elaboration {
-    fn drop(self) {
-        take_apart!(self: alloc, path, faults);
-    }
 }
 
 impl Elaboration {

@@ -14,25 +14,19 @@ use crate::selection_path::ExecutableDefinitionName;
 use apollo_executable::selection::SelectionSet;
 use apollo_schema::schema::Schema;
 use graphql_ast::selection as ast;
+use graphql_nodes::clone_fields;
 use graphql_nodes::collections::table::Table;
 use graphql_nodes::name::NamedType;
 use graphql_nodes::operation_type::OperationType;
 use graphql_nodes::source::SourceMap;
-use graphql_nodes::{clone_fields, take_apart};
 use std::alloc::{AllocError, Global};
 
 /// Selections from a type of a schema, without a definition around them, and the files that they come from. A
 /// clone is the original, with its sources; its error is out of memory.
-#[derive(Debug)]
+#[derive(Debug, Drop)]
 pub struct FieldSet {
     pub sources: SourceMap,
     pub selection_set: SelectionSet,
-}
-
-impl Drop for FieldSet {
-    fn drop(self) {
-        take_apart!(self: sources, selection_set);
-    }
 }
 
 impl Clone for FieldSet {

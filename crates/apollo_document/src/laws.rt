@@ -4,8 +4,7 @@
 ghost use Rattle.std.specs.Prelude.{◌≡◌, ◌⊎◌, Bool, true, List, Option};
 ghost use Rattle.std.specs.List.{AllByRecursion};
 ghost use Rattle.apollo_executable.specs.Listed.{listed};
-ghost use Rattle.apollo_document.specs.AddedDefinitions.{DocumentItem};
-ghost use Rattle.apollo_document.specs.BuilderStands.{Building, HasFailed, StandsFor};
+ghost use Rattle.apollo_document.specs.BuilderStands.{Building, DocumentItem, HasFailed, StandsFor};
 ghost use Rattle.apollo_document.specs.Documents.{IsDocumentOf};
 ghost use Rattle.apollo_document.specs.KeptDefinitions.{is_rooted, kept_anonymous, kept_named};
 ghost use Rattle.apollo_document.specs.WrittenAgain.{AreOneButSources, IsBuiltAgain, ambiguous_again};

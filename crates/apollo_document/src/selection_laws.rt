@@ -5,10 +5,6 @@
 ghost use Rattle.std.specs.Prelude.{◌≡◌, ◌⊎◌, ◌↔◌, Bool, true, false, List, [], Option, None, Some, Ok};
 ghost use Rattle.std.specs.Prelude.{option_map};
 ghost use Rattle.std.specs.List.{AllByRecursion};
-ghost use Rattle.graphql_nodes.specs.Clones.{IsExact};
-ghost use Rattle.graphql_nodes.specs.Comparing.{ComparesBy};
-ghost use Rattle.graphql_nodes.specs.NameView.{NameView};
-ghost use Rattle.graphql_nodes.specs.NodeView.{NodeView};
 ghost use Rattle.graphql_ast.specs.declared.selection.Field as syntax_field;
 ghost use Rattle.graphql_ast.specs.declared.selection.FragmentSpread as syntax_spread;
 ghost use Rattle.graphql_ast.specs.declared.selection.InlineFragment as syntax_fragment;
@@ -21,6 +17,7 @@ ghost use Rattle.apollo_executable.specs.Walks.FieldsIn.{fields_in};
 ghost use Rattle.apollo_document.specs.BareErrors.{bare_root, bare_path, bare_build_error};
 ghost use Rattle.apollo_document.specs.BareLeaves.{IsBareOnLeaf};
 ghost use Rattle.apollo_document.specs.Elaborated.{elaborated};
+ghost use Rattle.apollo_document.specs.Prelude.{ComparesBy, IsExact, NameView, NodeView};
 ghost use Rattle.apollo_document.specs.SelectionFaults.{faults_of_selections};
 ghost use Rattle.apollo_document.specs.Stripped.{kept_field, kept_fragment, stripped, stripped_field};
 ghost use Rattle.apollo_document.specs.Stripped.{stripped_inline_fragment, stripped_selection};
@@ -69,6 +66,7 @@ pub fn elaborated_sets()
 /// field is `UNKNOWN` (`any_field`). So a list is stripped. Each selection is so alone, a field from the
 /// inner type of its definition, an inline fragment from its child type (`stripped_field`,
 /// `stripped_fragment`). GraphQL specification of October 2021, sections 2.4 to 2.8.
+#[tactic(auto, using(crate::proofs::ErasureLemmas::field_stripped, crate::proofs::ErasureLemmas::fragment_stripped, crate::proofs::ErasureLemmas::spread_stripped))]
 pub fn what_is_typable()
     ensures field { (s : Schema) (ty name : NameView) (bare : Bool) (d : NodeView FieldDefinition)
         → (typable_field (Some s) ty name bare ≡ Ok d)

@@ -6,9 +6,7 @@ ghost use Rattle.std.specs.Option.{option_copied};
 ghost use Rattle.graphql_ast.specs.declared.definition.Definition.TheVariants as definitions;
 ghost use Rattle.apollo_schema.specs.declared.schema.Schema.{Schema};
 ghost use Rattle.apollo_document.specs.AddedDefinitions.{document_list};
-ghost use Rattle.apollo_document.specs.DocumentFaults.{after_anonymous, ambiguous, ambiguous_if};
-ghost use Rattle.apollo_document.specs.DocumentFaults.{faults_in_fragment, faults_in_operation};
-ghost use Rattle.apollo_document.specs.DocumentFaults.{type_system_faults};
+ghost use Rattle.apollo_document.specs.DocumentFaults as spec;
 ghost use Rattle.apollo_document.specs.Noted.{tables_noting};
 ghost use Rattle.apollo_document.specs.Stands.{Stands, StandsWith, fragment_if_typed, rooted_operation};
 ghost use Rattle.apollo_document.specs.Takes.{TakesDefinition};
@@ -31,11 +29,11 @@ use graphql_nodes::collections::table::Table;
 use graphql_nodes::name::Name;
 use graphql_nodes::node::Node;
 use graphql_nodes::source::{SourceMap, SourceSpan};
-use graphql_nodes::take_apart;
 use std::alloc::{AllocError, Global};
 
 /// What a builder of documents holds until it fails: the kept operations and fragments, typed, and the
 /// faults.
+#[derive(Drop)]
 pub struct Tables {
     pub alloc: Global,
     pub operations: OperationMap,
@@ -43,12 +41,6 @@ pub struct Tables {
     /// Whether an anonymous operation came after the kept one.
     pub multiple_anonymous: bool,
     pub faults: Items<Fault>,
-}
-
-impl Drop for Tables {
-    fn drop(self) {
-        take_apart!(self: alloc, operations, fragments, multiple_anonymous, faults);
-    }
 }
 
 impl Tables {
@@ -176,7 +168,7 @@ impl Tables {
         ensures built { IfOk result (λ operation. operation
             ≡ rooted_operation (option_copied schema.entry) node.now) }
         ensures faults { OnOk result (self.new
-            ≡ tables_noting (faults_in_operation (option_copied schema.entry) name node.now) self.old) }
+            ≡ tables_noting (spec.faults_in_operation (option_copied schema.entry) name node.now) self.old) }
     {
         let Some(root) = root_type(self.alloc, schema, node.operation_type)? else {
             let error = BuildError::UndefinedRootOperation {
@@ -201,7 +193,7 @@ impl Tables {
         ensures built { IfOk result (λ fragment. fragment
             ≡ fragment_if_typed (option_copied schema.entry) node.now) }
         ensures faults { OnOk result (self.new
-            ≡ tables_noting (faults_in_fragment (option_copied schema.entry) node.now) self.old) }
+            ≡ tables_noting (spec.faults_in_fragment (option_copied schema.entry) node.now) self.old) }
     {
         let ty = &node.type_condition;
         if !has_type(schema, ty) {
@@ -222,7 +214,7 @@ impl Tables {
 
     /// Notes that an anonymous operation at this location isn't the only one.
     fn note_ambiguous(&mut self, location: Option<SourceSpan>) -> Result<(), AllocError>
-        ensures { OnOk result (self.new ≡ tables_noting (ambiguous location ∷ []) self.old) }
+        ensures { OnOk result (self.new ≡ tables_noting (spec.ambiguous location ∷ []) self.old) }
     {
         self.faults
             .push((location, BuildError::AmbiguousAnonymousOperation))
@@ -231,7 +223,7 @@ impl Tables {
     /// Notes the anonymous operation, if there is one: another operation comes after it.
     fn note_kept(&mut self) -> Result<(), AllocError>
         ensures { OnOk result (self.new
-            ≡ tables_noting (ambiguous_if (option_map (λ o. o.location) self.old.operations.anonymous))
+            ≡ tables_noting (spec.ambiguous_if (option_map (λ o. o.location) self.old.operations.anonymous))
             self.old) }
     {
         if let Some(kept) = &self.operations.anonymous {
@@ -249,7 +241,7 @@ impl Tables {
         location: Option<SourceSpan>,
     ) -> Result<(), AllocError>
         ensures { OnOk result (self.new
-            ≡ tables_noting (after_anonymous self.old.multiple_anonymous kept location)
+            ≡ tables_noting (spec.after_anonymous self.old.multiple_anonymous kept location)
             (record self.old { multiple_anonymous = true })) }
     {
         if !self.multiple_anonymous {
@@ -266,7 +258,8 @@ impl Tables {
         type_system_definitions_are_errors: bool,
     ) -> Result<(), AllocError>
         ensures { OnOk result (self.new
-            ≡ tables_noting (type_system_faults type_system_definitions_are_errors definition.now) self.old) }
+            ≡ tables_noting
+            (spec.type_system_faults type_system_definitions_are_errors definition.now) self.old) }
     {
         if !type_system_definitions_are_errors {
             return Ok(());

@@ -7,9 +7,11 @@
 -- aliases, arguments, directives, variables and selections in order, and every location. A named fragment
 -- keeps its condition as the type of its set. A document is erased to its operations, then its fragments in
 -- order, without sources.
-use Rattle.std.specs.Prelude.{List, [], ◌++◌, map}
+use Rattle.std.specs.Prelude.{List, Option, [], ◌++◌, map}
 use Rattle.graphql_nodes.specs.NodeView.{NodeView}
 use Rattle.graphql_nodes.specs.Tables.{values_of}
+use Rattle.graphql_nodes.specs.declared.source.SourceSpan.{SourceSpan}
+use Rattle.graphql_ast.specs.Operations.{fragment_of, operation_of}
 use Rattle.graphql_ast.specs.declared.selection.Selection as ast
 use Rattle.graphql_ast.specs.declared.selection.Selection.TheOpen as layer
 use Rattle.graphql_ast.specs.declared.selection.Field as ast_field
@@ -106,22 +108,22 @@ erased_set = fold-SelectionSet ES EF EI EL selection_step field_step inline_step
 
 -- the untyped operation of a typed one
 abbrev pub erased_operation : Operation → OperationDefinition
-erased_operation o = record {
-  operation_type = o.operation_type;
-  name = o.name;
-  variables = o.variables;
-  directives = o.directives;
-  selection_set = erased_set o.selection_set;
-}
+erased_operation o =
+    operation_of o.operation_type o.name o.variables o.directives (erased_set o.selection_set)
+
+-- as a definition at this location, if one is given
+abbrev pub erased_operation_at : Option SourceSpan → Operation → Definition
+erased_operation_at location o =
+    d.OperationDefinition (record { value = erased_operation o; location = location })
 
 -- the untyped fragment of a typed one, whose condition is the type of its set
 abbrev pub erased_fragment : Fragment → FragmentDefinition
-erased_fragment f = record {
-  name = f.name;
-  type_condition = f.selection_set.ty;
-  directives = f.directives;
-  selection_set = erased_set f.selection_set;
-}
+erased_fragment f = fragment_of f.name f.selection_set.ty f.directives (erased_set f.selection_set)
+
+-- as a definition at this location, if one is given
+abbrev pub erased_fragment_at : Option SourceSpan → Fragment → Definition
+erased_fragment_at location f =
+    d.FragmentDefinition (record { value = erased_fragment f; location = location })
 
 -- the anonymous operation, the named ones, the fragments
 abbrev pub erased_definitions : ExecutableDocument → List Definition

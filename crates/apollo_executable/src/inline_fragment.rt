@@ -1,15 +1,14 @@
 //! Inline fragments and spreads: GraphQL specification of October 2021, section 2.8.
-ghost use Rattle.std.specs.Prelude.{◌≡◌, [], ◌∷◌, ◌++◌, IfOk};
+ghost use Rattle.std.specs.Prelude.{◌≡◌, IfOk};
 ghost use Rattle.std.specs.Option.{option_copied};
 ghost use Rattle.graphql_nodes.specs.SameText.{same_text};
 ghost use Rattle.graphql_nodes.specs.Tables.{lookup};
 ghost use Rattle.apollo_executable.specs.NewSelections.{inline_fragment_on, inline_fragment_in, new_spread};
 
-use crate::appending::append_directives;
 use crate::document::ExecutableDocument;
 use crate::operation::Fragment;
-use crate::selection::{FragmentSpread, InlineFragment, Selection, SelectionSet};
-use graphql_ast::directive::{Directive, DirectiveList};
+use crate::selection::{FragmentSpread, InlineFragment, SelectionSet};
+use graphql_ast::directive::DirectiveList;
 use graphql_nodes::name::{Name, NamedType};
 use graphql_nodes::node::Node;
 use std::alloc::{AllocError, Global};
@@ -45,61 +44,6 @@ impl InlineFragment {
             selection_set: SelectionSet::new(alloc, parent_selection_set_type),
         }
     }
-
-    /// The same inline fragment with one more directive at the end. The error is out of memory, and drops the
-    /// fragment.
-    pub fn with_directive(
-        mut self,
-        directive: Node<Directive>,
-    ) -> Result<InlineFragment, AllocError>
-        ensures { IfOk result (λ inline. inline
-            ≡ record self { directives = record { 0 = self.directives.0 ++ directive ∷ [] } }) }
-    {
-        self.directives.push(directive)?;
-        Ok(self)
-    }
-
-    /// The same inline fragment with these directives at the end. The error is out of memory, and drops the
-    /// fragment.
-    pub fn with_directives(
-        mut self,
-        directives: Vec<Node<Directive>>,
-    ) -> Result<InlineFragment, AllocError>
-        ensures { IfOk result (λ inline. inline
-            ≡ record self { directives = record { 0 = self.directives.0 ++ directives.items } }) }
-    {
-        append_directives(&mut self.directives, directives)?;
-        Ok(self)
-    }
-
-    /// The same inline fragment with one more selection at the end of its set. The error is out of memory,
-    /// and drops the fragment.
-    pub fn with_selection(mut self, selection: Selection) -> Result<InlineFragment, AllocError>
-        ensures { IfOk result (λ inline. inline
-            ≡ record self {
-              selection_set = record self.selection_set
-                  { selections = self.selection_set.selections ++ selection ∷ [] };
-            }) }
-    {
-        self.selection_set.push(selection)?;
-        Ok(self)
-    }
-
-    /// The same inline fragment with these selections at the end of its set. The error is out of memory, and
-    /// drops the fragment.
-    pub fn with_selections(
-        mut self,
-        selections: Vec<Selection>,
-    ) -> Result<InlineFragment, AllocError>
-        ensures { IfOk result (λ inline. inline
-            ≡ record self {
-              selection_set = record self.selection_set
-                  { selections = self.selection_set.selections ++ selections.items };
-            }) }
-    {
-        self.selection_set.extend(selections)?;
-        Ok(self)
-    }
 }
 
 impl FragmentSpread {
@@ -111,30 +55,6 @@ impl FragmentSpread {
             fragment_name,
             directives: DirectiveList::new(alloc),
         }
-    }
-
-    /// The same spread with one more directive at the end. The error is out of memory, and drops the spread.
-    pub fn with_directive(
-        mut self,
-        directive: Node<Directive>,
-    ) -> Result<FragmentSpread, AllocError>
-        ensures { IfOk result (λ spread. spread
-            ≡ record self { directives = record { 0 = self.directives.0 ++ directive ∷ [] } }) }
-    {
-        self.directives.push(directive)?;
-        Ok(self)
-    }
-
-    /// The same spread with these directives at the end. The error is out of memory, and drops the spread.
-    pub fn with_directives(
-        mut self,
-        directives: Vec<Node<Directive>>,
-    ) -> Result<FragmentSpread, AllocError>
-        ensures { IfOk result (λ spread. spread
-            ≡ record self { directives = record { 0 = self.directives.0 ++ directives.items } }) }
-    {
-        append_directives(&mut self.directives, directives)?;
-        Ok(self)
     }
 
     /// The fragment that is spread: the one that stands under the name's text in the document, if one does.

@@ -5,11 +5,9 @@
 //! there. That equal values have equal hashes is part of each type's `Hash`.
 ghost use Rattle.graphql_nodes.specs.Clones.{IsExact};
 ghost use Rattle.graphql_nodes.specs.Comparing.{ComparesBy};
-ghost use Rattle.apollo_executable.specs.BareSelections.{bare_selection, bare_field, bare_fragment_spread};
-ghost use Rattle.apollo_executable.specs.BareSelections.{bare_inline_fragment, bare_selection_set};
+ghost use Rattle.apollo_executable.specs.BareSelections as selections;
 ghost use Rattle.apollo_executable.specs.BareErrors.{bare_new_field_error, bare_request_error};
-ghost use Rattle.apollo_executable.specs.BareDocuments.{bare_operation, bare_fragment, bare_operation_map};
-ghost use Rattle.apollo_executable.specs.BareDocuments.{bare_document};
+ghost use Rattle.apollo_executable.specs.BareDocuments as documents;
 
 pub mod by_kind;
 pub mod calls_of_walks;
@@ -21,34 +19,26 @@ use crate::operation_map::OperationMap;
 use crate::request_error::RequestError;
 use crate::selection::{Field, FragmentSpread, InlineFragment, Selection, SelectionSet};
 use apollo_schema::laws::equality_of_lookups;
-use graphql_ast::laws as syntax;
 
 /// Typed selections are equal exactly where they are one without their locations: definitions of fields and
 /// types of sets count. GraphQL specification of October 2021, sections 2.4 to 2.8.
 pub fn equality_of_selections()
-    ensures selection { ComparesBy ⟦<Selection as PartialEq>⟧.eq bare_selection }
-    ensures field { ComparesBy ⟦<Field as PartialEq>⟧.eq bare_field }
-    ensures fragment_spread { ComparesBy ⟦<FragmentSpread as PartialEq>⟧.eq bare_fragment_spread }
-    ensures inline_fragment { ComparesBy ⟦<InlineFragment as PartialEq>⟧.eq bare_inline_fragment }
-    ensures selection_set { ComparesBy ⟦<SelectionSet as PartialEq>⟧.eq bare_selection_set }
-{
-    syntax::equality_of_values_and_directives();
-    syntax::equality_of_the_type_system();
-}
+    ensures selection { ComparesBy ⟦<Selection as PartialEq>⟧.eq selections.bare_selection }
+    ensures field { ComparesBy ⟦<Field as PartialEq>⟧.eq selections.bare_field }
+    ensures fragment_spread { ComparesBy ⟦<FragmentSpread as PartialEq>⟧.eq selections.bare_fragment_spread }
+    ensures inline_fragment { ComparesBy ⟦<InlineFragment as PartialEq>⟧.eq selections.bare_inline_fragment }
+    ensures selection_set { ComparesBy ⟦<SelectionSet as PartialEq>⟧.eq selections.bare_selection_set }
+{}
 
 /// Operations and fragments are equal exactly where they are one without their locations. Documents are equal
 /// exactly where they have equal operations and equal fragments under each name, in any order: the sources
 /// are left out. GraphQL specification of October 2021, sections 2.2, 2.3 and 2.8.
 pub fn equality_of_documents()
-    ensures operation { ComparesBy ⟦<Operation as PartialEq>⟧.eq bare_operation }
-    ensures fragment { ComparesBy ⟦<Fragment as PartialEq>⟧.eq bare_fragment }
-    ensures operation_map { ComparesBy ⟦<OperationMap as PartialEq>⟧.eq bare_operation_map }
-    ensures document { ComparesBy ⟦<ExecutableDocument as PartialEq>⟧.eq bare_document }
-{
-    syntax::equality_of_values_and_directives();
-    syntax::equality_of_documents();
-    equality_of_selections();
-}
+    ensures operation { ComparesBy ⟦<Operation as PartialEq>⟧.eq documents.bare_operation }
+    ensures fragment { ComparesBy ⟦<Fragment as PartialEq>⟧.eq documents.bare_fragment }
+    ensures operation_map { ComparesBy ⟦<OperationMap as PartialEq>⟧.eq documents.bare_operation_map }
+    ensures document { ComparesBy ⟦<ExecutableDocument as PartialEq>⟧.eq documents.bare_document }
+{}
 
 /// Errors of requests are equal exactly where they are of one sort and their names have one text. Those of
 /// new fields are where their sorts and texts are the same, and their types are equal as `==` of types says.

@@ -10,7 +10,7 @@
 //! Not proved: that `is_introspection` looks at nothing after the first other field, which a test shows.
 #![tactic(auto)]
 
-mod appending;
+mod adding;
 pub mod document;
 mod field;
 pub mod fields;

@@ -6,17 +6,17 @@ ghost use Rattle.graphql_nodes.specs.declared.operation_type.OperationType.TheVa
 use crate::selection::SelectionSet;
 use graphql_ast::directive::DirectiveList;
 use graphql_ast::operation::VariableDefinition;
+use graphql_nodes::clone_fields;
 use graphql_nodes::collections::items::Items;
 use graphql_nodes::name::{Name, NamedType};
 use graphql_nodes::node::Node;
 use graphql_nodes::operation_type::OperationType;
-use graphql_nodes::{clone_fields, take_apart};
 use std::alloc::AllocError;
 
 /// A query, mutation or subscription, anonymous where it has no name (section 2.3).
 ///
 /// Equality leaves out locations. A clone is the original, with them; its error is out of memory.
-#[derive(Debug, PartialEq, Eq)]
+#[derive(Debug, Drop, PartialEq, Eq)]
 pub struct Operation {
     pub operation_type: OperationType,
     pub name: Option<Name>,
@@ -25,39 +25,21 @@ pub struct Operation {
     pub selection_set: SelectionSet,
 }
 
-impl Drop for Operation {
-    fn drop(self) {
-        take_apart!(self: operation_type, name, variables, directives, selection_set);
-    }
-}
-
 /// A named fragment (section 2.8). Its type condition is the type of its selection set.
 ///
 /// Equality leaves out locations. A clone is the original, with them; its error is out of memory.
-#[derive(Debug, PartialEq, Eq)]
+#[derive(Debug, Drop, PartialEq, Eq)]
 pub struct Fragment {
     pub name: Name,
     pub directives: DirectiveList,
     pub selection_set: SelectionSet,
 }
 
-impl Drop for Fragment {
-    fn drop(self) {
-        take_apart!(self: name, directives, selection_set);
-    }
-}
-
 impl Clone for Operation {
     ghost is_clone = { λ a b. b ≡ a };
 
     fn clone(&self) -> Result<Operation, AllocError> {
-        Ok(Operation {
-            operation_type: self.operation_type,
-            name: self.name.clone()?,
-            variables: self.variables.clone()?,
-            directives: self.directives.clone()?,
-            selection_set: self.selection_set.clone()?,
-        })
+        clone_fields!(self: operation_type, name, variables, directives, selection_set)
     }
 }
 

@@ -90,6 +90,13 @@ impl Drop for InlineFragment {
     }
 }
 
+/// A clone of a selection by its kinds, which are named. The error is out of memory.
+macro_rules! clone_kind {
+    ($selection:ident of $($kind:ident),*) => {
+        match $selection { $(Self::$kind(node) => Ok(Self::$kind(node.clone()?)),)* }
+    };
+}
+
 impl Clone for SelectionSet {
     ghost is_clone = { λ a b. b ≡ a };
 
@@ -102,11 +109,7 @@ impl Clone for Selection {
     ghost is_clone = { λ a b. b ≡ a };
 
     fn clone(&self) -> Result<Selection, AllocError> {
-        match self {
-            Selection::Field(node) => Ok(Selection::Field(node.clone()?)),
-            Selection::FragmentSpread(node) => Ok(Selection::FragmentSpread(node.clone()?)),
-            Selection::InlineFragment(node) => Ok(Selection::InlineFragment(node.clone()?)),
-        }
+        clone_kind!(self of Field, FragmentSpread, InlineFragment)
     }
 }
 

@@ -1,8 +1,8 @@
 //! Selections by their kinds: GraphQL specification of October 2021, section 2.4.
-ghost use Rattle.std.specs.Prelude.{◌≡◌, None, IfOk};
+ghost use Rattle.std.specs.Prelude.{◌≡◌, IfOk};
 ghost use Rattle.std.specs.Option.{option_copied};
 ghost use Rattle.apollo_executable.specs.SelectionParts.{as_field, as_fragment_spread, as_inline_fragment};
-ghost use Rattle.apollo_executable.specs.SelectionParts.{directives_of};
+ghost use Rattle.apollo_executable.specs.SelectionParts.{directives_of, in_no_file};
 ghost use Rattle.apollo_executable.specs.declared.selection.Selection as selections;
 
 use crate::selection::{Field, FragmentSpread, InlineFragment, Selection};
@@ -12,34 +12,25 @@ use std::alloc::{AllocError, Global};
 
 impl Selection {
     /// A selection of this field, without a location. The error is out of memory, and drops the field.
-    pub fn of_field(alloc: Global, field: Field) -> Result<Selection, AllocError>
-        ensures { IfOk result (λ selection. selection
-            ≡ selections.Field (record { value = field; location = None })) }
+    pub fn of_field(alloc: Global, field: Field) -> Result<Self, AllocError>
+        ensures { IfOk result (λ selection. selection ≡ selections.Field (in_no_file field)) }
     {
         Ok(Selection::Field(Node::new(alloc, field)?))
     }
 
     /// A selection of this inline fragment, without a location. The error is out of memory, and drops the
     /// fragment.
-    pub fn of_inline_fragment(
-        alloc: Global,
-        inline_fragment: InlineFragment,
-    ) -> Result<Selection, AllocError>
-        ensures { IfOk result (λ selection. selection
-            ≡ selections.InlineFragment (record { value = inline_fragment; location = None })) }
+    pub fn of_inline_fragment(alloc: Global, inline: InlineFragment) -> Result<Self, AllocError>
+        ensures { IfOk result (λ selection. selection ≡ selections.InlineFragment (in_no_file inline)) }
     {
-        Ok(Selection::InlineFragment(Node::new(alloc, inline_fragment)?))
+        Ok(Selection::InlineFragment(Node::new(alloc, inline)?))
     }
 
     /// A selection of this spread, without a location. The error is out of memory, and drops the spread.
-    pub fn of_fragment_spread(
-        alloc: Global,
-        fragment_spread: FragmentSpread,
-    ) -> Result<Selection, AllocError>
-        ensures { IfOk result (λ selection. selection
-            ≡ selections.FragmentSpread (record { value = fragment_spread; location = None })) }
+    pub fn of_fragment_spread(alloc: Global, spread: FragmentSpread) -> Result<Self, AllocError>
+        ensures { IfOk result (λ selection. selection ≡ selections.FragmentSpread (in_no_file spread)) }
     {
-        Ok(Selection::FragmentSpread(Node::new(alloc, fragment_spread)?))
+        Ok(Selection::FragmentSpread(Node::new(alloc, spread)?))
     }
 
     /// The directives of the selection.

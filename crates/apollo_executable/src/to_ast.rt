@@ -3,10 +3,9 @@
 //! The definitions of fields and the types of sets are left out, but the condition of a named fragment is the
 //! type of its set. All else stays, with every location.
 ghost use Rattle.std.specs.Prelude.{◌≡◌, ◌≢◌, [], IfOk, OnErr};
-ghost use Rattle.graphql_ast.specs.declared.definition.Definition.TheVariants as definitions;
 ghost use Rattle.apollo_executable.specs.Erasure.{erased, erased_field, erased_inline_fragment};
-ghost use Rattle.apollo_executable.specs.Erasure.{erased_spread, erased_set, erased_operation};
-ghost use Rattle.apollo_executable.specs.Erasure.{erased_fragment, erased_definitions, erased_document};
+ghost use Rattle.apollo_executable.specs.Erasure.{erased_spread, erased_set, erased_operation_at};
+ghost use Rattle.apollo_executable.specs.Erasure.{erased_fragment_at, erased_definitions, erased_document};
 
 use crate::document::ExecutableDocument;
 use crate::operation::{Fragment, Operation};
@@ -139,9 +138,7 @@ impl Operation {
         alloc: Global,
         location: Option<SourceSpan>,
     ) -> Result<Definition, AllocError>
-        ensures { IfOk result (λ written. written
-            ≡ definitions.OperationDefinition
-            (record { value = erased_operation self.now; location = location })) }
+        ensures { IfOk result (λ written. written ≡ erased_operation_at location self.now) }
     {
         let definition = OperationDefinition {
             operation_type: self.operation_type,
@@ -163,9 +160,7 @@ impl Fragment {
         alloc: Global,
         location: Option<SourceSpan>,
     ) -> Result<Definition, AllocError>
-        ensures { IfOk result (λ written. written
-            ≡ definitions.FragmentDefinition
-            (record { value = erased_fragment self.now; location = location })) }
+        ensures { IfOk result (λ written. written ≡ erased_fragment_at location self.now) }
     {
         let definition = FragmentDefinition {
             name: self.name.clone()?,

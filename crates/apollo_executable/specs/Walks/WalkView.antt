@@ -25,6 +25,12 @@ pub record WalkView : Type 0 where
   -- the turns so far
   pub taken : ℕ
 
+-- the view that has these parts
+abbrev pub walk_view : Bool → ExecutableDocument → SelectionSet → List (NodeView Field) → List (List ℕ) → Bool
+    → ℕ → WalkView
+walk_view b d s c o e t =
+    record { deep = b; document = d; start = s; coming = c; opened = o; ended = e; taken = t }
+
 -- such views can be told apart, as all that a reference refers to has to be
 abbrev pub walk_view_code : Coded ExecutableDocument → Coded SelectionSet → Coded (NodeView Field)
     → Coded WalkView
@@ -35,15 +41,7 @@ walk_view_code document set field =
     (coded× set (coded× (coded_list field)
     (coded× (coded_list (coded_list coded_ℕ)) (coded× coded_bool coded_ℕ))))))
     (λ w. (w.deep, (w.document, (w.start, (w.coming, (w.opened, (w.ended, w.taken)))))))
-    (λ p. record {
-      deep = p.0;
-      document = p.1.0;
-      start = p.1.1.0;
-      coming = p.1.1.1.0;
-      opened = p.1.1.1.1.0;
-      ended = p.1.1.1.1.1.0;
-      taken = p.1.1.1.1.1.1;
-    }) (λ _. refl)
+    (λ p. walk_view p.0 p.1.0 p.1.1.0 p.1.1.1.0 p.1.1.1.1.0 p.1.1.1.1.1.0 p.1.1.1.1.1.1) (λ _. refl)
 
 -- the fields are those of a whole walk over the set. Each one that is reached is there exactly as often as it
 -- stands there, in the order of walks. Where `deep` is false, it is a walk over root fields

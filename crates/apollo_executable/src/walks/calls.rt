@@ -7,6 +7,7 @@ use crate::document::ExecutableDocument;
 use crate::operation::Operation;
 use crate::selection::{Field, SelectionSet};
 use crate::walks::field_walk::{AllFields, FieldWalk, RootFields};
+use crate::walks::walk::Walk;
 use graphql_nodes::node::Node;
 use std::alloc::{AllocError, Global};
 
@@ -33,7 +34,9 @@ impl SelectionSet {
     ) -> RootFields<'doc>
         ensures { IsNewWalk false document.now self.now result }
     {
-        RootFields::new(alloc, document, self, false)
+        RootFields {
+            walk: Walk::new(alloc, document, self, false),
+        }
     }
 
     /// A walk over all fields that this set reaches, through fragments and below fields: each field comes
@@ -48,7 +51,9 @@ impl SelectionSet {
     ) -> AllFields<'doc>
         ensures { IsNewWalk true document.now self.now result }
     {
-        AllFields::new(alloc, document, self, true)
+        AllFields {
+            walk: Walk::new(alloc, document, self, true),
+        }
     }
 
     /// The fields of a whole walk over root fields, in order, as [`root_fields`](SelectionSet::root_fields)

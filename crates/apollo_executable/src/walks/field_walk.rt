@@ -2,26 +2,26 @@
 ghost use Rattle.std.specs.Prelude.{◌≡◌, ◌-◌, ◌^◌, min};
 ghost use Rattle.std.specs.Iterator.{at_most};
 ghost use Rattle.apollo_executable.specs.Walks.NextItem.{IsNext, most_items};
-ghost use Rattle.apollo_executable.specs.Walks.WalkView.{IsNewWalk, IsWithinTurns};
+ghost use Rattle.apollo_executable.specs.Walks.WalkView.{IsWithinTurns};
 
-use crate::document::ExecutableDocument;
-use crate::selection::{Field, SelectionSet};
+use crate::selection::Field;
 use crate::walks::walk::Walk;
 use graphql_nodes::node::Node;
-use std::alloc::{AllocError, Global};
+use std::alloc::AllocError;
 use std::iter::FusedIterator;
 use std::marker::Model;
 
 /// A walk over the fields that a selection set reaches, through inline fragments and named ones.
-/// [`RootFields`] and [`AllFields`] name its two sorts, which [`SelectionSet::root_fields`] and
-/// [`SelectionSet::all_fields`] make.
+/// [`RootFields`] and [`AllFields`] name its two sorts, which
+/// [`root_fields`](crate::selection::SelectionSet::root_fields) and
+/// [`all_fields`](crate::selection::SelectionSet::all_fields) make.
 ///
 /// A fragment is opened at the first spread of its name, and spreads of names without a fragment are passed
 /// over. An item may be the one error, that memory ran out. Nothing comes after it, and what came before is a
 /// beginning of what the walk gives with memory. Contracts see what is still to come.
 #[derive(Drop)]
 pub struct FieldWalk<'doc> {
-    walk: Walk<'doc>,
+    pub(crate) walk: Walk<'doc>,
 }
 
 /// A walk over root fields: it goes through fragments, but below no field. GraphQL specification of October
@@ -49,20 +49,6 @@ impl<'doc> Model for FieldWalk<'doc> {
 }
 
 impl<'doc> FieldWalk<'doc> {
-    /// A walk over this set, which goes below fields if it is `deep`.
-    pub(crate) fn new(
-        alloc: Global,
-        document: &'doc ExecutableDocument,
-        set: &'doc SelectionSet,
-        deep: bool,
-    ) -> FieldWalk<'doc>
-        ensures { IsNewWalk deep document.now set.now result }
-    {
-        FieldWalk {
-            walk: Walk::new(alloc, document, set, deep),
-        }
-    }
-
     /// The turns so far, or `u64::MAX` where they are more. A turn is one look at the innermost open list:
     /// one selection taken, or one list found empty and closed.
     ///
