@@ -154,7 +154,7 @@ pub use Rattle.apollo_document.proofs.Equations.{elaborated-field, elaborated-fr
 pub use Rattle.apollo_document.proofs.Equations.{faults-fragment, is_bare-map, typed_in}
 pub use Rattle.apollo_document.proofs.ErasureLemmas.{elaborated-roll, erased-typed-field}
 pub use Rattle.apollo_document.proofs.ErasureLemmas.{erased-typed-fragment, erased-typed-spread}
-pub use Rattle.apollo_document.proofs.ErasureLemmas.{stripped-field, stripped-fragment}
+pub use Rattle.apollo_document.proofs.ErasureLemmas.{field_stripped, fragment_stripped}
 pub use Rattle.apollo_document.specs.AddedDefinitions.{DocumentItem, as_fragment, as_operation, document_list}
 pub use Rattle.apollo_document.specs.AddedDefinitions.{fragment_in, fragments, operation_in, operations}
 pub use Rattle.apollo_document.specs.BareErrors.{bare_build_error, bare_path, bare_root}

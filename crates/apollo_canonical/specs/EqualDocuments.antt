@@ -10,7 +10,7 @@ use Rattle.apollo_executable.specs.declared.document.ExecutableDocument.{Executa
 use Rattle.apollo_document.specs.BareErrors.{bare_build_error}
 use Rattle.apollo_document.specs.Typable.{Fault}
 use Rattle.apollo_document.specs.declared.build_error.BuildError.{BuildError}
-use Rattle.apollo_document.specs.AddedDefinitions.{DocumentItem}
+pub use Rattle.apollo_document.specs.AddedDefinitions.{DocumentItem}
 
 -- a definition without locations, and whether one of the type system was at fault when it was added
 abbrev pub bare_item : DocumentItem → DocumentItem

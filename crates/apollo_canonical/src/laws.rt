@@ -5,7 +5,6 @@ ghost use Rattle.apollo_schema.specs.SchemaWriteOut.{write_schema};
 ghost use Rattle.apollo_schema.specs.declared.schema.Schema.{Schema};
 ghost use Rattle.apollo_executable.specs.Erasure.{erased_definitions};
 ghost use Rattle.apollo_executable.specs.declared.document.ExecutableDocument.{ExecutableDocument};
-ghost use Rattle.apollo_document.specs.AddedDefinitions.{DocumentItem};
 ghost use Rattle.apollo_document.specs.DocumentFaults.{document_faults};
 ghost use Rattle.apollo_document.specs.Documents.{IsDocumentOf};
 ghost use Rattle.apollo_canonical.specs.SchemaTexts.{BuildAgain, IsBuiltOfTexts, IsReadingOf, Reading, Reads};
@@ -13,26 +12,42 @@ ghost use Rattle.apollo_canonical.specs.SchemaTextLaws.{TextLaws};
 ghost use Rattle.apollo_canonical.specs.FilledSets.{IsFilledDocument};
 ghost use Rattle.apollo_canonical.specs.DocumentTextLaws.{DocumentTextLaws, ListLaws};
 ghost use Rattle.apollo_canonical.specs.EqualDocuments.{AreEqualDocuments, AreEqualInOrder, AreEqualItems};
-ghost use Rattle.apollo_canonical.specs.EqualDocuments.{bare_faults};
+ghost use Rattle.apollo_canonical.specs.EqualDocuments.{DocumentItem, bare_faults};
 ghost use Rattle.apollo_canonical.specs.DocumentTexts.{BuildDocumentAgain, IsDocumentOfTexts};
 ghost use Rattle.apollo_canonical.specs.DocumentTexts.{IsReadingOfDocument, document_text};
+
+use crate::well_formed::{
+    a_write_out_is_well_formed, documents_are_well_formed_by_their_definitions,
+};
+use crate::well_formed_documents::{
+    an_erased_document_is_well_formed, executables_are_well_formed_by_their_definitions,
+};
+use apollo_document::laws::{document_again, every_list_means_a_document};
+use apollo_document::selection_laws::elaborated_sets;
+use apollo_meaning::laws::{folded_extensions, folded_schema_extensions};
+use apollo_schema::laws::every_list_means_a_schema;
+use apollo_schema_laws::rearranged_builds::equal_lists;
+use apollo_schema_laws::write_out::canonical;
+use graphql_productions::laws::trees::{no_location_is_built_in, trees_of_words_are_well_formed};
+use graphql_productions::laws::words_spell_one_tree;
+use graphql_round_trip::laws::{equal_trees_have_one_text, texts_are_read_again};
 
 /// What the law of the texts of schemas takes from the laws below.
 fn schemas_below()
     ensures { TextLaws }
 {
-    apollo_schema_laws::write_out::canonical();
-    apollo_schema_laws::rearranged_builds::equal_lists();
-    apollo_meaning::laws::folded_extensions();
-    apollo_meaning::laws::folded_schema_extensions();
-    apollo_schema::laws::every_list_means_a_schema();
-    crate::well_formed::a_write_out_is_well_formed();
-    crate::well_formed::documents_are_well_formed_by_their_definitions();
-    graphql_productions::laws::words_spell_one_tree();
-    graphql_productions::laws::trees::no_location_is_built_in();
-    graphql_productions::laws::trees::trees_of_words_are_well_formed();
-    graphql_round_trip::laws::texts_are_read_again();
-    graphql_round_trip::laws::equal_trees_have_one_text();
+    canonical();
+    equal_lists();
+    folded_extensions();
+    folded_schema_extensions();
+    every_list_means_a_schema();
+    a_write_out_is_well_formed();
+    documents_are_well_formed_by_their_definitions();
+    words_spell_one_tree();
+    no_location_is_built_in();
+    trees_of_words_are_well_formed();
+    texts_are_read_again();
+    equal_trees_have_one_text();
 }
 
 /// From text to text. Texts that are read make a schema, under any options, whole or what could be built of
@@ -56,8 +71,8 @@ pub fn canonical_text()
 fn lists_below()
     ensures { ListLaws }
 {
-    apollo_document::selection_laws::elaborated_sets();
-    graphql_round_trip::laws::equal_trees_have_one_text();
+    elaborated_sets();
+    equal_trees_have_one_text();
 }
 
 /// What the law of the texts of documents takes from the laws below.
@@ -65,13 +80,13 @@ fn documents_below()
     ensures { DocumentTextLaws }
 {
     lists_below();
-    apollo_document::laws::document_again();
-    apollo_document::laws::every_list_means_a_document();
-    crate::well_formed_documents::an_erased_document_is_well_formed();
-    crate::well_formed_documents::executables_are_well_formed_by_their_definitions();
-    graphql_productions::laws::words_spell_one_tree();
-    graphql_productions::laws::trees::trees_of_words_are_well_formed();
-    graphql_round_trip::laws::texts_are_read_again();
+    document_again();
+    every_list_means_a_document();
+    an_erased_document_is_well_formed();
+    executables_are_well_formed_by_their_definitions();
+    words_spell_one_tree();
+    trees_of_words_are_well_formed();
+    texts_are_read_again();
 }
 
 /// Take two lists of definitions that are equal but for locations, and were added in the same way. They mean

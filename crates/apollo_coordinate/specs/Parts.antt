@@ -1,6 +1,6 @@
 -- The parts of a text, borrowed from it: the coordinate that they make, and its names at no location. Also
 -- the error that a refusal is answered as, where there is memory for it. Schema Coordinates RFC.
-use Rattle.std.specs.Prelude.{◌≡◌, None, Result, Ok, Err}
+use Rattle.std.specs.Prelude.{◌≡◌, ℕ, List, None, Result, Ok, Err}
 use Rattle.graphql_nodes.specs.NameView.{plain_name}
 use Rattle.apollo_coordinate.specs.declared.coordinates.TypeAttributeCoordinate.{TypeAttributeCoordinate}
 use Rattle.apollo_coordinate.specs.declared.coordinates.FieldArgumentCoordinate.{FieldArgumentCoordinate}
@@ -18,6 +18,7 @@ use Rattle.apollo_coordinate.specs.declared.text_parts.Parts.{Parts}
 use Rattle.apollo_coordinate.specs.declared.text_parts.Parts.TheVariants as parts
 use Rattle.apollo_coordinate.specs.declared.refusal.Refusal.{Refusal}
 use Rattle.apollo_coordinate.specs.declared.refusal.Refusal.TheVariants as refusals
+use Rattle.apollo_coordinate.specs.CoordinateText.{SaysCoordinate}
 use Rattle.apollo_coordinate.specs.Refusals.{WhenRefused}
 
 -- the attribute's coordinate that these parts make
@@ -45,6 +46,22 @@ coordinate_of (parts.TypeAttribute p) = any.TypeAttribute (attribute_of p)
 coordinate_of (parts.FieldArgument p) = any.FieldArgument (field_argument_of p)
 coordinate_of (parts.Directive part) = any.Directive (record { directive = plain_name part.now })
 coordinate_of (parts.DirectiveArgument p) = any.DirectiveArgument (directive_argument_of p)
+
+-- what a text says, if it is of a form and has these parts
+abbrev pub SaysDirective : List ℕ → List ℕ → Type 0
+SaysDirective t part = SaysCoordinate t (any.Directive (record { directive = plain_name part }))
+
+abbrev pub SaysAttribute : List ℕ → AttributeParts → Type 0
+SaysAttribute t p = SaysCoordinate t (any.TypeAttribute (attribute_of p))
+
+abbrev pub SaysFieldArgument : List ℕ → FieldArgumentParts → Type 0
+SaysFieldArgument t p = SaysCoordinate t (any.FieldArgument (field_argument_of p))
+
+abbrev pub SaysDirectiveArgument : List ℕ → DirectiveArgumentParts → Type 0
+SaysDirectiveArgument t p = SaysCoordinate t (any.DirectiveArgument (directive_argument_of p))
+
+abbrev pub SaysParts : List ℕ → Parts → Type 0
+SaysParts t p = SaysCoordinate t (coordinate_of p)
 
 -- the error that a refusal is answered as
 abbrev pub error_of : Refusal → SchemaCoordinateParseError

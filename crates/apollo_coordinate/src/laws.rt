@@ -3,14 +3,9 @@
 //! specification of October 2021.
 ghost use Rattle.std.specs.Prelude.{◌≡◌, ℕ, List, Result};
 ghost use Rattle.apollo_coordinate.specs.BareLookups.{bare_attribute_lookup, bare_lookup};
-ghost use Rattle.apollo_coordinate.specs.CoordinateText.{IsTypeText, IsAttributeText, IsFieldArgumentText};
-ghost use Rattle.apollo_coordinate.specs.CoordinateText.{IsDirectiveText, IsDirectiveArgumentText};
-ghost use Rattle.apollo_coordinate.specs.CoordinateText.{IsCoordinateText, HasNames, SaysCoordinate};
-ghost use Rattle.apollo_coordinate.specs.CoordinateText.{coordinate_text, bare_coordinate};
-ghost use Rattle.apollo_coordinate.specs.CoordinateText.{bare_type_coordinate, bare_attribute_coordinate};
-ghost use Rattle.apollo_coordinate.specs.CoordinateText.{bare_field_argument_coordinate};
-ghost use Rattle.apollo_coordinate.specs.CoordinateText.{bare_directive_coordinate};
-ghost use Rattle.apollo_coordinate.specs.CoordinateText.{bare_directive_argument_coordinate};
+ghost use Rattle.apollo_coordinate.specs.CoordinateText as texts;
+ghost use Rattle.apollo_coordinate.specs.CoordinateText.{HasNames, IsCoordinateText, SaysCoordinate};
+ghost use Rattle.apollo_coordinate.specs.CoordinateText.{bare_coordinate, coordinate_text};
 ghost use Rattle.apollo_coordinate.specs.Refusals.{IsNoName, IsNoAttribute, IsNoFieldArgument, IsNoDirective};
 ghost use Rattle.apollo_coordinate.specs.Refusals.{IsNoDirectiveArgument};
 ghost use Rattle.apollo_coordinate.specs.Readings.{IsReadingOf, IsReadBack};
@@ -39,26 +34,27 @@ pub fn coordinates()
 
 /// What one form refuses, other than because memory ran out, is no text of that form.
 pub fn refused_texts()
-    ensures ty { (t : List ℕ) (e : SchemaCoordinateParseError) → IsNoName t e → ¬ IsTypeText t }
+    ensures ty { (t : List ℕ) (e : SchemaCoordinateParseError) → IsNoName t e → ¬ texts.IsTypeText t }
     ensures attribute { (t : List ℕ) (e : SchemaCoordinateParseError) → IsNoAttribute t e
-        → ¬ IsAttributeText t }
+        → ¬ texts.IsAttributeText t }
     ensures field_argument { (t : List ℕ) (e : SchemaCoordinateParseError) → IsNoFieldArgument t e
-        → ¬ IsFieldArgumentText t }
+        → ¬ texts.IsFieldArgumentText t }
     ensures directive { (t : List ℕ) (e : SchemaCoordinateParseError) → IsNoDirective t e
-        → ¬ IsDirectiveText t }
+        → ¬ texts.IsDirectiveText t }
     ensures directive_argument { (t : List ℕ) (e : SchemaCoordinateParseError) → IsNoDirectiveArgument t e
-        → ¬ IsDirectiveArgumentText t }
+        → ¬ texts.IsDirectiveArgumentText t }
 {}
 
 /// Coordinates are equal exactly where they are one without the locations of their names.
 pub fn equality_of_coordinates()
-    ensures ty { ComparesBy ⟦<TypeCoordinate as PartialEq>⟧.eq bare_type_coordinate }
-    ensures attribute { ComparesBy ⟦<TypeAttributeCoordinate as PartialEq>⟧.eq bare_attribute_coordinate }
+    ensures ty { ComparesBy ⟦<TypeCoordinate as PartialEq>⟧.eq texts.bare_type_coordinate }
+    ensures attribute { ComparesBy ⟦<TypeAttributeCoordinate as PartialEq>⟧.eq
+        texts.bare_attribute_coordinate }
     ensures field_argument { ComparesBy ⟦<FieldArgumentCoordinate as PartialEq>⟧.eq
-        bare_field_argument_coordinate }
-    ensures directive { ComparesBy ⟦<DirectiveCoordinate as PartialEq>⟧.eq bare_directive_coordinate }
+        texts.bare_field_argument_coordinate }
+    ensures directive { ComparesBy ⟦<DirectiveCoordinate as PartialEq>⟧.eq texts.bare_directive_coordinate }
     ensures directive_argument { ComparesBy ⟦<DirectiveArgumentCoordinate as PartialEq>⟧.eq
-        bare_directive_argument_coordinate }
+        texts.bare_directive_argument_coordinate }
     ensures coordinate { ComparesBy ⟦<SchemaCoordinate as PartialEq>⟧.eq bare_coordinate }
 {}
 

@@ -38,7 +38,7 @@ impl From<NameError> for SchemaCoordinateParseError {
 
     fn from(error: NameError) -> SchemaCoordinateParseError {
         match error {
-            NameError::Invalid(error) => SchemaCoordinateParseError::InvalidName(error),
+            NameError::Invalid(error) => error.into(),
             NameError::Memory => SchemaCoordinateParseError::Memory,
         }
     }

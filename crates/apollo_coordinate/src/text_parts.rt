@@ -2,15 +2,12 @@
 ghost use Rattle.std.specs.Prelude.{◌≡◌, ◌≢◌, ◌++◌, ◌<◌, ℕ, List, IfOk, IfErr, OnOk, IsOk, MatchOption};
 ghost use Rattle.std.specs.Prelude.{codes};
 ghost use Rattle.graphql_nodes.specs.NameSyntax.{IsName};
-ghost use Rattle.graphql_nodes.specs.NameView.{plain_name};
 ghost use Rattle.apollo_coordinate.specs.CoordinateText.{IsCoordinateText, IsAttributeText, IsDirectiveText};
-ghost use Rattle.apollo_coordinate.specs.CoordinateText.{SaysCoordinate};
-ghost use Rattle.apollo_coordinate.specs.Parts.{attribute_of, field_argument_of, directive_argument_of};
-ghost use Rattle.apollo_coordinate.specs.Parts.{coordinate_of, error_of};
+ghost use Rattle.apollo_coordinate.specs.Parts.{SaysAttribute, SaysFieldArgument, SaysDirectiveArgument};
+ghost use Rattle.apollo_coordinate.specs.Parts.{SaysDirective, SaysParts, error_of};
 ghost use Rattle.apollo_coordinate.specs.Refusals.{Lacks, IsCut, IsNoName, IsNoNames, IsNoAttribute};
 ghost use Rattle.apollo_coordinate.specs.Refusals.{IsNoDirective, IsNoArgument, IsNoPair, IsNoFieldArgument};
 ghost use Rattle.apollo_coordinate.specs.Refusals.{IsNoDirectiveArgument, IsNoCoordinate, without_at};
-ghost use Rattle.apollo_coordinate.specs.declared.coordinates.SchemaCoordinate.TheVariants as any;
 
 use crate::refusal::Refusal;
 use graphql_nodes::name::Name;
@@ -98,8 +95,7 @@ fn argument_part<'a>(text: &'a str) -> Result<&'a str, Refusal<'a>>
 
 /// The directive of `@directive`.
 pub(crate) fn directive_part<'a>(text: &'a str) -> Result<&'a str, Refusal<'a>>
-    ensures says { IfOk result
-        (λ name. SaysCoordinate text.now (any.Directive (record { directive = plain_name name.now }))) }
+    ensures says { IfOk result (λ name. SaysDirective text.now name.now) }
     ensures refused { IfErr result (λ refusal. IsNoDirective text.now (error_of refusal)) }
 {
     match after_at(text) {
@@ -111,8 +107,7 @@ pub(crate) fn directive_part<'a>(text: &'a str) -> Result<&'a str, Refusal<'a>>
 impl<'a> AttributeParts<'a> {
     /// The parts that stand before and after the `.`.
     fn new(ty: &'a str, attribute: &'a str) -> Result<AttributeParts<'a>, Refusal<'a>>
-        ensures says { IfOk result (λ parts. SaysCoordinate (ty.now ++ (codes "." ++ attribute.now))
-            (any.TypeAttribute (attribute_of parts))) }
+        ensures says { IfOk result (SaysAttribute (ty.now ++ (codes "." ++ attribute.now))) }
         ensures refused { IfErr result (λ refusal. IsNoNames ty.now attribute.now (error_of refusal)) }
     {
         Ok(AttributeParts {
@@ -123,8 +118,7 @@ impl<'a> AttributeParts<'a> {
 
     /// The parts of a text of this form.
     pub(crate) fn read(text: &'a str) -> Result<AttributeParts<'a>, Refusal<'a>>
-        ensures says { IfOk result
-            (λ parts. SaysCoordinate text.now (any.TypeAttribute (attribute_of parts))) }
+        ensures says { IfOk result (SaysAttribute text.now) }
         ensures refused { IfErr result (λ refusal. IsNoAttribute text.now (error_of refusal)) }
     {
         match cut(text, '.') {
@@ -137,9 +131,7 @@ impl<'a> AttributeParts<'a> {
 impl<'a> FieldArgumentParts<'a> {
     /// The parts of what stands before and after the `(`.
     fn new(field: &'a str, argument: &'a str) -> Result<FieldArgumentParts<'a>, Refusal<'a>>
-        ensures says { IfOk result
-            (λ parts. SaysCoordinate
-            (field.now ++ (codes "(" ++ argument.now)) (any.FieldArgument (field_argument_of parts))) }
+        ensures says { IfOk result (SaysFieldArgument (field.now ++ (codes "(" ++ argument.now))) }
         ensures refused { IfErr result
             (λ refusal. IsNoPair IsAttributeText IsNoAttribute field.now argument.now (error_of refusal)) }
     {
@@ -151,8 +143,7 @@ impl<'a> FieldArgumentParts<'a> {
 
     /// The parts of a text of this form.
     pub(crate) fn read(text: &'a str) -> Result<FieldArgumentParts<'a>, Refusal<'a>>
-        ensures says { IfOk result
-            (λ parts. SaysCoordinate text.now (any.FieldArgument (field_argument_of parts))) }
+        ensures says { IfOk result (SaysFieldArgument text.now) }
         ensures refused { IfErr result (λ refusal. IsNoFieldArgument text.now (error_of refusal)) }
     {
         match cut(text, '(') {
@@ -165,10 +156,7 @@ impl<'a> FieldArgumentParts<'a> {
 impl<'a> DirectiveArgumentParts<'a> {
     /// The parts of what stands before and after the `(`.
     fn new(directive: &'a str, argument: &'a str) -> Result<DirectiveArgumentParts<'a>, Refusal<'a>>
-        ensures says { IfOk result
-            (λ parts. SaysCoordinate
-            (directive.now ++ (codes "(" ++ argument.now))
-            (any.DirectiveArgument (directive_argument_of parts))) }
+        ensures says { IfOk result (SaysDirectiveArgument (directive.now ++ (codes "(" ++ argument.now))) }
         ensures refused { IfErr result
             (λ refusal. IsNoPair IsDirectiveText IsNoDirective directive.now argument.now
             (error_of refusal)) }
@@ -181,8 +169,7 @@ impl<'a> DirectiveArgumentParts<'a> {
 
     /// The parts of a text of this form.
     pub(crate) fn read(text: &'a str) -> Result<DirectiveArgumentParts<'a>, Refusal<'a>>
-        ensures says { IfOk result
-            (λ parts. SaysCoordinate text.now (any.DirectiveArgument (directive_argument_of parts))) }
+        ensures says { IfOk result (SaysDirectiveArgument text.now) }
         ensures refused { IfErr result (λ refusal. IsNoDirectiveArgument text.now (error_of refusal)) }
     {
         match cut(text, '(') {
@@ -195,7 +182,7 @@ impl<'a> DirectiveArgumentParts<'a> {
 impl<'a> Parts<'a> {
     /// The parts by the one form that the text's marks allow.
     fn by_marks(text: &'a str) -> Result<Parts<'a>, Refusal<'a>>
-        ensures says { IfOk result (λ parts. SaysCoordinate text.now (coordinate_of parts)) }
+        ensures says { IfOk result (SaysParts text.now) }
         ensures complete { IsCoordinateText text.now → IsOk result }
     {
         Ok(match (after_at(text), cut(text, '(')) {
@@ -218,7 +205,7 @@ impl<'a> Parts<'a> {
     /// The parts of a text of any form. A text of none is refused whole, but for the `@` that it may begin
     /// with.
     pub(crate) fn read(text: &'a str) -> Result<Parts<'a>, Refusal<'a>>
-        ensures says { IfOk result (λ parts. SaysCoordinate text.now (coordinate_of parts)) }
+        ensures says { IfOk result (SaysParts text.now) }
         ensures grammar { OnOk result (IsCoordinateText text.now) }
         ensures refused { IfErr result (λ refusal. IsNoCoordinate text.now (error_of refusal)) }
     {

@@ -7,7 +7,7 @@ use Rattle.graphql_nodes.specs.Tables.{lookup}
 use Rattle.apollo_walks.specs.Selections.{fragment_of}
 use Rattle.apollo_executable.specs.declared.document.ExecutableDocument.{ExecutableDocument}
 use Rattle.apollo_executable.specs.declared.operation.Fragment.{Fragment}
-use Rattle.apollo_field_usage.specs.Placed.{Placed, placed_set, placed_fragments}
+use Rattle.apollo_field_usage.specs.Placed.{Placed, placed_set, placed_fragment, placed_fragments}
 
 -- what a walk sees of a fragment
 abbrev seen_fragment : NodeView Fragment → Placed
@@ -21,7 +21,7 @@ of-entries (e ∷ es) n = grind (arith, of-entries es n)
 
 -- the fragment that a walk finds is that of the document
 pub fragment-of : (d : ExecutableDocument) (n : List ℕ)
-    → fragment_of (placed_fragments d) n ≡ option_map seen_fragment (lookup (by_text n) d.fragments)
+    → fragment_of (placed_fragments d) n ≡ placed_fragment d n
 unfolding placed_fragments
 fragment-of d n = of-entries d.fragments n
 

@@ -1,7 +1,9 @@
 -- Typed selections as a walk sees them, each field with the type of the set in which it stands: GraphQL
 -- specification of October 2021, sections 2.4 to 2.8.
-use Rattle.std.specs.Prelude.{List, [], ◌∷◌, map}
+use Rattle.std.specs.Prelude.{ℕ, List, [], ◌∷◌, Option, map, option_map}
 use Rattle.graphql_nodes.specs.NameView.{NameView}
+use Rattle.graphql_nodes.specs.SameText.{by_text}
+use Rattle.graphql_nodes.specs.Tables.{lookup}
 use Rattle.apollo_walks.specs.Selections.{Selections, none, field, spread, inline, Fragments}
 use Rattle.apollo_executable.specs.SelectionReading.{WithParts, read_all}
 use Rattle.apollo_executable.specs.Walks.Plain.{node_of}
@@ -41,3 +43,8 @@ placed_set set = placed set.ty set.selections
 -- the fragments of a document, under the keys of its map
 unfoldable pub placed_fragments : ExecutableDocument → Fragments Occurrence
 placed_fragments document = map (λ e. (e.0.text, placed_set e.1.value.selection_set)) document.fragments
+
+-- the fragment of this name, as a walk sees it
+abbrev pub placed_fragment : ExecutableDocument → List ℕ → Option Placed
+placed_fragment document n =
+    option_map (λ f. placed_set f.value.selection_set) (lookup (by_text n) document.fragments)

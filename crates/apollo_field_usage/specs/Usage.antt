@@ -1,8 +1,9 @@
 -- How often which coordinates come among fields.
 use Rattle.std.specs.Prelude.{ℕ, List, map}
 use Rattle.apollo_coordinate.specs.declared.coordinates.TypeAttributeCoordinate.{TypeAttributeCoordinate}
-use Rattle.apollo_field_usage.specs.Coordinates.{coordinate, same_coordinate}
-use Rattle.apollo_field_usage.specs.Occurrences.{Occurrence}
+use Rattle.apollo_field_usage.specs.Coordinates.{coordinate}
+pub use Rattle.apollo_field_usage.specs.Coordinates.{same_coordinate}
+pub use Rattle.apollo_field_usage.specs.Occurrences.{Occurrence}
 use Rattle.apollo_field_usage.specs.Tallies.{tally}
 use Rattle.apollo_field_usage.specs.declared.counting.FieldUsage.{FieldUsage}
 

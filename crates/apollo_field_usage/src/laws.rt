@@ -1,14 +1,12 @@
 //! What is so of counts of fields, for those who build on them.
 //!
 //! Each law is a function that does nothing. A proof cites it by a call, and finds its clauses there.
-ghost use Rattle.std.specs.Prelude.{◌≡◌, ◌<◌, ℕ, true, List, [], ◌∷◌, map, sum_by, length, option_map};
+ghost use Rattle.std.specs.Prelude.{◌≡◌, ◌<◌, ℕ, true, List, [], ◌∷◌, map, sum_by, length};
 ghost use Rattle.std.specs.List.{AllByRecursion, IsDistinct};
 ghost use Rattle.graphql_nodes.specs.Clones.{IsExact};
 ghost use Rattle.graphql_nodes.specs.Comparing.{ComparesBy};
 ghost use Rattle.graphql_nodes.specs.NameView.{NameView};
 ghost use Rattle.graphql_nodes.specs.NodeView.{NodeView};
-ghost use Rattle.graphql_nodes.specs.SameText.{by_text};
-ghost use Rattle.graphql_nodes.specs.Tables.{lookup};
 ghost use Rattle.apollo_walks.specs.Selections.{none, field, spread, inline, fragment_of};
 ghost use Rattle.apollo_walks.specs.Whole.{IsWalk};
 ghost use Rattle.apollo_executable.specs.Walks.WalkView.{AreWalked};
@@ -20,11 +18,9 @@ ghost use Rattle.apollo_executable.specs.declared.selection.Selection.{Selection
 ghost use Rattle.apollo_executable.specs.declared.selection.Selection.TheVariants as variant;
 ghost use Rattle.apollo_executable.specs.declared.selection.SelectionSet.{SelectionSet};
 ghost use Rattle.apollo_field_usage.specs.BareUsage.{bare_usage};
-ghost use Rattle.apollo_field_usage.specs.Coordinates.{same_coordinate};
-ghost use Rattle.apollo_field_usage.specs.Occurrences.{Occurrence};
-ghost use Rattle.apollo_field_usage.specs.Placed.{placed, placed_set, placed_fragments};
+ghost use Rattle.apollo_field_usage.specs.Placed.{placed, placed_set, placed_fragment, placed_fragments};
 ghost use Rattle.apollo_field_usage.specs.Reached.{reached};
-ghost use Rattle.apollo_field_usage.specs.Usage.{usage};
+ghost use Rattle.apollo_field_usage.specs.Usage.{Occurrence, same_coordinate, usage};
 
 use crate::counting::FieldUsage;
 use apollo_coordinate::laws::{clones_of_coordinates_are_exact, equality_of_coordinates};
@@ -58,8 +54,7 @@ pub fn types_by_kind_of_selection()
         → placed ty (variant.InlineFragment n ∷ others)
         ≡ inline (placed_set n.value.selection_set) (placed ty others) }
     ensures fragments { (document : ExecutableDocument) (n : List ℕ)
-        → fragment_of (placed_fragments document) n
-        ≡ option_map (λ f. placed_set f.value.selection_set) (lookup (by_text n) document.fragments) }
+        → fragment_of (placed_fragments document) n ≡ placed_fragment document n }
 {}
 
 /// No coordinate has two usages, each count is one or more, and they are together as many as the fields.

@@ -5,9 +5,9 @@ use Rattle.std.specs.List.Sorted.{IsPermutation}
 use Rattle.apollo_meaning.specs.Faults.Collisions.{Fault}
 use Rattle.apollo_meaning.specs.Items.ListItems.{Added}
 use Rattle.apollo_schema.specs.Built.{IsFaultless, IsFoundIn, IsMeant}
-use Rattle.apollo_schema.specs.BuilderStands.{Building, StandsFor}
+pub use Rattle.apollo_schema.specs.BuilderStands.{Building, StandsFor}
 use Rattle.apollo_schema.specs.EqualSchemas.{AreEqualSchemas}
-use Rattle.apollo_schema.specs.MeantSchema.{MeansSchema}
+pub use Rattle.apollo_schema.specs.MeantSchema.{MeansSchema}
 use Rattle.apollo_schema.specs.declared.schema.Schema.{Schema}
 
 -- the schemas that two lists mean are equal, whatever numbers their extensions get

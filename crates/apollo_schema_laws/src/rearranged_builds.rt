@@ -7,10 +7,9 @@ ghost use Rattle.apollo_meaning.specs.Items.ListItems.{Added, added_items};
 ghost use Rattle.apollo_schema_laws.specs.Documents.{Documents, added_each, added_joined};
 ghost use Rattle.apollo_schema_laws.specs.Equal.{AreEqualLists};
 ghost use Rattle.apollo_schema_laws.specs.Rearranged.{AreRearranged};
+ghost use Rattle.apollo_schema_laws.specs.BuiltAlike.{Building, MeansSchema, StandFor, StandsFor};
 ghost use Rattle.apollo_schema_laws.specs.BuiltAlike.{BuildEqualSchemas, BuildFaultlessTogether};
-ghost use Rattle.apollo_schema_laws.specs.BuiltAlike.{BuildSameFaults, MeanEqualSchemas, StandFor};
-ghost use Rattle.apollo_schema.specs.BuilderStands.{Building, StandsFor};
-ghost use Rattle.apollo_schema.specs.MeantSchema.{MeansSchema};
+ghost use Rattle.apollo_schema_laws.specs.BuiltAlike.{BuildSameFaults, MeanEqualSchemas};
 ghost use Rattle.apollo_schema.specs.declared.schema.Schema.{Schema};
 
 use crate::rearrangement::{

@@ -7,7 +7,7 @@ use canonical.Prelude.{cons_option, directives_parts, each-append, false, flat_m
 use canonical.Prelude.{is_bare, kept_field, kept_fragment, map, name_parts, node_parts, option_map}
 use canonical.Prelude.{option_parts, refl, roll-Selection, roll-out-Field, roll-out-InlineFragment}
 use canonical.Prelude.{selection_parts, some_there, strip_field_step, strip_fragment_step, strip_step}
-use canonical.Prelude.{stripped, stripped-field, stripped-fragment, stripped_selection, subst, sym, true}
+use canonical.Prelude.{stripped, field_stripped, fragment_stripped, stripped_selection, subst, sym, true}
 use canonical.Prelude.{true≢false, typable_field, typable_fragment, wanted_parts, ◌++◌, ◌∙◌, ◌∷◌, ◌≡◌}
 use canonical.Schemas.WellFormedLists.{each-split}
 use canonical.Documents.FilledSyntax.{field_filled, inline_filled, is_filled_syntax}
@@ -65,6 +65,12 @@ Stays x = is_filled_syntax x ≡ true → IsWellFormed (selection_parts x)
 abbrev AllStay : List Selection → Type 0
 AllStay xs = all_there (map is_filled_syntax xs) ≡ true → IsWellFormed (flat_map selection_parts xs)
 
+-- what is put in a place stays, if it does wherever it is typable
+typable_stays : {D G : Type 0} (place : G → Selection) (kept : D → G) (r : Result D Wrong)
+    → ((d : D) → Stays (place (kept d))) → IfSome (option_map place (if_typable kept r)) Stays
+typable_stays place kept (Err wrong) each = tt
+typable_stays place kept (Ok d) each = each d
+
 one_more : (o : Option Selection) (xs : List Selection) → IfSome o Stays → AllStay xs
     → AllStay (cons_option o xs)
 one_more None xs h rest = rest
@@ -98,16 +104,15 @@ module _ (s : Option Schema) where
   field_kept n below ty h =
       let f : Field = n.value in
       subst (λ o. IfSome o Stays) (sym (stripped-roll ty _ ∙ ap (option_map (λ g. field (in_place_of n g)))
-      (stripped-field s ty f))) (by (typable_field s ty f.name (is_bare f.selection_set)))
+      (field_stripped s ty f))) (typable_stays (λ g. field (in_place_of n g)) kept
+      (typable_field s ty f.name (is_bare f.selection_set)) stays)
     where
       kept : NodeView FieldDefinition → Field
       kept = kept_field n.value.alias n.value.name n.value.arguments n.value.directives
           (λ t. stripped s t n.value.selection_set)
 
-      by : (r : Result (NodeView FieldDefinition) Wrong)
-          → IfSome (option_map (λ g. field (in_place_of n g)) (if_typable kept r)) Stays
-      by (Err wrong) = tt
-      by (Ok d) = λ filled.
+      stays : (d : NodeView FieldDefinition) → Stays (field (in_place_of n (kept d)))
+      stays d filled =
           let g : NodeView Field = in_place_of n (kept d) in
           subst IsWellFormed (sym (field-parts g)) (
             tt,
@@ -122,15 +127,14 @@ module _ (s : Option Schema) where
   inline_kept n below ty h =
       let f : InlineFragment = n.value in
       subst (λ o. IfSome o Stays) (sym (stripped-roll ty _ ∙ ap (option_map (λ g. inline (in_place_of n g)))
-      (stripped-fragment s ty f))) (by (typable_fragment s ty f.type_condition))
+      (fragment_stripped s ty f))) (typable_stays (λ g. inline (in_place_of n g)) kept
+      (typable_fragment s ty f.type_condition) stays)
     where
       kept : NameView → InlineFragment
       kept = kept_fragment n.value.type_condition n.value.directives (λ t. stripped s t n.value.selection_set)
 
-      by : (r : Result NameView Wrong)
-          → IfSome (option_map (λ g. inline (in_place_of n g)) (if_typable kept r)) Stays
-      by (Err wrong) = tt
-      by (Ok child) = λ filled.
+      stays : (child : NameView) → Stays (inline (in_place_of n (kept child)))
+      stays child filled =
           let g : NodeView InlineFragment = in_place_of n (kept child) in
           subst IsWellFormed (sym (inline-parts g)) (
             tt,

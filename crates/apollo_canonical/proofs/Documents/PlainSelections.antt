@@ -24,7 +24,8 @@ use Rattle.apollo_executable.specs.declared.selection.InlineFragment.{InlineFrag
 use Rattle.apollo_executable.specs.declared.selection.InlineFragment.{roll-InlineFragment}
 use Rattle.apollo_executable.specs.declared.selection.Selection.{Selection, roll-Selection}
 use Rattle.apollo_executable.specs.declared.selection.Selection.TheFolds as folds
-use Rattle.apollo_executable.specs.declared.selection.Selection.TheOpen.{Field-F, Selection-F, SelectionSet-F}
+use Rattle.apollo_executable.specs.declared.selection.Selection.TheOpen.{Field-F, InlineFragment-F}
+use Rattle.apollo_executable.specs.declared.selection.Selection.TheOpen.{Selection-F, SelectionSet-F}
 use Rattle.apollo_executable.specs.declared.selection.SelectionSet.{SelectionSet, roll-SelectionSet}
 use Rattle.apollo_document.proofs.Equations.{is_bare-map}
 
@@ -36,21 +37,23 @@ with_definition f = roll-Field (record f { definition = bare_node bare_field_def
 abbrev with_type : SelectionSet-F Selection Field InlineFragment SelectionSet → SelectionSet
 with_type x = roll-SelectionSet (record x { ty = bare_name x.ty })
 
+-- what a fold gives by these steps
+abbrev by_halves : {A : Type 0} → ((Layer → Selection) → (Field-F Selection Field InlineFragment SelectionSet
+    → Field) → (InlineFragment-F Selection Field InlineFragment SelectionSet → InlineFragment)
+    → (SelectionSet-F Selection Field InlineFragment SelectionSet → SelectionSet) → A) → A
+by_halves fold = fold (λ x. roll-Selection x) with_definition (λ x. roll-InlineFragment x) with_type
+
 abbrev half : Selection → Selection
-half = folds.fold-Selection Selection Field InlineFragment SelectionSet (λ x. roll-Selection x)
-    with_definition (λ x. roll-InlineFragment x) with_type
+half = by_halves (folds.fold-Selection Selection Field InlineFragment SelectionSet)
 
 abbrev half_field : Field → Field
-half_field = folds.fold-Field Selection Field InlineFragment SelectionSet (λ x. roll-Selection x)
-    with_definition (λ x. roll-InlineFragment x) with_type
+half_field = by_halves (folds.fold-Field Selection Field InlineFragment SelectionSet)
 
 abbrev half_inline : InlineFragment → InlineFragment
-half_inline = folds.fold-InlineFragment Selection Field InlineFragment SelectionSet (λ x. roll-Selection x)
-    with_definition (λ x. roll-InlineFragment x) with_type
+half_inline = by_halves (folds.fold-InlineFragment Selection Field InlineFragment SelectionSet)
 
 abbrev half_set : SelectionSet → SelectionSet
-half_set = folds.fold-SelectionSet Selection Field InlineFragment SelectionSet (λ x. roll-Selection x)
-    with_definition (λ x. roll-InlineFragment x) with_type
+half_set = by_halves (folds.fold-SelectionSet Selection Field InlineFragment SelectionSet)
 
 selection-half : (x : Layer)
     → half (roll-Selection x) ≡ roll-Selection (folds.map-Selection Selection Field InlineFragment

@@ -2,12 +2,12 @@
 -- written out as, without locations.
 use Rattle.apollo_canonical.proofs as canonical
 use canonical.Prelude.{ComponentOrigin, Declaration, Definition, Directives, ExtensionId, Fields, InputFields}
-use canonical.Prelude.{List, NameView, Names, None, OfDirective, OfFragment, OfOperation, Option, Part, Parts}
-use canonical.Prelude.{PartsByOrigin, Roots, Sort, SourceSpan, SourcedPart, TypeKind, Values, [], ap, arith}
-use canonical.Prelude.{bare_definition, bare_item, bare_name, bare_parts, by_origin, declaration_of}
-use canonical.Prelude.{extension_location, filter, filter-map, filter_map, first_of_each-map}
-use canonical.Prelude.{id_of, identities, made, map, map-map, mark, of_extensions, of_origin, of_sort}
-use canonical.Prelude.{option_map, origins_in, parts_of, refl, same_id, same_origin, type_definition}
+use canonical.Prelude.{Item, List, NameView, Names, None, OfDirective, OfFragment, OfOperation, Option, Part}
+use canonical.Prelude.{Parts, PartsByOrigin, Roots, Sort, SourceSpan, SourcedPart, TypeKind, Values, [], ap}
+use canonical.Prelude.{arith, bare_definition, bare_item, bare_name, bare_parts, by_origin, declaration_of}
+use canonical.Prelude.{extension_location, filter, filter-map, filter_map, first_of_each-map, id_of}
+use canonical.Prelude.{identities, made, map, map-map, mark, of_extensions, of_origin, of_sort, option_map}
+use canonical.Prelude.{origins_in, part_of, parts_of, refl, same_id, same_origin, type_definition}
 use canonical.Prelude.{type_extension, with_lists, written_type, ◌∙◌, ◌∷◌, ◌≡◌}
 use Rattle.graphql_ast.specs.Declarations.{OfSchema, OfType}
 use Rattle.graphql_ast.specs.declared.parts.Part.TheVariants as p
@@ -27,13 +27,16 @@ pub same-plain : (a b : ComponentOrigin) → same_origin (plain_origin a) (plain
 same-plain a b = grind arith
 
 -- what a definition is made of
+abbrev bare_of : (s : Sort) → Item s → Part
+bare_of s x = part_of s (bare_item s x)
+
 abbrev pub bare_part : Part → Part
-bare_part (p.Directive x) = p.Directive (bare_item Directives x)
-bare_part (p.Name x) = p.Name (bare_item Names x)
-bare_part (p.Field x) = p.Field (bare_item Fields x)
-bare_part (p.EnumValue x) = p.EnumValue (bare_item Values x)
-bare_part (p.InputField x) = p.InputField (bare_item InputFields x)
-bare_part (p.Root x) = p.Root (bare_item Roots x)
+bare_part (p.Directive x) = bare_of Directives x
+bare_part (p.Name x) = bare_of Names x
+bare_part (p.Field x) = bare_of Fields x
+bare_part (p.EnumValue x) = bare_of Values x
+bare_part (p.InputField x) = bare_of InputFields x
+bare_part (p.Root x) = bare_of Roots x
 
 -- a component with its origin
 abbrev pub plain_part_of : SourcedPart → SourcedPart

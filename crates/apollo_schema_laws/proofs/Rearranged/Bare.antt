@@ -136,9 +136,6 @@ unless-unplaced bare other o ps = grind arith
 abbrev pub bare_part : TypePart → TypePart
 bare_part = unplaced_part false
 
-abbrev pub bare_schema_part : SchemaPart → SchemaPart
-bare_schema_part = unplaced_schema_part false
-
 abbrev pub bare_list : List ListItem → List ListItem
 bare_list = unplaced_list false
 

@@ -1,8 +1,9 @@
 -- The types, the schema definitions and the schemas that lists mean. What `==` compares of them is decided by
 -- the parts that they are made of, without locations and origins.
 use Rattle.apollo_meaning.proofs.Prelude.{Added, added_items, ap, arith, Bool, ComponentName, ComponentOrigin}
-use Rattle.apollo_meaning.proofs.Prelude.{cond, extensions_of, extensions_with_origin, Fault, find, find-made}
-use Rattle.apollo_meaning.proofs.Prelude.{first, first_of_each, first_schema, flat_map, folding_order}
+use Rattle.apollo_meaning.proofs.Prelude.{cond, extensions_of, extensions_with_origin, false, Fault, find}
+use Rattle.apollo_meaning.proofs.Prelude.{find-made, first, first_of_each, first_schema, flat_map}
+use Rattle.apollo_meaning.proofs.Prelude.{folding_order}
 use Rattle.apollo_meaning.proofs.Prelude.{kind_of, length, List, ListItem, map, map-map, Mutation, NameView}
 use Rattle.apollo_meaning.proofs.Prelude.{NodeView, of_kind, OperationType, Option, option_map, parts, Query}
 use Rattle.apollo_meaning.proofs.Prelude.{refl, same_operation, same_text, schema_definition_of}
@@ -22,10 +23,10 @@ use Rattle.apollo_types.specs.BareTypes.{bare_extended_type, bare_schema_definit
 use Rattle.apollo_types.specs.BareTypes.{BareType}
 use Rattle.apollo_meaning.specs.Items.Parts.{held_parts}
 use Rattle.apollo_schema_laws.proofs.Permutations.{map-flat_map}
-use Rattle.apollo_schema_laws.proofs.Rearranged.Bare.{bare_list, bare_part, bare_schema_part, equal-whole}
+use Rattle.apollo_schema_laws.proofs.Rearranged.Bare.{bare_list, bare_part, equal-whole}
 use Rattle.apollo_schema_laws.proofs.Rearranged.Bare.{extensions-unplaced, first-unplaced}
 use Rattle.apollo_schema_laws.proofs.Rearranged.Bare.{first_schema-unplaced, of_kind-unplaced, of_type-bare}
-use Rattle.apollo_schema_laws.proofs.Rearranged.Bare.{schema_extensions-unplaced}
+use Rattle.apollo_schema_laws.proofs.Rearranged.Bare.{schema_extensions-unplaced, unplaced_schema_part}
 use Rattle.apollo_schema_laws.proofs.Types.Kinds.{bare-made, bare_of, held, kept, kept-map, kept_by, shown_in}
 use Rattle.apollo_schema_laws.specs.TypeSections.{is_keyed, name_of}
 use Rattle.std.proofs.lemmas.List.{nil_from_length}
@@ -120,8 +121,8 @@ plain_definition head ps = record {
 
 -- it is what is compared of the definition that the parts make
 forget-definition : (head : SchemaPart) (ps : List SourcedSchema)
-    → bare_schema_definition (schema_definition_of head ps) ≡ plain_definition (bare_schema_part head)
-    (map bare_schema_part (parts_of ps))
+    → bare_schema_definition (schema_definition_of head ps)
+    ≡ plain_definition (unplaced_schema_part false head) (map (unplaced_schema_part false) (parts_of ps))
 unfolding plain_definition
 forget-definition head ps = simp (find-root, map-flat_map, map-map, flat_map-map)
 
@@ -171,7 +172,7 @@ module _ (folds : FoldsAll) where
   schema-meant start xs = simp (first_schema-unplaced, schema_extensions-unplaced)
       (option_cases (first_schema xs) (λ e. simp e)
       (λ s e. simp e (ap Some (forget-definition s (schema_parts start (folding_order xs) s)
-      ∙ ap (plain_definition (bare_schema_part s)) (simp (folds start xs s e))))))
+      ∙ ap (plain_definition (unplaced_schema_part false s)) (simp (folds start xs s e))))))
 
   -- so the schema definitions that rearranged lists mean are equal
   pub schema-rearranged : (start other : ℕ) (xs ys : List ListItem) → AreRearranged xs ys

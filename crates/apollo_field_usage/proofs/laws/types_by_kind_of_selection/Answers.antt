@@ -3,10 +3,4 @@ use Rattle.apollo_field_usage.proofs.PlacedLemmas.{placed-none, placed-field, pl
 use Rattle.apollo_field_usage.proofs.laws.types_by_kind_of_selection.Goals as goal
 
 pub returns : goal.returns
-returns c = record {
-  none = placed-none;
-  field = placed-field;
-  fragment_spread = placed-spread;
-  inline_fragment = placed-inline;
-  fragments = fragment-of;
-}
+returns c = search (placed-none, placed-field, placed-spread, placed-inline, fragment-of)
