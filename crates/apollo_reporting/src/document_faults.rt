@@ -1,5 +1,6 @@
 //! Faults of executable documents, as they are reported.
-ghost use Rattle.std.specs.Prelude.{◌≡◌, IfOk, Some};
+ghost use Rattle.std.specs.Prelude.{◌≡◌, IfOk, Some, codes};
+ghost use Rattle.apollo_reporting.specs.Details as spec;
 ghost use Rattle.apollo_reporting.specs.DocumentFaults.{definition_details, document_fault_about};
 ghost use Rattle.apollo_reporting.specs.DocumentFaults.{document_fault_details};
 
@@ -80,11 +81,7 @@ impl Reported for BuildError {
             BuildError::UndefinedTypeInNamedFragmentTypeCondition {
                 type_name,
                 fragment_name,
-            } => two_texts(
-                alloc,
-                ("type_name", type_name.as_str()),
-                ("fragment_name", fragment_name.as_str()),
-            ),
+            } => type_and_name(alloc, type_name, "fragment_name", fragment_name),
             BuildError::UndefinedTypeInInlineFragmentTypeCondition { type_name, .. }
             | BuildError::SubselectionOnScalarType { type_name, .. }
             | BuildError::SubselectionOnEnumType { type_name, .. } => {
@@ -94,11 +91,7 @@ impl Reported for BuildError {
                 type_name,
                 field_name,
                 ..
-            } => two_texts(
-                alloc,
-                ("type_name", type_name.as_str()),
-                ("field_name", field_name.as_str()),
-            ),
+            } => type_and_name(alloc, type_name, "field_name", field_name),
         }
     }
 }
@@ -114,4 +107,17 @@ fn definition(
     let name = Detail::optional_text(alloc, "name", name.as_ref().map(Name::as_str))?;
     let describe = Detail::text(alloc, "describe", describe.as_str())?;
     Ok(vec![in alloc; name, describe]?)
+}
+
+/// The name of a type, and a name under this one.
+fn type_and_name(
+    alloc: Global,
+    ty: &Name,
+    under: &'static str,
+    name: &Name,
+) -> Result<Vec<Detail>, AllocError>
+    ensures { IfOk result (λ details. details.items
+        ≡ spec.two_texts (codes "type_name") ty.now.text under.now name.now.text) }
+{
+    two_texts(alloc, ("type_name", ty.as_str()), (under, name.as_str()))
 }

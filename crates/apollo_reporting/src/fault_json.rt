@@ -2,7 +2,7 @@
 ghost use Rattle.std.specs.Prelude.{IfOk, string_bytes};
 ghost use Rattle.apollo_reporting.specs.Said.{IsFaultJson};
 
-use crate::json_members::push_fault;
+use crate::json_members::JsonOfSources;
 use crate::reported::Reported;
 use crate::sources::Sources;
 use graphql_nodes::source::SourceSpan;
@@ -31,10 +31,9 @@ pub fn to_json<S: Sources, E: Reported>(
     let details = fault.details(alloc)?;
     let about = fault.about();
     let mut text = String::new(alloc);
-    push_fault(
-        alloc,
+    let json = JsonOfSources { alloc, sources };
+    json.push_fault(
         &mut text,
-        sources,
         location,
         &about,
         said.as_str(),

@@ -2,8 +2,8 @@
 ghost use Rattle.std.specs.Prelude.{◌≡◌, ◌++◌, OnOk, map, option_map, string_bytes};
 ghost use Rattle.apollo_reporting.specs.Abouts.{about_view};
 ghost use Rattle.apollo_reporting.specs.FaultData.{detail_member, fault_data, file_member, keys_data};
-ghost use Rattle.apollo_reporting.specs.FaultData.{location_data, path_members, path_of_file, place_members};
-ghost use Rattle.apollo_reporting.specs.FaultData.{span_data, span_members, steps_data, value_data};
+ghost use Rattle.apollo_reporting.specs.FaultData.{path_members, path_of_file, place_members, span_data};
+ghost use Rattle.apollo_reporting.specs.FaultData.{span_members, steps_data, value_data};
 ghost use Rattle.apollo_reporting.specs.MemberTexts.{data_text, items_behind, member_text, members_behind};
 
 use crate::about::About;
@@ -15,6 +15,7 @@ use apollo_document::selection_path::SelectionPath;
 use graphql_nodes::line_column::LineColumn;
 use graphql_nodes::name::Name;
 use graphql_nodes::source::SourceSpan;
+use graphql_nodes::take_apart;
 use std::alloc::{AllocError, Global};
 
 /// The path of the file of a location, where the sources have the file.
@@ -22,21 +23,6 @@ fn file_path<S: Sources>(sources: &S, location: Option<SourceSpan>) -> Option<&s
     ensures { option_map (λ path. path.now) result ≡ path_of_file location (S.files sources.now) }
 {
     Some(sources.file(location?.file)?.path.as_str())
-}
-
-/// Adds the file of a location, behind a sign.
-fn push_file<S: Sources>(
-    alloc: Global,
-    text: &mut String,
-    sign: &str,
-    sources: &S,
-    location: Option<SourceSpan>,
-) -> Result<(), AllocError>
-    ensures { OnOk result (string_bytes text.new
-        ≡ string_bytes text.old ++ member_text sign.now (file_member location (S.files sources.now))) }
-{
-    push_key(alloc, text, sign, "file")?;
-    push_text(alloc, text, file_path(sources, location))
 }
 
 /// Adds the line and the column of a place, under these names.
@@ -54,59 +40,6 @@ fn push_place(
     push_number(text, at.map(|at| at.line))?;
     push_key(alloc, text, ",", column)?;
     push_number(text, at.map(|at| at.column))
-}
-
-/// Adds where a location starts and ends.
-fn push_span<S: Sources>(
-    alloc: Global,
-    text: &mut String,
-    sources: &S,
-    location: Option<SourceSpan>,
-) -> Result<(), AllocError>
-    ensures { OnOk result (string_bytes text.new
-        ≡ string_bytes text.old ++ members_behind (span_members location (S.files sources.now))) }
-{
-    push_place(alloc, text, "line", "column", start(sources, location))?;
-    push_place(
-        alloc,
-        text,
-        "end_line",
-        "end_column",
-        end(sources, location),
-    )
-}
-
-/// Adds a location as an object.
-fn push_object<S: Sources>(
-    alloc: Global,
-    text: &mut String,
-    sources: &S,
-    span: SourceSpan,
-) -> Result<(), AllocError>
-    ensures { OnOk result (string_bytes text.new
-        ≡ string_bytes text.old ++ data_text (span_data span (S.files sources.now))) }
-{
-    push_file(alloc, text, "{", sources, Some(span))?;
-    push_span(alloc, text, sources, Some(span))?;
-    text.push_str("}")?;
-    Ok(())
-}
-
-/// Adds a location as an object, or null where there is none.
-#[tactic(auto, unfolding(crate::specs::MemberTexts::data_text))]
-fn push_location<S: Sources>(
-    alloc: Global,
-    text: &mut String,
-    sources: &S,
-    location: Option<SourceSpan>,
-) -> Result<(), AllocError>
-    ensures { OnOk result (string_bytes text.new
-        ≡ string_bytes text.old ++ data_text (location_data location (S.files sources.now))) }
-{
-    match location {
-        Some(span) => push_object(alloc, text, sources, span),
-        None => text.push_str("null"),
-    }
 }
 
 /// Adds response keys, each behind a comma.
@@ -132,78 +65,119 @@ fn push_steps(alloc: Global, text: &mut String, path: &SelectionPath) -> Result<
     text.push_str("]")
 }
 
-/// Adds a path, or null where there is none.
-#[tactic(auto, unfolding(crate::specs::MemberTexts::data_text))]
-fn push_path(
-    alloc: Global,
-    text: &mut String,
-    path: Option<&SelectionPath>,
-) -> Result<(), AllocError>
-    ensures { OnOk result (string_bytes text.new
-        ≡ string_bytes text.old ++ members_behind (path_members (option_map (λ path. path.now) path.entry))) }
-{
-    push_key(alloc, text, ",", "path")?;
-    match path {
-        Some(path) => push_steps(alloc, text, path),
-        None => text.push_str("null"),
+/// What writes JSON of faults that stand in these sources.
+pub(crate) struct JsonOfSources<'s, S> {
+    pub alloc: Global,
+    pub sources: &'s S,
+}
+
+impl<S> Drop for JsonOfSources<'_, S> {
+    fn drop(self) {
+        take_apart!(self: alloc, sources);
     }
 }
 
-/// Adds what stands under the name of a detail.
-fn push_value<S: Sources>(
-    alloc: Global,
-    text: &mut String,
-    sources: &S,
-    value: &DetailValue,
-) -> Result<(), AllocError>
-    ensures { OnOk result (string_bytes text.new
-        ≡ string_bytes text.old ++ data_text (value_data (S.files sources.now) value.now)) }
-{
-    match value {
-        DetailValue::Words(Some(words)) => push_text(alloc, text, Some(words.as_str())),
-        DetailValue::Words(None) => push_text(alloc, text, None),
-        DetailValue::Place(location) => push_location(alloc, text, sources, *location),
+impl<S: Sources> JsonOfSources<'_, S> {
+    /// Adds the file of a location, behind a sign.
+    fn push_file(
+        &self,
+        text: &mut String,
+        sign: &str,
+        location: Option<SourceSpan>,
+    ) -> Result<(), AllocError>
+        ensures { OnOk result (string_bytes text.new ≡ string_bytes text.old
+            ++ member_text sign.now (file_member location (S.files self.now.sources.now))) }
+    {
+        push_key(self.alloc, text, sign, "file")?;
+        push_text(self.alloc, text, file_path(self.sources, location))
     }
-}
 
-/// Adds details, in order.
-fn push_details<S: Sources>(
-    alloc: Global,
-    text: &mut String,
-    sources: &S,
-    details: &[Detail],
-) -> Result<(), AllocError>
-    ensures { OnOk result (string_bytes text.new
-        ≡ string_bytes text.old ++ members_behind (map (detail_member (S.files sources.now)) details.now)) }
-{
-    for detail in details {
-        push_key(alloc, text, ",", detail.name.as_str())?;
-        push_value(alloc, text, sources, &detail.value)?;
+    /// Adds where a location starts and ends.
+    fn push_span(&self, text: &mut String, location: Option<SourceSpan>) -> Result<(), AllocError>
+        ensures { OnOk result (string_bytes text.new ≡ string_bytes text.old
+            ++ members_behind (span_members location (S.files self.now.sources.now))) }
+    {
+        let (alloc, sources) = (self.alloc, self.sources);
+        push_place(alloc, text, "line", "column", start(sources, location))?;
+        push_place(
+            alloc,
+            text,
+            "end_line",
+            "end_column",
+            end(sources, location),
+        )
     }
-    Ok(())
-}
 
-/// Adds a fault as an object.
-pub(crate) fn push_fault<S: Sources>(
-    alloc: Global,
-    text: &mut String,
-    sources: &S,
-    location: Option<SourceSpan>,
-    about: &About<'_>,
-    said: &str,
-    details: &[Detail],
-) -> Result<(), AllocError>
-    ensures { OnOk result (string_bytes text.new
-        ≡ string_bytes text.old
-        ++ data_text
-        (fault_data (S.files sources.now) location (about_view about.now) said.now details.now)) }
-{
-    push_string_member(alloc, text, "{", "kind", about.kind.as_str())?;
-    push_string_member(alloc, text, ",", "message", said)?;
-    push_file(alloc, text, ",", sources, location)?;
-    push_span(alloc, text, sources, location)?;
-    push_path(alloc, text, about.path)?;
-    push_details(alloc, text, sources, details)?;
-    text.push_str("}")?;
-    Ok(())
+    /// Adds a location as an object.
+    fn push_object(&self, text: &mut String, span: SourceSpan) -> Result<(), AllocError>
+        ensures { OnOk result (string_bytes text.new ≡ string_bytes text.old
+            ++ data_text (span_data span (S.files self.now.sources.now))) }
+    {
+        self.push_file(text, "{", Some(span))?;
+        self.push_span(text, Some(span))?;
+        text.push_str("}")?;
+        Ok(())
+    }
+
+    /// Adds a path, or null where there is none.
+    #[tactic(auto, unfolding(crate::specs::MemberTexts::data_text))]
+    fn push_path(&self, text: &mut String, path: Option<&SelectionPath>) -> Result<(), AllocError>
+        ensures { OnOk result (string_bytes text.new ≡ string_bytes text.old
+            ++ members_behind (path_members (option_map (λ path. path.now) path.entry))) }
+    {
+        push_key(self.alloc, text, ",", "path")?;
+        match path {
+            Some(path) => push_steps(self.alloc, text, path),
+            None => text.push_str("null"),
+        }
+    }
+
+    /// Adds what stands under the name of a detail: null where there is nothing.
+    #[tactic(auto, unfolding(crate::specs::MemberTexts::data_text))]
+    fn push_value(&self, text: &mut String, value: &DetailValue) -> Result<(), AllocError>
+        ensures { OnOk result (string_bytes text.new ≡ string_bytes text.old
+            ++ data_text (value_data (S.files self.now.sources.now) value.now)) }
+    {
+        match value {
+            DetailValue::Words(Some(words)) => push_text(self.alloc, text, Some(words.as_str())),
+            DetailValue::Words(None) => push_text(self.alloc, text, None),
+            DetailValue::Place(Some(span)) => self.push_object(text, *span),
+            DetailValue::Place(None) => text.push_str("null"),
+        }
+    }
+
+    /// Adds details, in order.
+    fn push_details(&self, text: &mut String, details: &[Detail]) -> Result<(), AllocError>
+        ensures { OnOk result (string_bytes text.new ≡ string_bytes text.old
+            ++ members_behind (map (detail_member (S.files self.now.sources.now)) details.now)) }
+    {
+        for detail in details {
+            push_key(self.alloc, text, ",", detail.name.as_str())?;
+            self.push_value(text, &detail.value)?;
+        }
+        Ok(())
+    }
+
+    /// Adds a fault as an object.
+    pub fn push_fault(
+        &self,
+        text: &mut String,
+        location: Option<SourceSpan>,
+        about: &About<'_>,
+        said: &str,
+        details: &[Detail],
+    ) -> Result<(), AllocError>
+        ensures { OnOk result (string_bytes text.new ≡ string_bytes text.old
+            ++ data_text (fault_data (S.files self.now.sources.now) location (about_view about.now)
+            said.now details.now)) }
+    {
+        push_string_member(self.alloc, text, "{", "kind", about.kind.as_str())?;
+        push_string_member(self.alloc, text, ",", "message", said)?;
+        self.push_file(text, ",", location)?;
+        self.push_span(text, location)?;
+        self.push_path(text, about.path)?;
+        self.push_details(text, details)?;
+        text.push_str("}")?;
+        Ok(())
+    }
 }

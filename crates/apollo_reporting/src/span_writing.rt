@@ -10,7 +10,7 @@ ghost use Rattle.apollo_reporting.specs.Windows.{shown_by};
 
 use crate::excerpt::Excerpt;
 use crate::sources::Sources;
-use crate::writing::{number_width, write_line_begin, write_pad, write_repeated};
+use crate::writing::{number_width, write_line_begin, write_pad, write_times};
 use graphql_nodes::line_column::LineColumn;
 use graphql_nodes::place::PlaceWithoutText;
 use graphql_nodes::source::{SourceFile, SourceSpan};
@@ -82,7 +82,7 @@ fn write_mark_line<W: Write>(
     f.write_str(" | ")?;
     f.write_str(under_dots(excerpt.cut_before))?;
     write_pad(f, excerpt.before)?;
-    write_repeated(f, "^", excerpt.marks)?;
+    write_times(f, "^", excerpt.marks)?;
     f.write_str("\n")
 }
 

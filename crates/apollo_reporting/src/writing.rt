@@ -10,11 +10,7 @@ use std::fmt;
 use std::fmt::{Formatter, Write};
 
 /// Writes a text so many times.
-pub(crate) fn write_repeated<W: Write>(
-    f: &mut Formatter<W>,
-    text: &str,
-    count: usize,
-) -> fmt::Result
+pub(crate) fn write_times<W: Write>(f: &mut Formatter<W>, text: &str, count: usize) -> fmt::Result
     ensures { WritesOnOk W.write_str_gives f.old result (repeat count text.now) f.new }
 {
     for _ in 0..count {
@@ -55,5 +51,5 @@ pub(crate) fn write_line_begin<W: Write>(f: &mut Formatter<W>, width: usize) -> 
     ensures { WritesOnOk W.write_str_gives f.old result (line_begin width) f.new }
 {
     f.write_str(" ")?;
-    write_repeated(f, " ", width)
+    write_times(f, " ", width)
 }

@@ -1,10 +1,11 @@
 //! The program and its commands, as `clap` reads them.
-ghost use Rattle.std.specs.Prelude.{[], IfOk};
-ghost use Rattle.peglinden_words.specs.Commands.{IsCommand, IsProgram, document_command, format_command};
-ghost use Rattle.peglinden_words.specs.Commands.{lookup_command, peglinden, program, schema_command};
+ghost use Rattle.std.specs.Prelude.{◌≡◌, ◌∷◌, [], IfOk, false};
+ghost use Rattle.clap.specs.Walk.{rule_of};
+ghost use Rattle.peglinden_words.specs.Commands.{IsCommand, IsProgram, command, document_command};
+ghost use Rattle.peglinden_words.specs.Commands.{peglinden, program, schema_command};
 
 use crate::arguments::{coordinate, files, flag, json_flag, schema_option};
-use clap::Command;
+use clap::{Arg, Command};
 use std::alloc::{AllocError, Global};
 
 /// What the help of `check` ends with.
@@ -33,8 +34,24 @@ pub fn peglinden<'w>(alloc: Global) -> Result<Command<'w>, AllocError>
         "fields",
         "Print the fields that each operation reaches, and how often they stand there",
     )?;
-    let lookup = lookup_command(alloc)?;
-    let format = format_command(alloc)?;
+    let lookup = command_on_files(
+        alloc,
+        "lookup",
+        "Print the definition that a schema coordinate points to, and where it stands",
+        coordinate(alloc),
+        files(alloc, "files", "FILE", "The files of the schema"),
+    )?;
+    let format = command_on_files(
+        alloc,
+        "format",
+        "Print files in the usual layout, without their comments",
+        flag(
+            alloc,
+            "check",
+            "Print only the names of the files whose text differs",
+        ),
+        files(alloc, "files", "FILE", "The files"),
+    )?;
     program(alloc)?
         .subcommand(schema)?
         .subcommand(check)?
@@ -57,6 +74,25 @@ fn program<'w>(alloc: Global) -> Result<Command<'w>, AllocError>
         .subcommand_required(true)
         .arg_required_else_help(true);
     command.bin_name("peglinden")
+}
+
+/// A command that takes an argument, and the words behind it.
+fn command_on_files<'w>(
+    alloc: Global,
+    name: &'w str,
+    about: &'w str,
+    first: Arg<'w>,
+    files: Arg<'w>,
+) -> Result<Command<'w>, AllocError>
+    requires first { first.global ≡ false }
+    requires files { files.global ≡ false }
+    ensures { IfOk result (λ made.
+        IsCommand made (command name.entry.now (rule_of first.entry ∷ rule_of files.entry ∷ []))) }
+{
+    Command::new(alloc, name)
+        .about(about)
+        .arg(first)?
+        .arg(files)
 }
 
 /// `schema`.
@@ -92,28 +128,4 @@ fn document_command<'w>(
         .arg(schema_option(alloc))?
         .arg(json_flag(alloc))?
         .arg(files(alloc, "documents", "DOCUMENT", "The files of the documents"))
-}
-
-/// `lookup`.
-fn lookup_command<'w>(alloc: Global) -> Result<Command<'w>, AllocError>
-    ensures { IfOk result (λ command. IsCommand command lookup_command) }
-{
-    Command::new(alloc, "lookup")
-        .about("Print the definition that a schema coordinate points to, and where it stands")
-        .arg(coordinate(alloc))?
-        .arg(files(alloc, "files", "FILE", "The files of the schema"))
-}
-
-/// `format`.
-fn format_command<'w>(alloc: Global) -> Result<Command<'w>, AllocError>
-    ensures { IfOk result (λ command. IsCommand command format_command) }
-{
-    Command::new(alloc, "format")
-        .about("Print files in the usual layout, without their comments")
-        .arg(flag(
-            alloc,
-            "check",
-            "Print only the names of the files whose text differs",
-        ))?
-        .arg(files(alloc, "files", "FILE", "The files"))
 }

@@ -6,12 +6,12 @@ use Rattle.apollo_reporting.specs.FaultData.{detail_member, fault_data, file_mem
 use Rattle.apollo_reporting.specs.FaultData.{span_members}
 use Rattle.apollo_reporting.specs.MemberTexts.{member_text}
 use Rattle.apollo_reporting.proofs.JsonLemmas.{fault_written}
-use Rattle.apollo_reporting.proofs.json_members.push_fault.Goals as goal
+use Rattle.apollo_reporting.proofs.json_members.JsonOfSources.push_fault.Goals as goal
 
 pub returns : goal.returns
 unfolding fault_data
 returns g c =
-    let files = g.S.Sources.files c.args.sources.now in
+    let files = g.S.Sources.files c.args.self.now.sources.now in
     let about = about_view c.args.about.now in
     let old = string_bytes c.args.text.now in
     let first : string_bytes c.push_string_member.new.text ≡ old ++ member_text (codes "{")

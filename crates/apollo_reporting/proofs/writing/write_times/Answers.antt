@@ -3,7 +3,7 @@ use Rattle.std.proofs.Common.{◌≡◌, ◌+◌, ℕ, zero, suc, List, ◌++◌
 use Rattle.std.specs.List.{repeat}
 use Rattle.std.proofs.Output.{has_written_append, has_written_of_eq}
 use Rattle.std.proofs.lemmas.List.{append-nil}
-use Rattle.apollo_reporting.proofs.writing.write_repeated.Goals as goal
+use Rattle.apollo_reporting.proofs.writing.write_times.Goals as goal
 
 repeat-turned : (n : ℕ) (xs : List ℕ) → repeat n xs ++ xs ≡ xs ++ repeat n xs
 repeat-turned zero xs = sym (append-nil xs)
