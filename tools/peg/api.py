@@ -20,14 +20,27 @@ def contract(clauses):
     return ["Contract:", "", *layout.fenced(lines, "text")]
 
 
+def module_file(crate, module):
+    """The file of a module of `specs/`."""
+    return CRATES / crate / "specs" / f"{module.replace('.', '/')}.antt"
+
+
+def home_of(word, crate, module):
+    """The crate and the module that define a word: this one, or one whose word it hands on by `pub use`."""
+    path = module_file(crate, module)
+    handed_on = re.findall(r"^pub use .*", path.read_text(), re.MULTILINE) if path.exists() else []
+    home = declared.imports("\n".join(handed_on)).get(word)
+    return home_of(word, *home) if home else (crate, module)
+
+
 @functools.cache
 def known_words(file):
     """The words that the clauses of a file may say, with the crate and the module of each: those that it
     takes by name, and those of modules that it calls something else."""
     text = file.read_text()
-    found = declared.imports(text)
+    found = {word: home_of(word, *home) for word, home in declared.imports(text).items()}
     for crate, module, other in re.findall(r"\bghost use Rattle\.(\w+)\.specs\.([\w.]+) as (\w+);", text):
-        path = CRATES / crate / "specs" / f"{module.replace('.', '/')}.antt"
+        path = module_file(crate, module)
         its_words = declared.words(path) if path.exists() else []
         found.update((f"{other}.{word.name}", (crate, module)) for word in its_words)
 
