@@ -1,12 +1,6 @@
 //! Definitions of the type system and documents that are read and printed, as graphql-js prints them.
 
-use graphql_ast::document::Document;
-use graphql_nodes::source::FileId;
-use graphql_printing::printing::{
-    definition, definition_text, definitions, definitions_text, document_text, text,
-};
-use graphql_text::parsing::{ParseOptions, parse_definitions};
-use std::alloc::{AllocError, Global};
+use crate::rows::{Sort, assert_printed};
 use std::test::Fail;
 
 static SORTS: [(&str, &str); 28] = [
@@ -115,66 +109,11 @@ static KEPT: [(&str, &str); 4] = [
     ("input I query@d{a}", "input I\n\nquery @d {\n  a\n}"),
 ];
 
-/// Whether this definition is printed so, in both ways.
-fn is_printed(alloc: Global, source: &str, printed: &str) -> Result<bool, AllocError> {
-    let Ok(read) = parse_definitions(alloc, FileId(1), source, ParseOptions::new()) else {
-        return Ok(false);
-    };
-    let [only] = read.as_slice() else {
-        return Ok(false);
-    };
-    let mut shown = String::new(alloc);
-    write!(shown, "{}", definition(only))?;
-    Ok(definition_text(alloc, only)?.as_str() == printed && shown.as_str() == printed)
-}
-
-/// Whether these definitions are printed so, in both ways.
-fn are_printed(alloc: Global, source: &str, printed: &str) -> Result<bool, AllocError> {
-    let Ok(read) = parse_definitions(alloc, FileId(1), source, ParseOptions::new()) else {
-        return Ok(false);
-    };
-    let mut shown = String::new(alloc);
-    write!(shown, "{}", definitions(read.as_slice()))?;
-    let made = definitions_text(alloc, read.as_slice())?;
-    Ok(made.as_str() == printed && shown.as_str() == printed)
-}
-
-/// Whether a document of these definitions is printed so, in both ways.
-fn is_printed_document(alloc: Global, source: &str, printed: &str) -> Result<bool, AllocError> {
-    let Ok(read) = parse_definitions(alloc, FileId(1), source, ParseOptions::new()) else {
-        return Ok(false);
-    };
-    let document = Document::from_definitions(alloc, read.into_vec());
-    let mut shown = String::new(alloc);
-    write!(shown, "{}", text(&document))?;
-    let made = document_text(alloc, &document)?;
-    Ok(made.as_str() == printed && shown.as_str() == printed)
-}
-
 #[test]
-fn each_sort_is_printed(rt: HostRuntime) {
-    for (source, printed) in &SORTS {
-        assert!(rt; is_printed(rt.alloc(), *source, *printed) == Ok(true));
-    }
-}
-
-#[test]
-fn definitions_are_printed_in_turn(rt: HostRuntime) {
-    for (source, printed) in &DOCUMENTS {
-        assert!(rt; are_printed(rt.alloc(), *source, *printed) == Ok(true));
-    }
-}
-
-#[test]
-fn documents_are_printed(rt: HostRuntime) {
-    for (source, printed) in &DOCUMENTS {
-        assert!(rt; is_printed_document(rt.alloc(), *source, *printed) == Ok(true));
-    }
-}
-
-#[test]
-fn keywords_are_kept(rt: HostRuntime) {
-    for (source, printed) in &KEPT {
-        assert!(rt; is_printed_document(rt.alloc(), *source, *printed) == Ok(true));
+fn definitions_are_printed(rt: HostRuntime) {
+    assert_printed(&rt, rt.alloc(), Sort::Definition, &SORTS);
+    for sort in [Sort::Definitions, Sort::Document] {
+        assert_printed(&rt, rt.alloc(), sort, &DOCUMENTS);
+        assert_printed(&rt, rt.alloc(), sort, &KEPT);
     }
 }

@@ -11,4 +11,6 @@ mod members;
 #[cfg(test)]
 mod printed;
 #[cfg(test)]
+mod rows;
+#[cfg(test)]
 mod sinks;

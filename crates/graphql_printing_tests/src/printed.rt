@@ -1,15 +1,6 @@
 //! Values, types, selections, operations and fragments that are read and printed.
 
-use graphql_ast::definition::Definition;
-use graphql_nodes::source::FileId;
-use graphql_printing::printing::{
-    fragment, fragment_text, operation, operation_text, selections, selections_text, ty, type_text,
-    value, value_text,
-};
-use graphql_text::parsing::{
-    ParseOptions, parse_definitions, parse_selections, parse_type, parse_value,
-};
-use std::alloc::{AllocError, Global};
+use crate::rows::{Sort, assert_printed};
 use std::test::Fail;
 
 static VALUES: [(&str, &str); 8] = [
@@ -65,84 +56,10 @@ static DEFINITIONS: [(&str, &str); 7] = [
     ("fragment F on T@a @b{a}", "fragment F on T @a @b {\n  a\n}"),
 ];
 
-/// Whether this value is printed so, in both ways.
-fn is_printed_value(alloc: Global, text: &str, printed: &str) -> Result<bool, AllocError> {
-    let Ok(read) = parse_value(alloc, FileId(1), text, ParseOptions::new()) else {
-        return Ok(false);
-    };
-    let mut shown = String::new(alloc);
-    write!(shown, "{}", value(&read))?;
-    Ok(value_text(alloc, &read)?.as_str() == printed && shown.as_str() == printed)
-}
-
-/// Whether this type is printed so, in both ways.
-fn is_printed_type(alloc: Global, text: &str, printed: &str) -> Result<bool, AllocError> {
-    let Ok(read) = parse_type(alloc, FileId(1), text, ParseOptions::new()) else {
-        return Ok(false);
-    };
-    let mut shown = String::new(alloc);
-    write!(shown, "{}", ty(&read))?;
-    Ok(type_text(alloc, &read)?.as_str() == printed && shown.as_str() == printed)
-}
-
-/// Whether these selections are printed so, in both ways.
-fn are_printed_selections(alloc: Global, text: &str, printed: &str) -> Result<bool, AllocError> {
-    let Ok(read) = parse_selections(alloc, FileId(1), text, ParseOptions::new()) else {
-        return Ok(false);
-    };
-    let mut shown = String::new(alloc);
-    write!(shown, "{}", selections(read.as_slice()))?;
-    let made = selections_text(alloc, read.as_slice())?;
-    Ok(made.as_str() == printed && shown.as_str() == printed)
-}
-
-/// Whether this operation or fragment is printed so, in both ways.
-fn is_printed_definition(alloc: Global, text: &str, printed: &str) -> Result<bool, AllocError> {
-    let Ok(read) = parse_definitions(alloc, FileId(1), text, ParseOptions::new()) else {
-        return Ok(false);
-    };
-    let [definition] = read.as_slice() else {
-        return Ok(false);
-    };
-    let mut shown = String::new(alloc);
-    let made = match definition {
-        Definition::OperationDefinition(node) => {
-            write!(shown, "{}", operation(node))?;
-            operation_text(alloc, node)?
-        }
-        Definition::FragmentDefinition(node) => {
-            write!(shown, "{}", fragment(node))?;
-            fragment_text(alloc, node)?
-        }
-        _ => return Ok(false),
-    };
-    Ok(made.as_str() == printed && shown.as_str() == printed)
-}
-
 #[test]
-fn values_are_printed(rt: HostRuntime) {
-    for (text, printed) in &VALUES {
-        assert!(rt; is_printed_value(rt.alloc(), *text, *printed) == Ok(true));
-    }
-}
-
-#[test]
-fn types_are_printed(rt: HostRuntime) {
-    for (text, printed) in &TYPES {
-        assert!(rt; is_printed_type(rt.alloc(), *text, *printed) == Ok(true));
-    }
-}
-
-#[test]
-fn selections_are_printed(rt: HostRuntime) {
-    for (text, printed) in &SELECTIONS {
-        assert!(rt; are_printed_selections(rt.alloc(), *text, *printed) == Ok(true));
-    }
-}
-
-#[test]
-fn definitions_are_printed(rt: HostRuntime) {
-    for (text, printed) in &DEFINITIONS {
-        assert!(rt; is_printed_definition(rt.alloc(), *text, *printed) == Ok(true));
-    }
+fn parts_of_documents_are_printed(rt: HostRuntime) {
+    assert_printed(&rt, rt.alloc(), Sort::Value, &VALUES);
+    assert_printed(&rt, rt.alloc(), Sort::Type, &TYPES);
+    assert_printed(&rt, rt.alloc(), Sort::Selections, &SELECTIONS);
+    assert_printed(&rt, rt.alloc(), Sort::Executable, &DEFINITIONS);
 }
