@@ -32,6 +32,12 @@ pub struct SelectionPath {
     pub nested_fields: Items<Name>,
 }
 
+impl Drop for SelectionPath {
+    fn drop(self) {
+        take_apart!(self: root, nested_fields);
+    }
+}
+
 impl Clone for ExecutableDefinitionName {
     ghost is_clone = { λ a b. b ≡ a };
 
@@ -84,11 +90,5 @@ impl fmt::Display for SelectionPath {
             write!(f, " → {key}")?;
         }
         Ok(())
-    }
-}
-
-impl Drop for SelectionPath {
-    fn drop(self) {
-        take_apart!(self: root, nested_fields);
     }
 }

@@ -20,9 +20,9 @@ response_key_of None name = name
 abbrev pub response_key : Field → NameView
 response_key f = response_key_of f.alias f.name
 
--- a node that stands in no file
-abbrev pub in_no_file : {T : Type 0} → T → NodeView T
-in_no_file value = record { value = value; location = None }
+-- a node of this value, without a location
+abbrev pub without_location : {T : Type 0} → T → NodeView T
+without_location value = record { value = value; location = None }
 
 -- a selection, opened
 abbrev pub Opened : Type 0

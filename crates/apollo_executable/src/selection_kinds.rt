@@ -2,7 +2,7 @@
 ghost use Rattle.std.specs.Prelude.{◌≡◌, IfOk};
 ghost use Rattle.std.specs.Option.{option_copied};
 ghost use Rattle.apollo_executable.specs.SelectionParts.{as_field, as_fragment_spread, as_inline_fragment};
-ghost use Rattle.apollo_executable.specs.SelectionParts.{directives_of, in_no_file};
+ghost use Rattle.apollo_executable.specs.SelectionParts.{directives_of, without_location};
 ghost use Rattle.apollo_executable.specs.declared.selection.Selection as selections;
 
 use crate::selection::{Field, FragmentSpread, InlineFragment, Selection};
@@ -12,25 +12,33 @@ use std::alloc::{AllocError, Global};
 
 impl Selection {
     /// A selection of this field, without a location. The error is out of memory, and drops the field.
-    pub fn of_field(alloc: Global, field: Field) -> Result<Self, AllocError>
-        ensures { IfOk result (λ selection. selection ≡ selections.Field (in_no_file field)) }
+    pub fn of_field(alloc: Global, field: Field) -> Result<Selection, AllocError>
+        ensures { IfOk result (λ selection. selection ≡ selections.Field (without_location field)) }
     {
         Ok(Selection::Field(Node::new(alloc, field)?))
     }
 
     /// A selection of this inline fragment, without a location. The error is out of memory, and drops the
     /// fragment.
-    pub fn of_inline_fragment(alloc: Global, inline: InlineFragment) -> Result<Self, AllocError>
-        ensures { IfOk result (λ selection. selection ≡ selections.InlineFragment (in_no_file inline)) }
+    pub fn of_inline_fragment(
+        alloc: Global,
+        inline_fragment: InlineFragment,
+    ) -> Result<Selection, AllocError>
+        ensures { IfOk result (λ selection. selection
+            ≡ selections.InlineFragment (without_location inline_fragment)) }
     {
-        Ok(Selection::InlineFragment(Node::new(alloc, inline)?))
+        Ok(Selection::InlineFragment(Node::new(alloc, inline_fragment)?))
     }
 
     /// A selection of this spread, without a location. The error is out of memory, and drops the spread.
-    pub fn of_fragment_spread(alloc: Global, spread: FragmentSpread) -> Result<Self, AllocError>
-        ensures { IfOk result (λ selection. selection ≡ selections.FragmentSpread (in_no_file spread)) }
+    pub fn of_fragment_spread(
+        alloc: Global,
+        fragment_spread: FragmentSpread,
+    ) -> Result<Selection, AllocError>
+        ensures { IfOk result (λ selection. selection
+            ≡ selections.FragmentSpread (without_location fragment_spread)) }
     {
-        Ok(Selection::FragmentSpread(Node::new(alloc, spread)?))
+        Ok(Selection::FragmentSpread(Node::new(alloc, fragment_spread)?))
     }
 
     /// The directives of the selection.
