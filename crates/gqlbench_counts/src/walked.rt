@@ -10,28 +10,10 @@ pub fn count_walked(
     document: &ExecutableDocument,
     deep: bool,
 ) -> Result<usize, AllocError> {
-    let count = count_in_operations(alloc, document, deep)?;
-    count_in_fragments(alloc, document, deep, count)
-}
-
-fn count_in_operations(
-    alloc: Global,
-    document: &ExecutableDocument,
-    deep: bool,
-) -> Result<usize, AllocError> {
     let mut count = 0;
     for operation in document.operations.iter() {
         count = count_on(alloc, document, &operation.selection_set, deep, count)?;
     }
-    Ok(count)
-}
-
-fn count_in_fragments(
-    alloc: Global,
-    document: &ExecutableDocument,
-    deep: bool,
-    mut count: usize,
-) -> Result<usize, AllocError> {
     for fragment in document.fragments.values() {
         count = count_on(alloc, document, &fragment.selection_set, deep, count)?;
     }

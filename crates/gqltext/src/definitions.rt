@@ -1,15 +1,14 @@
 //! Definitions and extensions, and their parts.
 
-use crate::tree::Tell;
+use crate::tree::{Tell, push_place};
+use graphql_ast::declaration_ref::{DeclarationRef, TypeDeclarationRef};
 use graphql_ast::definition::Definition;
 use graphql_ast::operation::{FragmentDefinition, OperationDefinition};
 use graphql_ast::type_system::{
-    DirectiveDefinition, EnumTypeDefinition, EnumTypeExtension, EnumValueDefinition,
-    FieldDefinition, InputObjectTypeDefinition, InputObjectTypeExtension, InputValueDefinition,
-    InterfaceTypeDefinition, InterfaceTypeExtension, ObjectTypeDefinition, ObjectTypeExtension,
-    ScalarTypeDefinition, ScalarTypeExtension, SchemaDefinition, SchemaExtension,
-    UnionTypeDefinition, UnionTypeExtension,
+    DirectiveDefinition, EnumValueDefinition, FieldDefinition, InputValueDefinition,
 };
+use graphql_nodes::node_str::NodeStr;
+use graphql_nodes::type_kind::TypeKind;
 use std::alloc::AllocError;
 
 impl Tell for OperationDefinition {
@@ -35,15 +34,13 @@ impl Tell for DirectiveDefinition {
 
 impl Tell for InputValueDefinition {
     fn tell(&self, text: &mut String) -> Result<(), AllocError> {
-        tell!(text; self.description, self.name, self.ty, self.default_value)?;
-        tell!(text; self.directives)
+        tell!(text; self.description, self.name, self.ty, self.default_value, self.directives)
     }
 }
 
 impl Tell for FieldDefinition {
     fn tell(&self, text: &mut String) -> Result<(), AllocError> {
-        tell!(text; self.description, self.name, self.arguments, self.ty)?;
-        tell!(text; self.directives)
+        tell!(text; self.description, self.name, self.arguments, self.ty, self.directives)
     }
 }
 
@@ -53,114 +50,51 @@ impl Tell for EnumValueDefinition {
     }
 }
 
-impl Tell for SchemaDefinition {
-    fn tell(&self, text: &mut String) -> Result<(), AllocError> {
-        tell!(text; self.description, self.directives, self.root_operations)
+/// The description of a definition. An extension has no place for one.
+fn tell_description(
+    text: &mut String,
+    is_extension: bool,
+    description: Option<&NodeStr>,
+) -> Result<(), AllocError> {
+    match description {
+        Some(description) => description.tell(text),
+        None if is_extension => Ok(()),
+        None => text.push_str("- "),
     }
 }
 
-impl Tell for ScalarTypeDefinition {
-    fn tell(&self, text: &mut String) -> Result<(), AllocError> {
-        tell!(text; self.description, self.name, self.directives)
+/// The name and the parts, in the order of the specification: interfaces stand before the directives, and
+/// members behind them.
+fn tell_type(text: &mut String, ty: TypeDeclarationRef<'_>) -> Result<(), AllocError> {
+    let (name, parts) = (ty.name, ty.parts);
+    match ty.kind {
+        TypeKind::Scalar => tell!(text; name, parts.directives),
+        TypeKind::Object | TypeKind::Interface => {
+            tell!(text; name, parts.names, parts.directives, parts.fields)
+        }
+        TypeKind::Union => tell!(text; name, parts.directives, parts.names),
+        TypeKind::Enum => tell!(text; name, parts.directives, parts.values),
+        TypeKind::InputObject => tell!(text; name, parts.directives, parts.input_fields),
     }
 }
 
-impl Tell for ObjectTypeDefinition {
-    fn tell(&self, text: &mut String) -> Result<(), AllocError> {
-        tell!(text; self.description, self.name, self.implements_interfaces, self.directives)?;
-        tell!(text; self.fields)
-    }
-}
-
-impl Tell for InterfaceTypeDefinition {
-    fn tell(&self, text: &mut String) -> Result<(), AllocError> {
-        tell!(text; self.description, self.name, self.implements_interfaces, self.directives)?;
-        tell!(text; self.fields)
-    }
-}
-
-impl Tell for UnionTypeDefinition {
-    fn tell(&self, text: &mut String) -> Result<(), AllocError> {
-        tell!(text; self.description, self.name, self.directives, self.members)
-    }
-}
-
-impl Tell for EnumTypeDefinition {
-    fn tell(&self, text: &mut String) -> Result<(), AllocError> {
-        tell!(text; self.description, self.name, self.directives, self.values)
-    }
-}
-
-impl Tell for InputObjectTypeDefinition {
-    fn tell(&self, text: &mut String) -> Result<(), AllocError> {
-        tell!(text; self.description, self.name, self.directives, self.fields)
-    }
-}
-
-impl Tell for SchemaExtension {
-    fn tell(&self, text: &mut String) -> Result<(), AllocError> {
-        tell!(text; self.directives, self.root_operations)
-    }
-}
-
-impl Tell for ScalarTypeExtension {
-    fn tell(&self, text: &mut String) -> Result<(), AllocError> {
-        tell!(text; self.name, self.directives)
-    }
-}
-
-impl Tell for ObjectTypeExtension {
-    fn tell(&self, text: &mut String) -> Result<(), AllocError> {
-        tell!(text; self.name, self.implements_interfaces, self.directives, self.fields)
-    }
-}
-
-impl Tell for InterfaceTypeExtension {
-    fn tell(&self, text: &mut String) -> Result<(), AllocError> {
-        tell!(text; self.name, self.implements_interfaces, self.directives, self.fields)
-    }
-}
-
-impl Tell for UnionTypeExtension {
-    fn tell(&self, text: &mut String) -> Result<(), AllocError> {
-        tell!(text; self.name, self.directives, self.members)
-    }
-}
-
-impl Tell for EnumTypeExtension {
-    fn tell(&self, text: &mut String) -> Result<(), AllocError> {
-        tell!(text; self.name, self.directives, self.values)
-    }
-}
-
-impl Tell for InputObjectTypeExtension {
-    fn tell(&self, text: &mut String) -> Result<(), AllocError> {
-        tell!(text; self.name, self.directives, self.fields)
-    }
-}
-
-/// What the definition is called, and its node.
+/// What the definition is called, where it stands, and what it says.
 impl Tell for Definition {
     fn tell(&self, text: &mut String) -> Result<(), AllocError> {
         self.describe().tell(text)?;
-        match self {
-            Definition::OperationDefinition(node) => node.tell(text),
-            Definition::FragmentDefinition(node) => node.tell(text),
-            Definition::DirectiveDefinition(node) => node.tell(text),
-            Definition::SchemaDefinition(node) => node.tell(text),
-            Definition::ScalarTypeDefinition(node) => node.tell(text),
-            Definition::ObjectTypeDefinition(node) => node.tell(text),
-            Definition::InterfaceTypeDefinition(node) => node.tell(text),
-            Definition::UnionTypeDefinition(node) => node.tell(text),
-            Definition::EnumTypeDefinition(node) => node.tell(text),
-            Definition::InputObjectTypeDefinition(node) => node.tell(text),
-            Definition::SchemaExtension(node) => node.tell(text),
-            Definition::ScalarTypeExtension(node) => node.tell(text),
-            Definition::ObjectTypeExtension(node) => node.tell(text),
-            Definition::InterfaceTypeExtension(node) => node.tell(text),
-            Definition::UnionTypeExtension(node) => node.tell(text),
-            Definition::EnumTypeExtension(node) => node.tell(text),
-            Definition::InputObjectTypeExtension(node) => node.tell(text),
+        push_place(text, self.location())?;
+        match DeclarationRef::of(self) {
+            DeclarationRef::Type(ty) => {
+                tell_description(text, ty.is_extension, ty.description)?;
+                tell_type(text, ty)
+            }
+            DeclarationRef::Schema(schema) => {
+                tell_description(text, schema.is_extension, schema.description)?;
+                tell!(text; schema.parts.directives, schema.parts.roots)
+            }
+            DeclarationRef::Directive(node) => (**node).tell(text),
+            DeclarationRef::Operation(node) => (**node).tell(text),
+            DeclarationRef::Fragment(node) => (**node).tell(text),
         }
     }
 }

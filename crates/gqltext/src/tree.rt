@@ -78,13 +78,19 @@ impl<T: Tell> Tell for Node<T> {
     }
 }
 
-impl<T: Tell> Tell for Items<T> {
+impl<'a, T: Tell> Tell for &'a [T] {
     fn tell(&self, text: &mut String) -> Result<(), AllocError> {
         text.push_str("[ ")?;
-        for value in self {
+        for value in *self {
             value.tell(text)?;
         }
         text.push_str("] ")
+    }
+}
+
+impl<T: Tell> Tell for Items<T> {
+    fn tell(&self, text: &mut String) -> Result<(), AllocError> {
+        self.as_slice().tell(text)
     }
 }
 

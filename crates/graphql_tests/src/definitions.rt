@@ -67,54 +67,31 @@ fn definitions_without_a_type(rt: HostRuntime) {
     assert!(rt; is_defined(alloc, SchemaExtension::new(alloc), "a schema extension"));
 }
 
+/// Expects that what each type makes of a name is so defined.
+macro_rules! expect_named {
+    ($rt:ident: $($ty:ident: $text:literal),*) => {
+        $(assert!($rt; is_named($rt.alloc(), $ty::new, $text));)*
+    };
+}
+
 #[test]
 fn definitions_of_types(rt: HostRuntime) {
-    let alloc = rt.alloc();
-    assert!(rt; is_named(alloc, ScalarTypeDefinition::new, "a scalar type definition"));
-    assert!(rt;
-        is_named(
-            alloc,
-            ObjectTypeDefinition::new,
-            "an object type definition"
-        )
-    );
-    assert!(rt;
-        is_named(
-            alloc,
-            InterfaceTypeDefinition::new,
-            "an interface type definition"
-        )
-    );
-    assert!(rt; is_named(alloc, UnionTypeDefinition::new, "a union type definition"));
-    assert!(rt; is_named(alloc, EnumTypeDefinition::new, "an enum type definition"));
-    assert!(rt;
-        is_named(
-            alloc,
-            InputObjectTypeDefinition::new,
-            "an input object type definition"
-        )
-    );
+    expect_named!(rt:
+        ScalarTypeDefinition: "a scalar type definition",
+        ObjectTypeDefinition: "an object type definition",
+        InterfaceTypeDefinition: "an interface type definition",
+        UnionTypeDefinition: "a union type definition",
+        EnumTypeDefinition: "an enum type definition",
+        InputObjectTypeDefinition: "an input object type definition");
 }
 
 #[test]
 fn extensions_of_types(rt: HostRuntime) {
-    let alloc = rt.alloc();
-    assert!(rt; is_named(alloc, ScalarTypeExtension::new, "a scalar type extension"));
-    assert!(rt; is_named(alloc, ObjectTypeExtension::new, "an object type extension"));
-    assert!(rt;
-        is_named(
-            alloc,
-            InterfaceTypeExtension::new,
-            "an interface type extension"
-        )
-    );
-    assert!(rt; is_named(alloc, UnionTypeExtension::new, "a union type extension"));
-    assert!(rt; is_named(alloc, EnumTypeExtension::new, "an enum type extension"));
-    assert!(rt;
-        is_named(
-            alloc,
-            InputObjectTypeExtension::new,
-            "an input object type extension"
-        )
-    );
+    expect_named!(rt:
+        ScalarTypeExtension: "a scalar type extension",
+        ObjectTypeExtension: "an object type extension",
+        InterfaceTypeExtension: "an interface type extension",
+        UnionTypeExtension: "a union type extension",
+        EnumTypeExtension: "an enum type extension",
+        InputObjectTypeExtension: "an input object type extension");
 }

@@ -50,18 +50,17 @@ fn expect_told(rt: &(impl Abort + AllocGlobal), told: Result<String, ReadError>,
     }
 }
 
-/// Documents that are printed as they are read.
-const SAME: &str =
-    "ext scalar S\n@ d\n---\next interface I\nimplements J\nimplements J\nfield a Int\n---\next union U\nmember A\nmember A\n---\next enum E\nvalue true\n---\next input P\nfield a Int\n---\next object T\n@ d\nimplements I\nfield a Int\narg x Int\n---\nschema\n---\next-schema\n---\next-schema\n@ d\nroot query A\nroot query B\nroot query A\n---\nschema\nroot query query\next-schema\nroot mutation root\ndef object schema\nschema\n---\next-schema\nroot query A\nschema\n@ d\nroot query B\n";
-
-/// Executable documents that are printed as they are read.
-const EXECUTABLE: &str =
-    "operation query -\n@ d\nsel 0 field a\nsel 0 field a b\nsel 1 field c\nsel 2 spread F\nsel 2 inline T\nsel 3 field d\nsel 1 inline\nsel 2 spread G\nsel 0 spread F\n---\nfragment F T\n@ d\n@ d\nsel 0 field a\noperation subscription S\n---\nfragment G T\n";
+/// Documents of the schema, and executable ones, that are printed as they are read.
+const SAME: [&str; 2] = [
+    "ext scalar S\n@ d\n---\next interface I\nimplements J\nimplements J\nfield a Int\n---\next union U\nmember A\nmember A\n---\next enum E\nvalue true\n---\next input P\nfield a Int\n---\next object T\n@ d\nimplements I\nfield a Int\narg x Int\n---\nschema\n---\next-schema\n---\next-schema\n@ d\nroot query A\nroot query B\nroot query A\n---\nschema\nroot query query\next-schema\nroot mutation root\ndef object schema\nschema\n---\next-schema\nroot query A\nschema\n@ d\nroot query B\n",
+    "operation query -\n@ d\nsel 0 field a\nsel 0 field a b\nsel 1 field c\nsel 2 spread F\nsel 2 inline T\nsel 3 field d\nsel 1 inline\nsel 2 spread G\nsel 0 spread F\n---\nfragment F T\n@ d\n@ d\nsel 0 field a\noperation subscription S\n---\nfragment G T\n",
+];
 
 #[test]
 fn documents_of_both_sorts_are_printed_as_they_are_read(rt: HostRuntime) {
-    expect_told(&rt, read_again(rt.alloc(), SAME), SAME);
-    expect_told(&rt, read_again(rt.alloc(), EXECUTABLE), EXECUTABLE);
+    for text in SAME {
+        expect_told(&rt, read_again(rt.alloc(), text), text);
+    }
 }
 
 /// Texts, and how the documents of each are printed and divided, or why it is refused.

@@ -243,19 +243,17 @@ static VALUES: [(&str, &str); 6] = [
 ];
 
 #[test]
-fn documents_are_refused_where_they_go_wrong(rt: HostRuntime) {
-    let options = ParseOptions::new();
-    assert!(rt; are_told(rt.alloc(), Whole::Definitions, options, &TOKENS) == Ok(true));
-    assert!(rt; are_told(rt.alloc(), Whole::Definitions, options, &MEANINGS) == Ok(true));
-    assert!(rt; are_told(rt.alloc(), Whole::Definitions, options, &EXPECTED) == Ok(true));
-}
-
-#[test]
-fn parts_are_refused_where_they_go_wrong(rt: HostRuntime) {
-    let options = ParseOptions::new();
-    assert!(rt; are_told(rt.alloc(), Whole::Selections, options, &SELECTIONS) == Ok(true));
-    assert!(rt; are_told(rt.alloc(), Whole::Type, options, &TYPES) == Ok(true));
-    assert!(rt; are_told(rt.alloc(), Whole::Value, options, &VALUES) == Ok(true));
+fn texts_are_refused_where_they_go_wrong(rt: HostRuntime) {
+    for (whole, rows) in [
+        (Whole::Definitions, TOKENS.as_slice()),
+        (Whole::Definitions, MEANINGS.as_slice()),
+        (Whole::Definitions, EXPECTED.as_slice()),
+        (Whole::Selections, SELECTIONS.as_slice()),
+        (Whole::Type, TYPES.as_slice()),
+        (Whole::Value, VALUES.as_slice()),
+    ] {
+        assert!(rt; are_told(rt.alloc(), whole, ParseOptions::new(), rows) == Ok(true));
+    }
 }
 
 #[test]

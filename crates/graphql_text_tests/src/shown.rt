@@ -90,19 +90,19 @@ const OPERATION: &str = " query Q($x:[Int!]!=[1,2]@d){f(a:$x,b:\"é\")...F @i}";
 
 const SCALAR: &str = "\"\"\"\n    one\n      two\n    \"\"\" scalar S";
 
-const QUERY: &str =
-    "[OperationDefinition(OperationDefinition { operation_type: Query, name: Some(\"Q\"), variables: [VariableDefinition { name: \"x\", ty: NonNullList(NonNullNamed(\"Int\")), default_value: Some(List([Int(\"1\"), Int(\"2\")])), directives: DirectiveList([Directive { name: \"d\", arguments: [] }]) }], directives: DirectiveList([]), selection_set: [Field(Field { alias: None, name: \"f\", arguments: [Argument { name: \"a\", value: Variable(\"x\") }, Argument { name: \"b\", value: String(\"é\") }], directives: DirectiveList([]), selection_set: [] }), FragmentSpread(FragmentSpread { fragment_name: \"F\", directives: DirectiveList([Directive { name: \"i\", arguments: [] }]) })] })]";
-
-const SHORTHAND: &str =
-    "[OperationDefinition(OperationDefinition { operation_type: Query, name: None, variables: [], directives: DirectiveList([]), selection_set: [Field(Field { alias: Some(\"b\"), name: \"a\", arguments: [Argument { name: \"x\", value: Object([]) }], directives: DirectiveList([Directive { name: \"d\", arguments: [Argument { name: \"y\", value: List([]) }] }]), selection_set: [InlineFragment(InlineFragment { type_condition: Some(\"T\"), directives: DirectiveList([]), selection_set: [Field(Field { alias: None, name: \"c\", arguments: [], directives: DirectiveList([]), selection_set: [] })] }), InlineFragment(InlineFragment { type_condition: None, directives: DirectiveList([Directive { name: \"i\", arguments: [] }]), selection_set: [Field(Field { alias: None, name: \"on\", arguments: [], directives: DirectiveList([]), selection_set: [] })] })] })] })]";
-
-const MUTATION: &str =
-    "[OperationDefinition(OperationDefinition { operation_type: Mutation, name: None, variables: [], directives: DirectiveList([Directive { name: \"d\", arguments: [] }]), selection_set: [Field(Field { alias: None, name: \"a\", arguments: [], directives: DirectiveList([]), selection_set: [] })] }), FragmentDefinition(FragmentDefinition { name: \"F\", type_condition: \"T\", directives: DirectiveList([Directive { name: \"d\", arguments: [] }]), selection_set: [FragmentSpread(FragmentSpread { fragment_name: \"G\", directives: DirectiveList([]) })] })]";
-
 static DEFINITIONS: [(&str, &str); 15] = [
-    (OPERATION, QUERY),
-    ("{b:a(x:{})@d(y:[]){...on T{c}...@i{on}}}", SHORTHAND),
-    ("mutation@d{a}fragment F on T@d{...G}", MUTATION),
+    (
+        OPERATION,
+        "[OperationDefinition(OperationDefinition { operation_type: Query, name: Some(\"Q\"), variables: [VariableDefinition { name: \"x\", ty: NonNullList(NonNullNamed(\"Int\")), default_value: Some(List([Int(\"1\"), Int(\"2\")])), directives: DirectiveList([Directive { name: \"d\", arguments: [] }]) }], directives: DirectiveList([]), selection_set: [Field(Field { alias: None, name: \"f\", arguments: [Argument { name: \"a\", value: Variable(\"x\") }, Argument { name: \"b\", value: String(\"é\") }], directives: DirectiveList([]), selection_set: [] }), FragmentSpread(FragmentSpread { fragment_name: \"F\", directives: DirectiveList([Directive { name: \"i\", arguments: [] }]) })] })]",
+    ),
+    (
+        "{b:a(x:{})@d(y:[]){...on T{c}...@i{on}}}",
+        "[OperationDefinition(OperationDefinition { operation_type: Query, name: None, variables: [], directives: DirectiveList([]), selection_set: [Field(Field { alias: Some(\"b\"), name: \"a\", arguments: [Argument { name: \"x\", value: Object([]) }], directives: DirectiveList([Directive { name: \"d\", arguments: [Argument { name: \"y\", value: List([]) }] }]), selection_set: [InlineFragment(InlineFragment { type_condition: Some(\"T\"), directives: DirectiveList([]), selection_set: [Field(Field { alias: None, name: \"c\", arguments: [], directives: DirectiveList([]), selection_set: [] })] }), InlineFragment(InlineFragment { type_condition: None, directives: DirectiveList([Directive { name: \"i\", arguments: [] }]), selection_set: [Field(Field { alias: None, name: \"on\", arguments: [], directives: DirectiveList([]), selection_set: [] })] })] })] })]",
+    ),
+    (
+        "mutation@d{a}fragment F on T@d{...G}",
+        "[OperationDefinition(OperationDefinition { operation_type: Mutation, name: None, variables: [], directives: DirectiveList([Directive { name: \"d\", arguments: [] }]), selection_set: [Field(Field { alias: None, name: \"a\", arguments: [], directives: DirectiveList([]), selection_set: [] })] }), FragmentDefinition(FragmentDefinition { name: \"F\", type_condition: \"T\", directives: DirectiveList([Directive { name: \"d\", arguments: [] }]), selection_set: [FragmentSpread(FragmentSpread { fragment_name: \"G\", directives: DirectiveList([]) })] })]",
+    ),
     (
         "\"d\"schema@d{query:Q subscription:S}extend schema{mutation:M}",
         "[SchemaDefinition(SchemaDefinition { description: Some(\"d\"), directives: DirectiveList([Directive { name: \"d\", arguments: [] }]), root_operations: [(Query, \"Q\"), (Subscription, \"S\")] }), SchemaExtension(SchemaExtension { directives: DirectiveList([]), root_operations: [(Mutation, \"M\")] })]",
@@ -200,17 +200,15 @@ static VALUES: [(&str, &str); 12] = [
 ];
 
 #[test]
-fn definitions_hold_their_parts(rt: HostRuntime) {
-    let options = ParseOptions::new();
-    assert!(rt; are_told(rt.alloc(), Whole::Definitions, options, &DEFINITIONS) == Ok(true));
-}
-
-#[test]
-fn parts_are_read_alone(rt: HostRuntime) {
-    let options = ParseOptions::new();
-    assert!(rt; are_told(rt.alloc(), Whole::Selections, options, &SELECTIONS) == Ok(true));
-    assert!(rt; are_told(rt.alloc(), Whole::Type, options, &TYPES) == Ok(true));
-    assert!(rt; are_told(rt.alloc(), Whole::Value, options, &VALUES) == Ok(true));
+fn texts_are_read_as_what_they_hold(rt: HostRuntime) {
+    for (whole, rows) in [
+        (Whole::Definitions, DEFINITIONS.as_slice()),
+        (Whole::Selections, SELECTIONS.as_slice()),
+        (Whole::Type, TYPES.as_slice()),
+        (Whole::Value, VALUES.as_slice()),
+    ] {
+        assert!(rt; are_told(rt.alloc(), whole, ParseOptions::new(), rows) == Ok(true));
+    }
 }
 
 #[test]

@@ -66,10 +66,5 @@ pub(crate) fn are_told(
     options: ParseOptions,
     rows: &[(&str, &str)],
 ) -> Result<bool, AllocError> {
-    for (text, expected) in rows {
-        if told_text(alloc, whole, options, *text)?.as_str() != *expected {
-            return Ok(false);
-        }
-    }
-    Ok(true)
+    each_gives!(rows; text => told_text(alloc, whole, options, *text)?)
 }

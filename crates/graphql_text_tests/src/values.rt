@@ -32,22 +32,12 @@ const BLOCK_STRINGS: [(&str, &str); 8] = [
 
 /// Whether each string has the value that is said beside it.
 fn strings_mean(alloc: Global, rows: &[(&str, &str)]) -> Result<bool, AllocError> {
-    for (token, expected) in rows {
-        if string_value(alloc, *token)?.as_str() != *expected {
-            return Ok(false);
-        }
-    }
-    Ok(true)
+    each_gives!(rows; token => string_value(alloc, *token)?)
 }
 
 /// Whether each block string has the value that is said beside it.
 fn block_strings_mean(alloc: Global, rows: &[(&str, &str)]) -> Result<bool, AllocError> {
-    for (token, expected) in rows {
-        if block_string_value(alloc, *token)?.as_str() != *expected {
-            return Ok(false);
-        }
-    }
-    Ok(true)
+    each_gives!(rows; token => block_string_value(alloc, *token)?)
 }
 
 #[test]

@@ -32,10 +32,10 @@ pub fn are_made_alike<T: PartialEq + Hash + Drop>(
     }
 }
 
-/// Whether the values are equal, if there was memory for both.
-pub fn are_equal<T: PartialEq + Drop>(
-    first: Result<T, AllocError>,
-    second: Result<T, AllocError>,
+/// Whether the values are equal, if there are both: if there was memory for them, or if both were found.
+pub fn are_equal<T: PartialEq + Drop, E: Drop>(
+    first: Result<T, E>,
+    second: Result<T, E>,
 ) -> Option<bool> {
     match (first, second) {
         (Ok(first), Ok(second)) => Some(first == second),
