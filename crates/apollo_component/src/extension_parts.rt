@@ -96,7 +96,7 @@ impl ExtensionParts {
                 Ok(())
             }
             HeldParts::Many(table) => {
-                for (id, parts) in table.into_index_map() {
+                for (id, parts) in table.into_index_map()? {
                     written.push(extension_of_type(alloc, kind, name, id.location(), parts)?)?;
                 }
                 Ok(())
@@ -113,7 +113,7 @@ impl ExtensionParts {
         ensures { OnOk result (written.new.items
             ≡ written.old.items ++ map (λ e. schema_extension e.1 (extension_location e.0)) self) }
     {
-        for (id, parts) in self.held.into_table(alloc)?.into_index_map() {
+        for (id, parts) in self.held.into_table(alloc)?.into_index_map()? {
             written.push(extension_of_schema(alloc, id.location(), parts)?)?;
         }
         Ok(())

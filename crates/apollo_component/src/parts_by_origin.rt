@@ -12,13 +12,13 @@ use crate::listed::Listed;
 use graphql_ast::declaration::{SchemaDeclaration, TypeDeclaration};
 use graphql_ast::definition::Definition;
 use graphql_ast::parts::Parts;
+use graphql_nodes::collections::elements::Elements;
 use graphql_nodes::name::Name;
 use graphql_nodes::node::Node;
 use graphql_nodes::node_str::NodeStr;
 use graphql_nodes::source::SourceSpan;
 use graphql_nodes::take_apart;
 use graphql_nodes::type_kind::TypeKind;
-use indexmap::map::Values;
 use std::alloc::{AllocError, Global};
 
 /// The parts of a definition, and those of each of its extensions, by first appearance. After a call that ran
@@ -87,7 +87,7 @@ impl PartsByOrigin {
     pub fn add_named_components<T: Drop>(
         &mut self,
         alloc: Global,
-        components: Values<'_, Name, Component<T>>,
+        components: Elements<'_, Component<T>>,
     ) -> Result<(), AllocError>
     where
         Node<T>: Listed,

@@ -8,9 +8,8 @@ ghost use Rattle.graphql_nodes.specs.NodeView.{NodeView};
 
 use crate::operation::Operation;
 use crate::operation_map::OperationMap;
-use graphql_nodes::name::Name;
+use graphql_nodes::collections::elements::Elements;
 use graphql_nodes::node::Node;
-use indexmap::map::Values;
 use std::iter::FusedIterator;
 use std::marker::Model;
 
@@ -19,7 +18,7 @@ use std::marker::Model;
 #[derive(Drop)]
 pub struct Operations<'a> {
     anonymous: Option<&'a Node<Operation>>,
-    named: Values<'a, Name, Node<Operation>>,
+    named: Elements<'a, Node<Operation>>,
 }
 
 impl<'a> Model for Operations<'a> {

@@ -5,11 +5,11 @@ ghost use Rattle.std.specs.Iterator.SizeHint.{IsWithinCount, IsExactHint};
 ghost use Rattle.apollo_schema.specs.ImplementerNames.{names_left};
 ghost use Rattle.apollo_schema.specs.Noted.{no_implementers, with_implementer};
 
+use graphql_nodes::collections::elements::Elements;
 use graphql_nodes::collections::hash_keys::HashKeys;
 use graphql_nodes::collections::key_set::KeySet;
 use graphql_nodes::name::Name;
 use graphql_nodes::{clone_fields, take_apart};
-use indexmap::set::Iter;
 use std::alloc::{AllocError, Global};
 use std::iter::FusedIterator;
 
@@ -80,8 +80,8 @@ impl Implementers {
 /// The names of object types, and then those of interface types.
 #[derive(Drop)]
 pub struct ImplementersIter<'a> {
-    objects: Iter<'a, Name>,
-    interfaces: Iter<'a, Name>,
+    objects: Elements<'a, Name>,
+    interfaces: Elements<'a, Name>,
 }
 
 impl<'a> Iterator for ImplementersIter<'a> {

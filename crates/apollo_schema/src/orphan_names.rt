@@ -7,8 +7,8 @@ ghost use Rattle.apollo_schema.specs.NamesLeft.{names_held, names_left};
 use graphql_ast::definition::Definition;
 use graphql_nodes::collections::items::Items;
 use graphql_nodes::collections::table::Table;
+use graphql_nodes::collections::table::iter::Iter;
 use graphql_nodes::name::Name;
-use indexmap::map::Iter;
 use std::iter::FusedIterator;
 
 /// The names that are extended and not defined, in order of first extension.

@@ -13,10 +13,9 @@ use apollo_component::extension::ComponentOrigin;
 use apollo_component::parts_by_origin::PartsByOrigin;
 use graphql_ast::directive::Directive;
 use graphql_ast::type_system::{EnumValueDefinition, FieldDefinition, InputValueDefinition};
-use graphql_nodes::name::Name;
+use graphql_nodes::collections::elements::Elements;
 use graphql_nodes::node::Node;
 use graphql_nodes::operation_type::OperationType;
-use indexmap::map::Values;
 use std::alloc::{AllocError, Global};
 use std::marker::Model;
 use std::slice::Iter;
@@ -26,9 +25,9 @@ use std::slice::Iter;
 pub(crate) enum Rest<'a> {
     Nothing,
     Names(Iter<'a, ComponentName>),
-    Fields(Values<'a, Name, Component<FieldDefinition>>),
-    EnumValues(Values<'a, Name, Component<EnumValueDefinition>>),
-    InputFields(Values<'a, Name, Component<InputValueDefinition>>),
+    Fields(Elements<'a, Component<FieldDefinition>>),
+    EnumValues(Elements<'a, Component<EnumValueDefinition>>),
+    InputFields(Elements<'a, Component<InputValueDefinition>>),
     Roots(RootOperations<'a>),
 }
 

@@ -1,4 +1,6 @@
 pub mod Comparisons
+pub mod FewEntryLemmas
+pub mod FewKeyLemmas
 pub mod KeySetClones
 pub mod KeysTried
 pub mod LineColumnLemmas

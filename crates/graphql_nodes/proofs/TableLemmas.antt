@@ -2,10 +2,15 @@
 use Rattle.std.proofs.Common.{◌≡◌, ℕ, zero, suc, List, [], ◌∷◌, Option, None, Some, IfSome, MutBor, slice_get}
 use Rattle.std.proofs.Common.{unwrap_or, sym, refl, ap}
 use Rattle.std.specs.Option.{option_copied_mut}
-use Rattle.std.proofs.lemmas.Map.Entries.{entries_from_clone}
+use Rattle.std.proofs.Common.{Bor}
+use Rattle.std.specs.Cmp.{IsEquivalence}
+use Rattle.std.specs.Map.Iter.{deref_pair}
+use Rattle.std.specs.Option.{option_map}
+use Rattle.std.proofs.lemmas.Map.Entries.{entries_from_clone, lookup_from_place}
 use Rattle.std.proofs.lemmas.Map.Steps.{set_value_same}
-use Rattle.graphql_nodes.specs.Tables.{AreClones, IsTableClone, lookup, values_of, set_value, set_value_at}
-use Rattle.std.specs.Prelude.{Bool}
+use Rattle.graphql_nodes.specs.Tables.{AreClones, HasUniqueKeys, IsTableClone, keys_of, lookup, values_of}
+use Rattle.graphql_nodes.specs.Tables.{set_value, set_value_at}
+use Rattle.std.specs.Prelude.{Bool, zip}
 
 -- exact clones of the keys and values make an exact clone of the entries
 pub exact_clones : {K V : Type 0} (C : K → K → Type 0) (D : V → V → Type 0) (es fs : List (K × V))
@@ -30,3 +35,15 @@ pub as_found_at : {K V : Type 0} (es : List (K × V)) (place : ℕ) (r : Option 
     → option_copied_mut r ≡ slice_get (values_of es) place → IfSome r (λ x. set_value_at es place x.now ≡ es)
 as_found_at es place None h = tt
 as_found_at es place (Some x) h = set_same es place x.now (sym h)
+
+-- where keys are unique, a look-up by the key of an entry finds its value
+pub key_finds : {K V : Type 0} {eq : K → K → Bool} → IsEquivalence eq → (es : List (K × V)) (place : ℕ)
+    (r : Option (Bor K × Bor V)) → HasUniqueKeys eq es → option_map deref_pair r ≡ slice_get es place
+    → IfSome r (λ e. lookup (eq e.0.now) es ≡ Some e.1.now)
+key_finds laws es place None unique at = tt
+key_finds laws es place (Some e) unique at = lookup_from_place laws es place _ _ unique (sym at)
+
+-- the entries of a table are its keys beside its values
+pub as_columns : {K V : Type 0} (es : List (K × V)) → zip (keys_of es) (values_of es) ≡ es
+as_columns [] = refl
+as_columns (e ∷ es) = ap (λ rest. e ∷ rest) (as_columns es)

@@ -2,6 +2,7 @@ pub mod BoxedLending
 pub mod BuiltIn
 pub mod Clones
 pub mod Comparing
+pub mod HeldKeys
 pub mod ItemsLending
 pub mod KeySets
 pub mod KeyedHash
@@ -20,6 +21,7 @@ pub mod OperationTexts
 pub mod PlaceTexts
 pub mod SameText
 pub mod Sources
+pub mod TableEntries
 pub mod TableLending
 pub mod Tables
 pub mod VisibleTexts

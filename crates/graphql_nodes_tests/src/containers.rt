@@ -3,6 +3,7 @@
 use crate::lists::are;
 use crate::shown::is_shown;
 use crate::tables::expect_at;
+use graphql_nodes::collections::hash_keys::HashKeys;
 use graphql_nodes::collections::key_set::KeySet;
 use graphql_nodes::collections::table::Table;
 use likeness::both;
@@ -53,7 +54,7 @@ fn is_table_kept(table: Table<i32, char>) -> Result<bool, AllocError> {
     let mut copy = table.clone()?;
     let is_copied = copy == table;
     let is_removed = (copy.shift_remove(&5), copy.len()) == (Some('c'), 1);
-    let back = Table::from_index_map(table.into_index_map());
+    let back = Table::from_index_map(table.into_index_map()?);
     Ok(is_copied && is_removed && back.len() == 2)
 }
 
@@ -100,39 +101,35 @@ fn nested(
     Ok(table)
 }
 
-const ENTRIES: [(i32, char); 4] = [(5, 'a'), (3, 'b'), (9, 'c'), (7, 'd')];
+const FIVE: (i32, char) = (5, 'a');
+
+const THREE: (i32, char) = (3, 'b');
+
+const NINE: (i32, char) = (9, 'c');
+
+const SEVEN: (i32, char) = (7, 'd');
+
+const ENTRIES: [(i32, char); 4] = [FIVE, THREE, NINE, SEVEN];
 
 /// Lists of entries, how they go, and whether a table of them is equal to that of the entries.
 const OTHERS: &[(&str, &[(i32, char)], bool)] = &[
     ("the same", &ENTRIES, true),
-    ("turned", &[(7, 'd'), (9, 'c'), (3, 'b'), (5, 'a')], true),
-    (
-        "late turned",
-        &[(5, 'a'), (3, 'b'), (7, 'd'), (9, 'c')],
-        true,
-    ),
-    (
-        "a late value",
-        &[(5, 'a'), (3, 'b'), (9, 'c'), (7, 'e')],
-        false,
-    ),
-    (
-        "a late key",
-        &[(5, 'a'), (3, 'b'), (9, 'c'), (8, 'd')],
-        false,
-    ),
+    ("turned", &[SEVEN, NINE, THREE, FIVE], true),
+    ("late turned", &[FIVE, THREE, SEVEN, NINE], true),
+    ("a late value", &[FIVE, THREE, NINE, (7, 'e')], false),
+    ("a late key", &[FIVE, THREE, NINE, (8, 'd')], false),
     (
         "late turned, a value",
-        &[(5, 'a'), (3, 'b'), (7, 'd'), (9, 'e')],
+        &[FIVE, THREE, SEVEN, (9, 'e')],
         false,
     ),
     (
         "turned, a late value",
-        &[(7, 'd'), (9, 'c'), (3, 'b'), (5, 'e')],
+        &[SEVEN, NINE, THREE, (5, 'e')],
         false,
     ),
     ("none", &[], false),
-    ("fewer", &[(5, 'a'), (3, 'b')], false),
+    ("fewer", &[FIVE, THREE], false),
 ];
 
 /// Tables, and tables of tables at both levels.
@@ -170,7 +167,7 @@ fn is_set_kept(set: KeySet<i32>) -> Result<bool, AllocError> {
     let mut copy = set.clone()?;
     let is_copied = copy == set;
     let is_removed = copy.shift_remove(&5) && are(copy.as_slice(), &[3]);
-    let back = KeySet::from_index_set(set.into_index_set());
+    let back = KeySet::from_index_set(set.into_index_set()?);
     Ok(is_copied && is_removed && are(back.as_slice(), &[5, 3]))
 }
 
@@ -206,15 +203,38 @@ fn sets_are_equal_in_any_order(rt: HostRuntime) {
     }
 }
 
-/// How many entries a table has room for once it has one.
-fn first_room(alloc: Global) -> Result<usize, AllocError> {
-    let mut table = Table::new(alloc);
-    table.insert(1, 2)?;
-    Ok(table.as_index_map().capacity())
+/// Whether a table of so many entries reads, compares and shrinks as a table does, with room at once or not.
+fn is_table_of(alloc: Global, count: usize) -> Result<bool, AllocError> {
+    let mut table = Table::with_capacity(alloc, HashKeys::FIXED, count)?;
+    let mut other = Table::new(alloc);
+    for key in 0..count {
+        table.insert(key, 'a')?;
+        other.insert(key, 'a')?;
+    }
+    let is_read = table.get_full(&3) == Some((3, &3, &'a')) && table.get(&count).is_none();
+    let is_equal = table == other && table.keys().len() == count;
+    let is_removed = other.shift_remove(&0) == Some('a') && other.first() == Some((&1, &'a'));
+    table.append(&mut other)?;
+    Ok(is_read && is_equal && is_removed && other.is_empty() && table.len() == count)
 }
 
-/// A build gives a table room at once where it is to have more entries than that.
+/// Whether a set of so many keys reads, compares and shrinks as a set does.
+fn is_set_of(alloc: Global, count: usize) -> Result<bool, AllocError> {
+    let mut set = KeySet::new(alloc);
+    for key in 0..count {
+        set.insert(key)?;
+    }
+    let mut copy = set.clone()?;
+    let is_read = set.get_full(&3) == Some((3, &3)) && !set.contains(&count);
+    let is_removed = copy.shift_remove(&0) && copy.first() == Some(&1) && copy != set;
+    Ok(is_read && is_removed && copy.insert(count)? && set.len() == count)
+}
+
+/// From the ninth on they are hashed.
 #[test]
-fn a_table_of_one_entry_has_room_for_nine(rt: HostRuntime) {
-    assert!(rt; first_room(rt.alloc()) == Ok(9));
+fn tables_and_sets_grow_past_eight(rt: HostRuntime) {
+    for count in [8, 9, 40] {
+        assert!(rt; is_table_of(rt.alloc(), count) == Ok(true));
+        assert!(rt; is_set_of(rt.alloc(), count) == Ok(true));
+    }
 }

@@ -7,19 +7,19 @@ use graphql_nodes::type_kind::TypeKind;
 use likeness::is_printed;
 use std::alloc::Global;
 
-/// Each kind of a type, with its text.
-const KINDS: &[(TypeKind, &str)] = &[
-    (TypeKind::Scalar, "a scalar type"),
-    (TypeKind::Object, "an object type"),
-    (TypeKind::Interface, "an interface type"),
-    (TypeKind::Union, "a union type"),
-    (TypeKind::Enum, "an enum type"),
-    (TypeKind::InputObject, "an input object type"),
+/// What messages call each kind of a type.
+const KINDS: &[(&str, TypeKind)] = &[
+    ("a scalar type", TypeKind::Scalar),
+    ("an object type", TypeKind::Object),
+    ("an interface type", TypeKind::Interface),
+    ("a union type", TypeKind::Union),
+    ("an enum type", TypeKind::Enum),
+    ("an input object type", TypeKind::InputObject),
 ];
 
 #[test]
 fn kinds(rt: HostRuntime) {
-    for (kind, text) in KINDS {
+    for (text, kind) in KINDS {
         expect_at(&rt, text, kind.describe() == *text);
     }
 }

@@ -20,7 +20,6 @@ use graphql_nodes::collections::table::Table;
 use graphql_nodes::name::Name;
 use graphql_nodes::named::Named;
 use graphql_nodes::node::Node;
-use indexmap::IndexMap;
 use std::alloc::AllocError;
 
 /// Gives an empty table room for so many entries at once. The error is out of memory.
@@ -30,9 +29,7 @@ fn make_room<T: Drop>(table: &mut Table<Name, Component<T>>, count: usize) -> Re
     if count == 0 || !table.is_empty() {
         return Ok(());
     }
-    let alloc = *table.as_index_map().allocator();
-    let map = IndexMap::with_capacity_and_hasher(alloc, count, table.hash_keys())?;
-    *table = Table::from_index_map(map);
+    *table = Table::with_capacity(table.allocator(), table.hash_keys(), count)?;
     Ok(())
 }
 

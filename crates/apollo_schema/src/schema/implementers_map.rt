@@ -38,7 +38,7 @@ fn note(
         implementers.add(name, is_object)?;
         return Ok(());
     }
-    let alloc = *map.as_index_map().allocator();
+    let alloc = map.allocator();
     let mut implementers = Implementers::with_keys(alloc, map.hash_keys());
     implementers.add(name, is_object)?;
     map.insert(interface.name.clone()?, implementers)?;

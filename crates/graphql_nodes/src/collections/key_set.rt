@@ -8,25 +8,35 @@ ghost use Rattle.std.specs.List.{find, list_all, list_any, IsDistinct};
 ghost use Rattle.graphql_nodes.specs.KeySets.{set_eq, set_eq_equiv, insert_key, remove_key, has_key};
 ghost use Rattle.graphql_nodes.specs.KeySets.{IsSetClone};
 
+mod few_keys;
+
+use crate::collections::elements::Elements;
 use crate::collections::hash_keys::HashKeys;
+use few_keys::FewKeys;
 use indexmap::IndexSet;
-use indexmap::set::Iter;
 use std::alloc::{AllocError, AllocFailed, Global};
 use std::fmt;
 use std::hash::Hash;
 use std::marker::Model;
 
 /// A set in the order of insertion, which contracts see as the list of its keys. They see nothing of the keys
-/// that it hashes by.
+/// that it hashes by, nor that up to eight keys are compared one by one, and only more are hashed.
 ///
 /// Sets are equal where they have the same keys, in any order.
 pub struct KeySet<T: Eq + Hash> {
-    set: IndexSet<T, HashKeys>,
+    held: Held<T>,
+}
+
+/// Where a set keeps its keys. Many never become few again.
+#[derive(Drop)]
+enum Held<T: Eq + Hash> {
+    Few(FewKeys<T>),
+    Many(IndexSet<T, HashKeys>),
 }
 
 impl<T: Eq + Hash + Drop> Drop for KeySet<T> {
     fn drop(self) {
-        let Self { set: _ } = self;
+        let Self { held: _ } = self;
     }
 }
 
@@ -38,7 +48,9 @@ impl<T: Eq + Hash> Model for KeySet<T> {
 
     ghost coded = { coded_list T.code };
 
-    ghost view = { λ s. s.set.keys };
+    ghost use Rattle.graphql_nodes.specs.HeldKeys.{held_keys};
+
+    ghost view = { λ s. held_keys s.held };
 }
 
 impl<T: Eq + Hash> KeySet<T> {
@@ -55,13 +67,16 @@ impl<T: Eq + Hash> KeySet<T> {
         ensures { result ≡ [] }
     {
         KeySet {
-            set: IndexSet::with_hasher(alloc, keys),
+            held: Held::Few(FewKeys::new(alloc, keys)),
         }
     }
 
     /// The keys that the set hashes by, for a set that is made beside it.
     pub fn hash_keys(&self) -> HashKeys {
-        *self.set.hasher()
+        match &self.held {
+            Held::Few(few) => few.hash_keys(),
+            Held::Many(set) => *set.hasher(),
+        }
     }
 
     /// The keys of the set, in order. No two are equal.
@@ -70,15 +85,9 @@ impl<T: Eq + Hash> KeySet<T> {
         ensures unique { IsDistinct T.eq result }
     {
         let _len = set.len();
-        KeySet { set }
-    }
-
-    /// The keys as an `IndexSet`.
-    pub fn into_index_set(self) -> IndexSet<T, HashKeys>
-        ensures { result.keys ≡ self }
-    {
-        let KeySet { set } = self;
-        set
+        KeySet {
+            held: Held::Many(set),
+        }
     }
 
     /// How many keys there are.
@@ -87,14 +96,17 @@ impl<T: Eq + Hash> KeySet<T> {
         ensures small { result < 2 ^ 63 }
         ensures unique { IsDistinct T.eq self.now }
     {
-        self.set.len()
+        match &self.held {
+            Held::Few(few) => few.len(),
+            Held::Many(set) => set.len(),
+        }
     }
 
     /// Whether there is no key.
     pub fn is_empty(&self) -> bool
         ensures { result ≡ (length self.now == 0) }
     {
-        self.set.is_empty()
+        self.len() == 0
     }
 
     /// The key at a place, if there is one.
@@ -108,7 +120,10 @@ impl<T: Eq + Hash> KeySet<T> {
     pub fn get_index_of(&self, key: &T) -> Option<usize>
         ensures { result ≡ position (T.eq key.now) self.now }
     {
-        self.set.get_index_of(key)
+        match &self.held {
+            Held::Few(few) => few.get_index_of(key),
+            Held::Many(set) => set.get_index_of(key),
+        }
     }
 
     /// The place of the key equal to this one, and the key that is there, if there is one.
@@ -117,14 +132,17 @@ impl<T: Eq + Hash> KeySet<T> {
         ensures key { option_map (λ k. k.1.now) result ≡ find (T.eq key.now) self.now }
         ensures stored { IfSome result (λ k. slice_get self.now k.0 ≡ Some k.1.now) }
     {
-        self.set.get_full(key)
+        match &self.held {
+            Held::Few(few) => few.get_full(key),
+            Held::Many(set) => set.get_full(key),
+        }
     }
 
     /// The first key, if there is one.
     pub fn first(&self) -> Option<&T>
         ensures { option_copied result ≡ slice_get self.now 0 }
     {
-        self.set.first()
+        self.as_slice().first()
     }
 
     /// The keys, in order.
@@ -132,31 +150,41 @@ impl<T: Eq + Hash> KeySet<T> {
         ensures keys { result.now ≡ self.now }
         ensures unique { IsDistinct T.eq self.now }
     {
-        self.set.as_slice()
+        match &self.held {
+            Held::Few(few) => few.as_slice(),
+            Held::Many(set) => set.as_slice(),
+        }
     }
 
     /// The key that is there and equal to this one, if there is one.
     pub fn get(&self, key: &T) -> Option<&T>
         ensures { option_copied result ≡ find (T.eq key.now) self.now }
     {
-        self.set.get(key)
+        match &self.held {
+            Held::Few(few) => few.get(key),
+            Held::Many(set) => set.get(key),
+        }
     }
 
     /// Whether a key equal to this one is there.
     pub fn contains(&self, key: &T) -> bool
         ensures { result ≡ has_key (T.eq key.now) self.now }
     {
-        self.set.contains(key)
+        match &self.held {
+            Held::Few(few) => few.contains(key),
+            Held::Many(set) => set.contains(key),
+        }
     }
 
     /// The keys, one by one, in order.
-    pub fn iter(&self) -> Iter<'_, T>
+    pub fn iter(&self) -> Elements<'_, T>
         ensures rest { result ≡ self.now }
         ensures runs { ShowsInOrder (deref {X = T}) }
         ensures unique { IsDistinct T.eq self.now }
         ensures fits { length self.now < 2 ^ 63 }
     {
-        self.set.iter()
+        let _len = self.len();
+        Elements::of(self.as_slice())
     }
 
     /// Whether a key equal to this one is there, as [`contains`](KeySet::contains) answers. No hash is made
@@ -185,6 +213,17 @@ impl<T: Eq + Hash> KeySet<T> {
 }
 
 impl<T: Eq + Hash + Drop> KeySet<T> {
+    /// The keys as an `IndexSet`. The error is out of memory, which only up to eight keys meet.
+    pub fn into_index_set(self) -> Result<IndexSet<T, HashKeys>, AllocError>
+        ensures { IfOk result (λ set. set.keys ≡ self) }
+    {
+        let KeySet { held } = self;
+        match held {
+            Held::Few(mut few) => few.move_to_index_set(),
+            Held::Many(set) => Ok(set),
+        }
+    }
+
     /// Puts the key last, or leaves the equal one that is there. Answers whether there was none.
     ///
     /// The error is out of memory, which only a new key meets. It gives the key back, and leaves the set as
@@ -197,7 +236,41 @@ impl<T: Eq + Hash + Drop> KeySet<T> {
         ensures absent { OnErr result (has_key (T.eq key) self.old ≡ false) }
         ensures unique { IsDistinct T.eq self.new }
     {
-        self.set.insert(key)
+        match &mut self.held {
+            Held::Many(set) => set.insert(key),
+            Held::Few(few) => {
+                if few.has_place_for(&key) {
+                    few.insert(key)
+                } else {
+                    self.insert_past_few(key)
+                }
+            }
+        }
+    }
+
+    /// Puts the key last, and has all keys hashed from then on. The error is as that of
+    /// [`insert`](KeySet::insert). Premise: no equal key is there.
+    #[inline(never)]
+    fn insert_past_few(&mut self, key: T) -> Result<bool, AllocFailed<T>>
+        requires { has_key (T.eq key) self.old ≡ false }
+        ensures added { IfOk result (λ added. added ≡ true) }
+        ensures keys { OnOk result (self.new ≡ insert_key T.eq self.old key) }
+        ensures value_returned { IfErr result (λ y. y.value ≡ key) }
+        ensures err { OnErr result (self.new ≡ self.old) }
+        ensures unique { IsDistinct T.eq self.new }
+    {
+        let grown = match &mut self.held {
+            Held::Few(few) => few.move_to_index_set(),
+            Held::Many(set) => return set.insert(key),
+        };
+        match grown {
+            Ok(mut set) => {
+                let added = set.insert(key);
+                self.held = Held::Many(set);
+                added
+            }
+            Err(AllocError) => Err(AllocFailed { value: key }),
+        }
     }
 
     /// Takes out the key equal to this one. Those after it move up. Answers whether there was one.
@@ -206,13 +279,16 @@ impl<T: Eq + Hash + Drop> KeySet<T> {
         ensures keys { self.new ≡ remove_key (T.eq key.now) self.old }
         ensures unique { IsDistinct T.eq self.new }
     {
-        self.set.shift_remove(key)
+        match &mut self.held {
+            Held::Few(few) => few.shift_remove(key),
+            Held::Many(set) => set.shift_remove(key),
+        }
     }
 }
 
 impl<T: Eq + Hash + fmt::Debug> fmt::Debug for KeySet<T> {
     fn fmt<W: fmt::Write>(&self, f: &mut fmt::Formatter<W>) -> fmt::Result {
-        fmt::Debug::fmt(&self.set, f)
+        f.debug_set().entries(self.iter()).finish()
     }
 }
 
@@ -238,7 +314,10 @@ impl<T: Eq + Hash + Clone + Drop> Clone for KeySet<T> {
     /// The error is out of memory.
     #[tactic(auto, using(crate::proofs::KeySetClones::exact_keys))]
     fn clone(&self) -> Result<KeySet<T>, AllocError> {
-        let set = self.set.clone()?;
-        Ok(KeySet { set })
+        let held = match &self.held {
+            Held::Few(few) => Held::Few(few.clone()?),
+            Held::Many(set) => Held::Many(set.clone()?),
+        };
+        Ok(KeySet { held })
     }
 }

@@ -13,25 +13,42 @@ ghost use Rattle.graphql_nodes.specs.Tables.{keys_of, values_of, lookup, lookup_
 ghost use Rattle.graphql_nodes.specs.Tables.{insert_entry, insert_all, set_value_at, as_map, table_eq};
 ghost use Rattle.graphql_nodes.specs.Tables.{HasUniqueKeys, IsTableClone};
 
+pub(crate) mod few_entries;
+pub mod iter;
+
+use crate::collections::elements::Elements;
 use crate::collections::hash_keys::HashKeys;
+use few_entries::FewEntries;
 use indexmap::IndexMap;
-use indexmap::map::{Iter, Keys, Values};
+use iter::Iter;
 use std::alloc::{AllocError, AllocFailed, Global};
 use std::fmt;
 use std::hash::Hash;
 use std::marker::Model;
+use std::mem::replace;
 
 /// A map in the order of insertion, which contracts see as the list of its entries. They see nothing of the
-/// keys that it hashes by.
+/// keys that it hashes by, nor that up to eight entries are found by comparing keys: only more are hashed.
 ///
 /// Tables are equal where they have equal values under the same keys, in any order.
 pub struct Table<K: Eq + Hash, V> {
-    map: IndexMap<K, V, HashKeys>,
+    held: Held<K, V>,
 }
+
+/// What a table holds. A few entries are found by comparing keys, without a hash, and take no more room than
+/// they need.
+#[derive(Drop)]
+enum Held<K: Eq + Hash, V> {
+    Few(FewEntries<K, V>, HashKeys),
+    Many(IndexMap<K, V, HashKeys>),
+}
+
+/// The most entries that are held as a few.
+const FEW: usize = 8;
 
 impl<K: Eq + Hash + Drop, V: Drop> Drop for Table<K, V> {
     fn drop(self) {
-        let Self { map: _ } = self;
+        let Self { held: _ } = self;
     }
 }
 
@@ -43,7 +60,42 @@ impl<K: Eq + Hash, V> Model for Table<K, V> {
 
     ghost coded = { coded_list (coded× K.code V.code) };
 
-    ghost view = { λ t. t.map.entries };
+    ghost use Rattle.graphql_nodes.specs.TableEntries.{entries_held};
+
+    ghost view = { λ t. entries_held t.held };
+}
+
+/// Takes the entries out of a few as a map with room for so many more. The error is out of memory, after
+/// which they are still there.
+fn take_few<K: Eq + Hash + Drop, V: Drop>(
+    few: &mut FewEntries<K, V>,
+    keys: HashKeys,
+    additional: usize,
+) -> Result<IndexMap<K, V, HashKeys>, AllocError>
+    ensures taken { IfOk result (λ map. map.entries ≡ few.old) }
+    ensures emptied { OnOk result (few.new ≡ []) }
+    ensures err { OnErr result (few.new ≡ few.old) }
+{
+    let alloc = few.allocator();
+    let capacity = few.len().saturating_add(additional);
+    let map = IndexMap::with_capacity_and_hasher(alloc, capacity, keys)?;
+    let few = replace(few, FewEntries::new(alloc));
+    Ok(few.into_map(map))
+}
+
+/// Takes the entries out of a map as one with room for so many more. The error is out of memory, after which
+/// they are still there.
+fn take_many<K: Eq + Hash + Drop, V: Drop>(
+    map: &mut IndexMap<K, V, HashKeys>,
+    additional: usize,
+) -> Result<IndexMap<K, V, HashKeys>, AllocError>
+    ensures taken { IfOk result (λ taken. taken.entries ≡ map.old.entries) }
+    ensures emptied { OnOk result (map.new.entries ≡ []) }
+    ensures err { OnErr result (map.new.entries ≡ map.old.entries) }
+{
+    map.reserve(additional)?;
+    let empty = IndexMap::with_hasher(*map.allocator(), *map.hasher());
+    Ok(replace(map, empty))
 }
 
 impl<K: Eq + Hash, V> Table<K, V> {
@@ -62,13 +114,24 @@ impl<K: Eq + Hash, V> Table<K, V> {
         ensures { result ≡ [] }
     {
         Table {
-            map: IndexMap::with_hasher(alloc, keys),
+            held: Held::Few(FewEntries::new(alloc), keys),
         }
     }
 
     /// The keys that the table hashes by, for a table that is made beside it.
     pub fn hash_keys(&self) -> HashKeys {
-        *self.map.hasher()
+        match &self.held {
+            Held::Few(_, keys) => *keys,
+            Held::Many(map) => *map.hasher(),
+        }
+    }
+
+    /// The allocator that the table takes its memory from.
+    pub fn allocator(&self) -> Global {
+        match &self.held {
+            Held::Few(few, _) => few.allocator(),
+            Held::Many(map) => *map.allocator(),
+        }
     }
 
     /// The entries of the map, in order. No two keys are equal.
@@ -77,22 +140,9 @@ impl<K: Eq + Hash, V> Table<K, V> {
         ensures unique { HasUniqueKeys K.eq result }
     {
         let _len = map.len();
-        Table { map }
-    }
-
-    /// The entries as an `IndexMap`.
-    pub fn into_index_map(self) -> IndexMap<K, V, HashKeys>
-        ensures { result.entries ≡ self }
-    {
-        let Table { map } = self;
-        map
-    }
-
-    /// The map of the entries.
-    pub fn as_index_map(&self) -> &IndexMap<K, V, HashKeys>
-        ensures { result.now.entries ≡ self.now }
-    {
-        &self.map
+        Table {
+            held: Held::Many(map),
+        }
     }
 
     /// How many entries there are.
@@ -101,21 +151,27 @@ impl<K: Eq + Hash, V> Table<K, V> {
         ensures small { result < 2 ^ 63 }
         ensures unique { HasUniqueKeys K.eq self.now }
     {
-        self.map.len()
+        match &self.held {
+            Held::Few(few, _) => few.len(),
+            Held::Many(map) => map.len(),
+        }
     }
 
     /// Whether there is no entry.
     pub fn is_empty(&self) -> bool
         ensures { result ≡ (length self.now == 0) }
     {
-        self.map.is_empty()
+        self.len() == 0
     }
 
     /// The value at the key, if there is one.
     pub fn get(&self, key: &K) -> Option<&V>
         ensures { option_copied result ≡ lookup (K.eq key.now) self.now }
     {
-        self.map.get(key)
+        match &self.held {
+            Held::Few(few, _) => few.get(key),
+            Held::Many(map) => map.get(key),
+        }
     }
 
     /// The key that is there, with its value, if there is an entry with the key.
@@ -123,14 +179,15 @@ impl<K: Eq + Hash, V> Table<K, V> {
         ensures key { option_map (λ e. e.0.now) result ≡ lookup_key (K.eq key.now) self.now }
         ensures value { option_map (λ e. e.1.now) result ≡ lookup (K.eq key.now) self.now }
     {
-        self.map.get_key_value(key)
+        let (_, key, value) = self.get_full(key)?;
+        Some((key, value))
     }
 
     /// Whether there is an entry with the key.
     pub fn contains_key(&self, key: &K) -> bool
         ensures { result ≡ is_some (lookup (K.eq key.now) self.now) }
     {
-        self.map.contains_key(key)
+        self.get(key).is_some()
     }
 
     /// The value at the key, to write to, if there is one. When the loan ends, the entry has what was
@@ -141,14 +198,20 @@ impl<K: Eq + Hash, V> Table<K, V> {
         ensures value { option_copied_mut result ≡ lookup (K.eq key.now) self.old }
         ensures as_found { IfSome result (λ x. set_value (K.eq key.now) self.old x.now ≡ self.old) }
     {
-        self.map.get_mut(key)
+        match &mut self.held {
+            Held::Few(few, _) => few.get_mut(key),
+            Held::Many(map) => map.get_mut(key),
+        }
     }
 
     /// The place of the entry with the key, if there is one.
     pub fn get_index_of(&self, key: &K) -> Option<usize>
         ensures { result ≡ position (K.eq key.now) (keys_of self.now) }
     {
-        self.map.get_index_of(key)
+        match &self.held {
+            Held::Few(few, _) => few.place_of(key),
+            Held::Many(map) => map.get_index_of(key),
+        }
     }
 
     /// The place of the entry with the key, the key that is there, and its value, if there is such an entry.
@@ -158,14 +221,28 @@ impl<K: Eq + Hash, V> Table<K, V> {
         ensures value { option_map (λ e. e.2.now) result ≡ lookup (K.eq key.now) self.now }
         ensures entry { IfSome result (λ e. slice_get self.now e.0 ≡ Some (e.1.now, e.2.now)) }
     {
-        self.map.get_full(key)
+        match &self.held {
+            Held::Few(few, _) => few.get_full(key),
+            Held::Many(map) => map.get_full(key),
+        }
     }
 
     /// The entry at a place, if there is one.
     pub fn get_index(&self, index: usize) -> Option<(&K, &V)>
         ensures { option_map deref_pair result ≡ slice_get self.now index }
     {
-        self.map.get_index(index)
+        self.entry_at(index)
+    }
+
+    /// The entry at a place, if there is one, which is the one with its key.
+    fn entry_at(&self, index: usize) -> Option<(&K, &V)>
+        ensures entry { option_map deref_pair result ≡ slice_get self.now index }
+        ensures value { IfSome result (λ e. lookup (K.eq e.0.now) self.now ≡ Some e.1.now) }
+    {
+        match &self.held {
+            Held::Few(few, _) => few.get_index(index),
+            Held::Many(map) => map.get_index(index),
+        }
     }
 
     /// The value at a place, to write to, if there is an entry. When the loan ends, the entry has what was
@@ -176,17 +253,44 @@ impl<K: Eq + Hash, V> Table<K, V> {
         ensures value { option_copied_mut result ≡ slice_get (values_of self.old) index }
         ensures as_found { IfSome result (λ x. set_value_at self.old index x.now ≡ self.old) }
     {
-        self.map.get_index_mut(index)
+        match &mut self.held {
+            Held::Few(few, _) => few.get_index_mut(index),
+            Held::Many(map) => map.get_index_mut(index),
+        }
     }
 
     /// The first entry, if there is one.
     pub fn first(&self) -> Option<(&K, &V)>
         ensures { option_map deref_pair result ≡ slice_get self.now 0 }
     {
-        self.map.first()
+        self.get_index(0)
+    }
+
+    /// The keys, in order.
+    fn key_slice(&self) -> &[K]
+        ensures keys { result.now ≡ keys_of self.now }
+        ensures unique { HasUniqueKeys K.eq self.now }
+        ensures fits { length self.now < 2 ^ 63 }
+    {
+        match &self.held {
+            Held::Few(few, _) => few.keys(),
+            Held::Many(map) => map.keys().as_slice(),
+        }
+    }
+
+    /// The values, in the order of their keys.
+    fn value_slice(&self) -> &[V]
+        ensures values { result.now ≡ values_of self.now }
+        ensures fits { length self.now < 2 ^ 63 }
+    {
+        match &self.held {
+            Held::Few(few, _) => few.values(),
+            Held::Many(map) => map.values().as_slice(),
+        }
     }
 
     /// The entries, one by one, in order.
+    #[tactic(auto, using(crate::proofs::TableLemmas::as_columns))]
     pub fn iter(&self) -> Iter<'_, K, V>
         ensures rest { result ≡ self.now }
         ensures runs { ShowsInOrder (deref_pair {K = K} {X = V}) }
@@ -194,26 +298,26 @@ impl<K: Eq + Hash, V> Table<K, V> {
         ensures unique { HasUniqueKeys K.eq self.now }
         ensures fits { length self.now < 2 ^ 63 }
     {
-        self.map.iter()
+        Iter::of(self.key_slice(), self.value_slice())
     }
 
     /// The keys, one by one, in order.
-    pub fn keys(&self) -> Keys<'_, K, V>
+    pub fn keys(&self) -> Elements<'_, K>
         ensures rest { result ≡ keys_of self.now }
         ensures runs { ShowsInOrder (deref {X = K}) }
         ensures unique { HasUniqueKeys K.eq self.now }
         ensures fits { length self.now < 2 ^ 63 }
     {
-        self.map.keys()
+        Elements::of(self.key_slice())
     }
 
     /// The values, one by one, in order.
-    pub fn values(&self) -> Values<'_, K, V>
+    pub fn values(&self) -> Elements<'_, V>
         ensures rest { result ≡ values_of self.now }
         ensures runs { ShowsInOrder (deref {X = V}) }
         ensures fits { length self.now < 2 ^ 63 }
     {
-        self.map.values()
+        Elements::of(self.value_slice())
     }
 
     /// The value at the key, if there is one, as [`get`](Table::get) finds it. No hash is made if its entry
@@ -221,9 +325,9 @@ impl<K: Eq + Hash, V> Table<K, V> {
     fn get_from(&self, place: usize, key: &K) -> Option<&V>
         ensures { option_copied result ≡ lookup (K.eq key.now) self.now }
     {
-        match self.map.get_index(place) {
+        match self.entry_at(place) {
             Some((there, value)) if key == there => Some(value),
-            _ => self.map.get(key),
+            _ => self.get(key),
         }
     }
 
@@ -249,7 +353,7 @@ impl<K: Eq + Hash, V> Table<K, V> {
             (keys_of self.now) }
     {
         for place in 0..self.len() {
-            let Some((key, value)) = self.map.get_index(place) else {
+            let Some((key, value)) = self.entry_at(place) else {
                 break;
             };
             if !other.has_from(place, key, value) {
@@ -260,7 +364,44 @@ impl<K: Eq + Hash, V> Table<K, V> {
     }
 }
 
-impl<K: Eq + Hash + Drop, V> Table<K, V> {
+impl<K: Eq + Hash + Drop, V: Drop> Table<K, V> {
+    /// No entry, with room for so many. The table hashes by these keys. The error is out of memory.
+    pub fn with_capacity(
+        alloc: Global,
+        keys: HashKeys,
+        capacity: usize,
+    ) -> Result<Table<K, V>, AllocError>
+        ensures { IfOk result (λ table. table ≡ []) }
+    {
+        let held = if capacity > FEW {
+            Held::Many(IndexMap::with_capacity_and_hasher(alloc, capacity, keys)?)
+        } else {
+            Held::Few(FewEntries::with_capacity(alloc, capacity)?, keys)
+        };
+        Ok(Table { held })
+    }
+
+    /// The entries as an `IndexMap`. The error is out of memory, which only a table of a few entries meets.
+    pub fn into_index_map(self) -> Result<IndexMap<K, V, HashKeys>, AllocError>
+        ensures { IfOk result (λ map. map.entries ≡ self) }
+    {
+        let mut table = self;
+        table.take_map(0)
+    }
+
+    /// Takes the entries out as a map with room for so many more. The error is out of memory, after which
+    /// they are still there.
+    fn take_map(&mut self, additional: usize) -> Result<IndexMap<K, V, HashKeys>, AllocError>
+        ensures taken { IfOk result (λ map. map.entries ≡ self.old) }
+        ensures emptied { OnOk result (self.new ≡ []) }
+        ensures err { OnErr result (self.new ≡ self.old) }
+    {
+        match &mut self.held {
+            Held::Few(few, keys) => take_few(few, *keys, additional),
+            Held::Many(map) => take_many(map, additional),
+        }
+    }
+
     /// Puts the value at the key. An equal key that is there stays, in its place, and a new one goes last.
     /// Answers the value that stood there, if one did.
     ///
@@ -274,7 +415,36 @@ impl<K: Eq + Hash + Drop, V> Table<K, V> {
         ensures absent { OnErr result (lookup (K.eq key) self.old ≡ None) }
         ensures unique { HasUniqueKeys K.eq self.new }
     {
-        self.map.insert(key, value)
+        if self.is_full_of_few() && !self.contains_key(&key) && self.hold_many(FEW).is_err() {
+            return Err(AllocFailed {
+                value: (key, value),
+            });
+        }
+        match &mut self.held {
+            Held::Few(few, _) => few.insert(key, value),
+            Held::Many(map) => map.insert(key, value),
+        }
+    }
+
+    /// Whether the next new key asks for a map.
+    fn is_full_of_few(&self) -> bool
+        ensures unique { HasUniqueKeys K.eq self.now }
+    {
+        let len = self.len();
+        match &self.held {
+            Held::Few(_, _) => len >= FEW,
+            Held::Many(_) => false,
+        }
+    }
+
+    /// Holds the entries in a map, with room for so many more. The error is out of memory, and the entries
+    /// are the same in each case.
+    fn hold_many(&mut self, additional: usize) -> Result<(), AllocError>
+        ensures { self.new ≡ self.old }
+    {
+        let map = self.take_map(additional)?;
+        self.held = Held::Many(map);
+        Ok(())
     }
 
     /// Inserts each entry of the other table in turn, as [`insert`](Table::insert) does. The other table is
@@ -282,15 +452,24 @@ impl<K: Eq + Hash + Drop, V> Table<K, V> {
     ///
     /// The error is out of memory, and leaves both tables as they were.
     pub fn append(&mut self, other: &mut Table<K, V>) -> Result<(), AllocError>
-    where
-        V: Drop,
         ensures entries { OnOk result (self.new ≡ insert_all K.eq self.old other.old) }
         ensures emptied { OnOk result (other.new ≡ []) }
         ensures err { OnErr result (self.new ≡ self.old) }
         ensures other_err { OnErr result (other.new ≡ other.old) }
         ensures unique { OnOk result (HasUniqueKeys K.eq self.new) }
     {
-        self.map.append(&mut other.map)
+        let mut map = self.take_map(other.len())?;
+        let mut others = match other.take_map(0) {
+            Ok(others) => others,
+            Err(refused) => {
+                self.held = Held::Many(map);
+                return Err(refused);
+            }
+        };
+        let appended = map.append(&mut others);
+        self.held = Held::Many(map);
+        other.held = Held::Many(others);
+        appended
     }
 
     /// Takes out the entry with the key, if there is one. Those after it move up. Answers its value.
@@ -299,13 +478,22 @@ impl<K: Eq + Hash + Drop, V> Table<K, V> {
         ensures entries { self.new ≡ remove_entry (K.eq key.now) self.old }
         ensures unique { HasUniqueKeys K.eq self.new }
     {
-        self.map.shift_remove(key)
+        match &mut self.held {
+            Held::Few(few, _) => few.shift_remove(key),
+            Held::Many(map) => map.shift_remove(key),
+        }
     }
 }
 
 impl<K: Eq + Hash + fmt::Debug, V: fmt::Debug> fmt::Debug for Table<K, V> {
     fn fmt<W: fmt::Write>(&self, f: &mut fmt::Formatter<W>) -> fmt::Result {
-        fmt::Debug::fmt(&self.map, f)
+        match &self.held {
+            Held::Few(few, _) => f
+                .debug_map()
+                .entries(Iter::of(few.keys(), few.values()))
+                .finish(),
+            Held::Many(map) => fmt::Debug::fmt(map, f),
+        }
     }
 }
 
@@ -341,7 +529,10 @@ impl<K: Eq + Hash + Clone + Drop, V: Clone + Drop> Clone for Table<K, V> {
     /// in the same order. The error is out of memory.
     #[tactic(auto, using(crate::proofs::TableLemmas::exact_clones))]
     fn clone(&self) -> Result<Table<K, V>, AllocError> {
-        let map = self.map.clone()?;
-        Ok(Table { map })
+        let held = match &self.held {
+            Held::Few(few, keys) => Held::Few(few.try_clone()?, *keys),
+            Held::Many(map) => Held::Many(map.clone()?),
+        };
+        Ok(Table { held })
     }
 }

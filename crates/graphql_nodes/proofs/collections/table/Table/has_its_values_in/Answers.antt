@@ -29,10 +29,10 @@ module _ {K V : Type 0} {eq : K → K → Bool} (laws : IsEquivalence eq) (E : V
 pub returns-then-not-has_from : goal.returns-then-not-has_from
 returns-then-not-has_from g c = differ g.met.K.Eq.laws g.V.PartialEq.eq c.args.self.now c.args.other.now
     c.loop-place.place c.in-Some.key.now c.in-Some.value.now c.len-place-end.ensures.unique
-    (cc (c.in-Some.ensures.entry, c.self.view_is)) c.has_from.ensures c.if-not-has_from.true
+    (sym c.in-Some.ensures.entry) c.has_from.ensures c.if-not-has_from.true
 
 pub loop-place-preserved : goal.loop-place-preserved
 loop-place-preserved g c = agree g.met.K.Eq.laws g.V.PartialEq.eq c.args.self.now c.args.other.now
     c.loop-place.place c.in-Some.key.now c.in-Some.value.now c.len-place-end.ensures.unique
-    (cc (c.in-Some.ensures.entry, c.self.view_is)) c.has_from.ensures c.loop-place.invariant
+    (sym c.in-Some.ensures.entry) c.has_from.ensures c.loop-place.invariant
     c.if-not-has_from.false

@@ -1,0 +1,13 @@
+use Rattle.std.proofs.Common.{length, ap}
+use Rattle.std.proofs.iter.runs.Sources.{from_front}
+use Rattle.std.specs.Map.{values_of}
+use Rattle.std.specs.Map.Iter.{TakesFirst, deref_pair}
+use Rattle.graphql_nodes.proofs.collections.table.iter.Iter.of.Goals as goal
+
+pub returns-clause-runs : goal.returns-clause-runs
+returns-clause-runs g c =
+    from_front (TakesFirst deref_pair) deref_pair (λ s. s) (λ s t h. ap length h.0) (λ s x t h. h)
+
+pub returns-clause-values_run : goal.returns-clause-values_run
+returns-clause-values_run g c = from_front (TakesFirst deref_pair) (λ x. x.1.now) values_of
+    (λ s t h. ap (λ l. length (values_of l)) h.0) (λ s x t h. ap values_of h)
