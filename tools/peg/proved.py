@@ -42,7 +42,9 @@ def called():
         for home in (home for page in pages for home in contents.of_page(folder, page)):
             yield home, contents.title(home), exports.declared_at(home)
             for block in (block for _, block in contents.impls(home.crate).get(home.name, ())):
-                yield from ((home, f"{home.name}::{it.name}", it) for it in block.members if it.kind == "fn")
+                _, trait = sources.owner_and_trait(block.head.removeprefix("impl"))
+                calls = (it for it in block.members if it.kind == "fn" and (trait or it.is_public))
+                yield from ((home, f"{home.name}::{it.name}", it) for it in calls)
 
 
 def premise(item):
