@@ -6,4 +6,4 @@ use Rattle.graphql_nodes.specs.declared.collections.key_set.Held.TheVariants as 
 -- the keys that are held, in order
 abbrev pub held_keys : {K : Type 0} → Held K → List K
 held_keys (t.Few few) = few
-held_keys (t.Many set) = set.keys
+held_keys (t.Many set) = set.value.keys

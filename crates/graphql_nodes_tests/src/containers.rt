@@ -54,7 +54,7 @@ fn is_table_kept(table: Table<i32, char>) -> Result<bool, AllocError> {
     let mut copy = table.clone()?;
     let is_copied = copy == table;
     let is_removed = (copy.shift_remove(&5), copy.len()) == (Some('c'), 1);
-    let back = Table::from_index_map(table.into_index_map()?);
+    let back = Table::from_index_map(table.into_index_map()?)?;
     Ok(is_copied && is_removed && back.len() == 2)
 }
 
@@ -167,7 +167,7 @@ fn is_set_kept(set: KeySet<i32>) -> Result<bool, AllocError> {
     let mut copy = set.clone()?;
     let is_copied = copy == set;
     let is_removed = copy.shift_remove(&5) && are(copy.as_slice(), &[3]);
-    let back = KeySet::from_index_set(set.into_index_set()?);
+    let back = KeySet::from_index_set(set.into_index_set()?)?;
     Ok(is_copied && is_removed && are(back.as_slice(), &[5, 3]))
 }
 

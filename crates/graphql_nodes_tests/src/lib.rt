@@ -1,6 +1,6 @@
 //! Tests of names, nodes, containers and enums, of what no clause says. That is printed texts, examples from
-//! the specification, that calls and copies succeed with memory, and that a write leaves the other node. Also
-//! what tests of trees make.
+//! the specification, that calls and copies succeed with enough memory, and that a write leaves the other
+//! node. Also what tests of trees make.
 //!
 //! What stands here serves tests: calls have no clause.
 #![tactic(auto)]

@@ -4,7 +4,7 @@ ghost use Rattle.std.specs.Prelude.{IfSome, not, IfOk, IfErr, OnOk, OnErr, true,
 ghost use Rattle.std.specs.Cmp;
 ghost use Rattle.std.specs.Option.{option_copied};
 ghost use Rattle.std.specs.Map.Iter.{ShowsInOrder, deref};
-ghost use Rattle.std.specs.List.{find, list_all, list_any, IsDistinct};
+ghost use Rattle.std.specs.List.{find, list_all, IsDistinct};
 ghost use Rattle.graphql_nodes.specs.KeySets.{set_eq, set_eq_equiv, insert_key, remove_key, has_key};
 ghost use Rattle.graphql_nodes.specs.KeySets.{IsSetClone};
 
@@ -27,11 +27,12 @@ pub struct KeySet<T: Eq + Hash> {
     held: Held<T>,
 }
 
-/// Where a set keeps its keys. Many never become few again.
+/// Where a set keeps its keys. Many never become few again. They stand behind a pointer, so that few take no
+/// room for them.
 #[derive(Drop)]
 enum Held<T: Eq + Hash> {
     Few(FewKeys<T>),
-    Many(IndexSet<T, HashKeys>),
+    Many(Box<IndexSet<T, HashKeys>>),
 }
 
 impl<T: Eq + Hash + Drop> Drop for KeySet<T> {
@@ -79,15 +80,17 @@ impl<T: Eq + Hash> KeySet<T> {
         }
     }
 
-    /// The keys of the set, in order. No two are equal.
-    pub fn from_index_set(set: IndexSet<T, HashKeys>) -> KeySet<T>
-        ensures keys { result ≡ set.keys }
-        ensures unique { IsDistinct T.eq result }
+    /// The keys of the set, in order. No two are equal. The error is out of memory, and gives the set back.
+    pub fn from_index_set(
+        set: IndexSet<T, HashKeys>,
+    ) -> Result<KeySet<T>, AllocFailed<IndexSet<T, HashKeys>>>
+        ensures keys { IfOk result (λ made. made ≡ set.keys) }
+        ensures unique { IfOk result (λ made. IsDistinct T.eq made) }
+        ensures value_returned { IfErr result (λ y. y.value ≡ set) }
     {
         let _len = set.len();
-        KeySet {
-            held: Held::Many(set),
-        }
+        let held = Held::Many(Box::new(*set.allocator(), set)?);
+        Ok(KeySet { held })
     }
 
     /// How many keys there are.
@@ -218,10 +221,11 @@ impl<T: Eq + Hash + Drop> KeySet<T> {
         ensures { IfOk result (λ set. set.keys ≡ self) }
     {
         let KeySet { held } = self;
-        match held {
-            Held::Few(mut few) => few.move_to_index_set(),
-            Held::Many(set) => Ok(set),
-        }
+        let set = match held {
+            Held::Few(mut few) => few.move_to_index_set()?,
+            Held::Many(set) => set,
+        };
+        Ok(Box::into_inner(set))
     }
 
     /// Puts the key last, or leaves the equal one that is there. Answers whether there was none.

@@ -1,7 +1,7 @@
 //! Maps in the order of insertion.
-ghost use Rattle.std.specs.Prelude.{◌≡◌, ◌==◌, ◌<◌, ◌+◌, ◌^◌, [], ◌∷◌, ◌++◌, length, position, slice_get};
-ghost use Rattle.std.specs.Prelude.{Some, None, IsSome, IfSome, IfOk, IfErr, OnOk, OnErr, is_some};
-ghost use Rattle.std.specs.Prelude.{option_map, if◌then◌else◌};
+ghost use Rattle.std.specs.Prelude.{◌≡◌, ◌==◌, ◌<◌, ◌+◌, ◌^◌, [], length, position, slice_get};
+ghost use Rattle.std.specs.Prelude.{Some, None, IfSome, IfOk, IfErr, OnOk, OnErr, is_some};
+ghost use Rattle.std.specs.Prelude.{option_map};
 ghost use Rattle.std.specs.Borrow.{sem};
 ghost use Rattle.std.specs.Cmp;
 ghost use Rattle.std.specs.Cmp.{partial_equiv_from_equiv};
@@ -14,11 +14,13 @@ ghost use Rattle.graphql_nodes.specs.Tables.{insert_entry, insert_all, set_value
 ghost use Rattle.graphql_nodes.specs.Tables.{HasUniqueKeys, IsTableClone};
 
 pub(crate) mod few_entries;
+pub(crate) mod held;
 pub mod iter;
 
 use crate::collections::elements::Elements;
 use crate::collections::hash_keys::HashKeys;
 use few_entries::FewEntries;
+use held::{FEW, Held, Map, map_with_room};
 use indexmap::IndexMap;
 use iter::Iter;
 use std::alloc::{AllocError, AllocFailed, Global};
@@ -34,17 +36,6 @@ use std::mem::replace;
 pub struct Table<K: Eq + Hash, V> {
     held: Held<K, V>,
 }
-
-/// What a table holds. A few entries are found by comparing keys, without a hash, and take no more room than
-/// they need.
-#[derive(Drop)]
-enum Held<K: Eq + Hash, V> {
-    Few(FewEntries<K, V>, HashKeys),
-    Many(IndexMap<K, V, HashKeys>),
-}
-
-/// The most entries that are held as a few.
-const FEW: usize = 8;
 
 impl<K: Eq + Hash + Drop, V: Drop> Drop for Table<K, V> {
     fn drop(self) {
@@ -63,39 +54,6 @@ impl<K: Eq + Hash, V> Model for Table<K, V> {
     ghost use Rattle.graphql_nodes.specs.TableEntries.{entries_held};
 
     ghost view = { λ t. entries_held t.held };
-}
-
-/// Takes the entries out of a few as a map with room for so many more. The error is out of memory, after
-/// which they are still there.
-fn take_few<K: Eq + Hash + Drop, V: Drop>(
-    few: &mut FewEntries<K, V>,
-    keys: HashKeys,
-    additional: usize,
-) -> Result<IndexMap<K, V, HashKeys>, AllocError>
-    ensures taken { IfOk result (λ map. map.entries ≡ few.old) }
-    ensures emptied { OnOk result (few.new ≡ []) }
-    ensures err { OnErr result (few.new ≡ few.old) }
-{
-    let alloc = few.allocator();
-    let capacity = few.len().saturating_add(additional);
-    let map = IndexMap::with_capacity_and_hasher(alloc, capacity, keys)?;
-    let few = replace(few, FewEntries::new(alloc));
-    Ok(few.into_map(map))
-}
-
-/// Takes the entries out of a map as one with room for so many more. The error is out of memory, after which
-/// they are still there.
-fn take_many<K: Eq + Hash + Drop, V: Drop>(
-    map: &mut IndexMap<K, V, HashKeys>,
-    additional: usize,
-) -> Result<IndexMap<K, V, HashKeys>, AllocError>
-    ensures taken { IfOk result (λ taken. taken.entries ≡ map.old.entries) }
-    ensures emptied { OnOk result (map.new.entries ≡ []) }
-    ensures err { OnErr result (map.new.entries ≡ map.old.entries) }
-{
-    map.reserve(additional)?;
-    let empty = IndexMap::with_hasher(*map.allocator(), *map.hasher());
-    Ok(replace(map, empty))
 }
 
 impl<K: Eq + Hash, V> Table<K, V> {
@@ -134,15 +92,18 @@ impl<K: Eq + Hash, V> Table<K, V> {
         }
     }
 
-    /// The entries of the map, in order. No two keys are equal.
-    pub fn from_index_map(map: IndexMap<K, V, HashKeys>) -> Table<K, V>
-        ensures entries { result ≡ map.entries }
-        ensures unique { HasUniqueKeys K.eq result }
+    /// The entries of the map, in order. No two keys are equal. The error is out of memory, and gives the map
+    /// back.
+    pub fn from_index_map(
+        map: IndexMap<K, V, HashKeys>,
+    ) -> Result<Table<K, V>, AllocFailed<IndexMap<K, V, HashKeys>>>
+        ensures entries { IfOk result (λ table. table ≡ map.entries) }
+        ensures unique { IfOk result (λ table. HasUniqueKeys K.eq table) }
+        ensures value_returned { IfErr result (λ y. y.value ≡ map) }
     {
         let _len = map.len();
-        Table {
-            held: Held::Many(map),
-        }
+        let held = Held::Many(Box::new(*map.allocator(), map)?);
+        Ok(Table { held })
     }
 
     /// How many entries there are.
@@ -374,7 +335,7 @@ impl<K: Eq + Hash + Drop, V: Drop> Table<K, V> {
         ensures { IfOk result (λ table. table ≡ []) }
     {
         let held = if capacity > FEW {
-            Held::Many(IndexMap::with_capacity_and_hasher(alloc, capacity, keys)?)
+            Held::Many(map_with_room(alloc, keys, capacity)?)
         } else {
             Held::Few(FewEntries::with_capacity(alloc, capacity)?, keys)
         };
@@ -385,20 +346,24 @@ impl<K: Eq + Hash + Drop, V: Drop> Table<K, V> {
     pub fn into_index_map(self) -> Result<IndexMap<K, V, HashKeys>, AllocError>
         ensures { IfOk result (λ map. map.entries ≡ self) }
     {
-        let mut table = self;
-        table.take_map(0)
+        let Table { held } = self;
+        Ok(Box::into_inner(held.into_map(0)?))
     }
 
     /// Takes the entries out as a map with room for so many more. The error is out of memory, after which
     /// they are still there.
-    fn take_map(&mut self, additional: usize) -> Result<IndexMap<K, V, HashKeys>, AllocError>
-        ensures taken { IfOk result (λ map. map.entries ≡ self.old) }
+    fn take_map(&mut self, additional: usize) -> Result<Map<K, V>, AllocError>
+        ensures taken { IfOk result (λ map. map.value.entries ≡ self.old) }
         ensures emptied { OnOk result (self.new ≡ []) }
         ensures err { OnErr result (self.new ≡ self.old) }
     {
-        match &mut self.held {
-            Held::Few(few, keys) => take_few(few, *keys, additional),
-            Held::Many(map) => take_many(map, additional),
+        let empty = Held::Few(FewEntries::new(self.allocator()), self.hash_keys());
+        match replace(&mut self.held, empty).into_map(additional) {
+            Ok(map) => Ok(map),
+            Err(AllocFailed { value }) => {
+                self.held = value;
+                Err(AllocError)
+            }
         }
     }
 
@@ -487,13 +452,7 @@ impl<K: Eq + Hash + Drop, V: Drop> Table<K, V> {
 
 impl<K: Eq + Hash + fmt::Debug, V: fmt::Debug> fmt::Debug for Table<K, V> {
     fn fmt<W: fmt::Write>(&self, f: &mut fmt::Formatter<W>) -> fmt::Result {
-        match &self.held {
-            Held::Few(few, _) => f
-                .debug_map()
-                .entries(Iter::of(few.keys(), few.values()))
-                .finish(),
-            Held::Many(map) => fmt::Debug::fmt(map, f),
-        }
+        f.debug_map().entries(self.iter()).finish()
     }
 }
 

@@ -155,34 +155,32 @@ impl<T: Eq + Drop> FewKeys<T> {
 
     /// Moves the keys to an `IndexSet` with room for one more. The error is out of memory, and leaves the
     /// keys as they were.
-    pub fn move_to_index_set(&mut self) -> Result<IndexSet<T, HashKeys>, AllocError>
+    pub fn move_to_index_set(&mut self) -> Result<Box<IndexSet<T, HashKeys>>, AllocError>
     where
         T: Hash,
-        ensures keys { IfOk result (λ set. set.keys ≡ self.old) }
+        ensures keys { IfOk result (λ set. set.value.keys ≡ self.old) }
         ensures emptied { OnOk result (self.new ≡ []) }
         ensures err { OnErr result (self.new ≡ self.old) }
         ensures unique { IsDistinct T.eq self.new }
     {
         let alloc = *self.keys.allocator();
         let room = self.keys.len() + 1;
-        let set = IndexSet::with_capacity_and_hasher(alloc, room, self.hash_keys)?;
+        let empty = IndexSet::with_capacity_and_hasher(alloc, room, self.hash_keys)?;
+        let mut set = Box::new(alloc, empty)?;
         let keys = mem::replace(&mut self.keys, Vec::new(alloc));
-        Ok(with_each(set, keys))
+        put_each(&mut set, keys);
+        Ok(set)
     }
 }
 
-/// The set with each of the keys put last in turn, or left as it was at one that is there.
-fn with_each<T: Eq + Hash + Drop>(
-    mut set: IndexSet<T, HashKeys>,
-    keys: Vec<T>,
-) -> IndexSet<T, HashKeys>
-    requires { length keys.items ≤ spare set }
-    ensures { result.keys ≡ insert_all T.eq set.keys keys.items }
+/// Puts each of the keys last in turn, or leaves the set as it was at one that is there.
+fn put_each<T: Eq + Hash + Drop>(set: &mut IndexSet<T, HashKeys>, keys: Vec<T>)
+    requires { length keys.items ≤ spare set.old }
+    ensures { set.new.keys ≡ insert_all T.eq set.old.keys keys.items }
 {
     for key in keys {
         set.insert(key).unwrap();
     }
-    set
 }
 
 impl<T: Eq + Clone + Drop> Clone for FewKeys<T> {

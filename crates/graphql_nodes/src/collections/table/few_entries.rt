@@ -208,22 +208,20 @@ impl<K: Eq, V> FewEntries<K, V> {
     }
 
     /// Moves the entries into a map that is empty and has room for them.
-    pub(crate) fn into_map(self, map: IndexMap<K, V, HashKeys>) -> IndexMap<K, V, HashKeys>
+    pub(crate) fn move_to(self, map: &mut IndexMap<K, V, HashKeys>)
     where
         K: Hash + Drop,
         V: Drop,
-        requires empty { IsEmpty map }
-        requires room { length self ≤ spare map }
-        ensures { result.entries ≡ self }
+        requires empty { IsEmpty map.old }
+        requires room { length self ≤ spare map.old }
+        ensures { map.new.entries ≡ self }
     {
         let FewEntries { keys, values } = self;
-        let mut map = map;
         let mut keys = keys.into_iter();
         let mut values = values.into_iter();
         while let (Some(key), Some(value)) = (keys.next(), values.next()) {
             let _none = map.insert(key, value).unwrap();
         }
-        map
     }
 }
 

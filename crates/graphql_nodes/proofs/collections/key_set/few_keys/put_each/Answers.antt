@@ -1,5 +1,5 @@
 use Rattle.std.proofs.Common.{length, ap, arith}
-use Rattle.graphql_nodes.proofs.collections.key_set.few_keys.with_each.Goals as goal
+use Rattle.graphql_nodes.proofs.collections.key_set.few_keys.put_each.Goals as goal
 
 pub unwrap-requires : goal.unwrap-requires
 unwrap-requires g c = c.insert.ensures.succeeds (omega (

@@ -2,7 +2,7 @@ use Rattle.std.proofs.Common.{◌≡◌, ◌≤◌, length}
 use Rattle.std.specs.List.{zip}
 use Rattle.std.specs.Vec.Iter.{into_iter_items, into_iter_len}
 use Rattle.indexmap.specs.IndexMap.{insert_all, spare}
-use Rattle.graphql_nodes.proofs.collections.table.few_entries.FewEntries.into_map.Given as goal
+use Rattle.graphql_nodes.proofs.collections.table.few_entries.FewEntries.move_to.Given as goal
 
 -- what is left, inserted in turn, makes all entries, and there is room for it
 abbrev pub invariant-loop-key : goal.invariant-loop-key

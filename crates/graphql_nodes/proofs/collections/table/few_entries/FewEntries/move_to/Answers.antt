@@ -2,7 +2,7 @@ use Rattle.std.proofs.Common.{[], length, sym, ap, ◌∙◌, subst, arith}
 use Rattle.std.specs.List.{zip, IsDistinct}
 use Rattle.indexmap.specs.IndexMap.{insert_all}
 use Rattle.graphql_nodes.proofs.FewEntryLemmas.{columns, insert_apart}
-use Rattle.graphql_nodes.proofs.collections.table.few_entries.FewEntries.into_map.Goals as goal
+use Rattle.graphql_nodes.proofs.collections.table.few_entries.FewEntries.move_to.Goals as goal
 
 pub loop-key-init : goal.loop-key-init
 loop-key-init g c =

@@ -3,7 +3,7 @@ use Rattle.std.proofs.Common.{◌≡◌, ◌≤◌, length}
 use Rattle.std.specs.Vec.Iter.{into_iter_items}
 use Rattle.indexmap.specs.IndexSet.{spare}
 use Rattle.graphql_nodes.specs.KeySets.{insert_all}
-use Rattle.graphql_nodes.proofs.collections.key_set.few_keys.with_each.Given as goal
+use Rattle.graphql_nodes.proofs.collections.key_set.few_keys.put_each.Given as goal
 
 abbrev pub invariant-loop-key : goal.invariant-loop-key
 invariant-loop-key g l = (goal.iterator-loop-key g).can_next l.key-iterator
