@@ -6,12 +6,12 @@ use Rattle.apollo_coordinate.specs.CoordinateText.{IsDirectiveArgumentText, Says
 use Rattle.apollo_coordinate.specs.Parts.{attribute_of, field_argument_of, directive_argument_of}
 use Rattle.apollo_coordinate.specs.Refusals.{IsNoNames, IsNoAttribute, IsNoDirective, IsNoArgument, IsNoPair}
 use Rattle.apollo_coordinate.specs.Refusals.{IsNoArgumentOf, IsNoFieldArgument, IsNoDirectiveArgument}
-use Rattle.apollo_coordinate.specs.declared.coordinates.TypeAttributeCoordinate.{TypeAttributeCoordinate}
-use Rattle.apollo_coordinate.specs.declared.coordinates.FieldArgumentCoordinate.{FieldArgumentCoordinate}
-use Rattle.apollo_coordinate.specs.declared.coordinates.DirectiveArgumentCoordinate.{DirectiveArgumentCoordinate}
-use Rattle.apollo_coordinate.specs.declared.coordinates.SchemaCoordinate.TheVariants.{TypeAttribute}
-use Rattle.apollo_coordinate.specs.declared.coordinates.SchemaCoordinate.TheVariants.{FieldArgument}
-use Rattle.apollo_coordinate.specs.declared.coordinates.SchemaCoordinate.TheVariants.{DirectiveArgument}
+use Rattle.apollo_coordinate.specs.declared.type_attribute_coordinate.TypeAttributeCoordinate.{TypeAttributeCoordinate}
+use Rattle.apollo_coordinate.specs.declared.field_argument_coordinate.FieldArgumentCoordinate.{FieldArgumentCoordinate}
+use Rattle.apollo_coordinate.specs.declared.directive_argument_coordinate.DirectiveArgumentCoordinate.{DirectiveArgumentCoordinate}
+use Rattle.apollo_coordinate.specs.declared.schema_coordinate.SchemaCoordinate.TheVariants.{TypeAttribute}
+use Rattle.apollo_coordinate.specs.declared.schema_coordinate.SchemaCoordinate.TheVariants.{FieldArgument}
+use Rattle.apollo_coordinate.specs.declared.schema_coordinate.SchemaCoordinate.TheVariants.{DirectiveArgument}
 use Rattle.apollo_coordinate.specs.declared.parse_error.SchemaCoordinateParseError.{SchemaCoordinateParseError}
 use Rattle.apollo_coordinate.specs.declared.parse_error.SchemaCoordinateParseError.TheVariants.{InvalidFormat}
 use Rattle.apollo_coordinate.specs.declared.parse_error.SchemaCoordinateParseError.TheVariants.{InvalidName}

@@ -13,13 +13,13 @@ use Rattle.apollo_coordinate.specs.CoordinateText.{SaysCoordinate, coordinate_te
 use Rattle.apollo_coordinate.specs.CoordinateText.{bare_coordinate}
 use Rattle.apollo_coordinate.specs.Refusals.{Lacks}
 use Rattle.apollo_coordinate.specs.Readings.{IsReadingOf, IsReadBack}
-use Rattle.apollo_coordinate.specs.declared.coordinates.FieldArgumentCoordinate.{FieldArgumentCoordinate}
-use Rattle.apollo_coordinate.specs.declared.coordinates.DirectiveArgumentCoordinate.{DirectiveArgumentCoordinate}
-use Rattle.apollo_coordinate.specs.declared.coordinates.SchemaCoordinate.{SchemaCoordinate}
-use Rattle.apollo_coordinate.specs.declared.coordinates.SchemaCoordinate.TheVariants.{Ty, TypeAttribute}
-use Rattle.apollo_coordinate.specs.declared.coordinates.SchemaCoordinate.TheVariants.{FieldArgument}
-use Rattle.apollo_coordinate.specs.declared.coordinates.SchemaCoordinate.TheVariants.{Directive}
-use Rattle.apollo_coordinate.specs.declared.coordinates.SchemaCoordinate.TheVariants.{DirectiveArgument}
+use Rattle.apollo_coordinate.specs.declared.field_argument_coordinate.FieldArgumentCoordinate.{FieldArgumentCoordinate}
+use Rattle.apollo_coordinate.specs.declared.directive_argument_coordinate.DirectiveArgumentCoordinate.{DirectiveArgumentCoordinate}
+use Rattle.apollo_coordinate.specs.declared.schema_coordinate.SchemaCoordinate.{SchemaCoordinate}
+use Rattle.apollo_coordinate.specs.declared.schema_coordinate.SchemaCoordinate.TheVariants.{Ty, TypeAttribute}
+use Rattle.apollo_coordinate.specs.declared.schema_coordinate.SchemaCoordinate.TheVariants.{FieldArgument}
+use Rattle.apollo_coordinate.specs.declared.schema_coordinate.SchemaCoordinate.TheVariants.{Directive}
+use Rattle.apollo_coordinate.specs.declared.schema_coordinate.SchemaCoordinate.TheVariants.{DirectiveArgument}
 use Rattle.apollo_coordinate.specs.declared.parse_error.SchemaCoordinateParseError.{SchemaCoordinateParseError}
 use Rattle.apollo_coordinate.specs.declared.parse_error.SchemaCoordinateParseError.TheVariants.{InvalidFormat}
 use Rattle.apollo_coordinate.specs.declared.parse_error.SchemaCoordinateParseError.TheVariants.{InvalidName}

@@ -12,12 +12,14 @@ ghost use Rattle.apollo_coordinate.specs.Readings.{IsReadingOf, IsReadBack};
 ghost use Rattle.graphql_nodes.specs.Clones.{IsExact};
 ghost use Rattle.graphql_nodes.specs.Comparing.{ComparesBy};
 
-use crate::coordinates::{
-    DirectiveArgumentCoordinate, DirectiveCoordinate, FieldArgumentCoordinate, SchemaCoordinate,
-    TypeAttributeCoordinate, TypeCoordinate,
-};
+use crate::directive_argument_coordinate::DirectiveArgumentCoordinate;
+use crate::directive_coordinate::DirectiveCoordinate;
+use crate::field_argument_coordinate::FieldArgumentCoordinate;
 use crate::lookup_answers::{SchemaCoordinateLookup, SchemaLookupError, TypeAttributeLookup};
 use crate::parse_error::SchemaCoordinateParseError;
+use crate::schema_coordinate::SchemaCoordinate;
+use crate::type_attribute_coordinate::TypeAttributeCoordinate;
+use crate::type_coordinate::TypeCoordinate;
 use apollo_types::laws::equality_of_types;
 use graphql_ast::laws::equality_of_the_type_system;
 

@@ -1,16 +1,27 @@
-//! The parts of a text, cut at its marks and checked in place: nothing here takes memory.
+//! The parts of a text, cut at its marks and checked in place, and what is made of them: the coordinate, or
+//! the error that is answered. Only what is made takes memory.
 ghost use Rattle.std.specs.Prelude.{◌≡◌, ◌≢◌, ◌++◌, ◌<◌, ℕ, List, IfOk, IfErr, OnOk, IsOk, MatchOption};
 ghost use Rattle.std.specs.Prelude.{codes};
 ghost use Rattle.graphql_nodes.specs.NameSyntax.{IsName};
 ghost use Rattle.apollo_coordinate.specs.CoordinateText.{IsCoordinateText, IsAttributeText, IsDirectiveText};
+ghost use Rattle.apollo_coordinate.specs.Parts.{attribute_of, field_argument_of, directive_argument_of};
+ghost use Rattle.apollo_coordinate.specs.Parts.{coordinate_of, IsAnswerTo};
 ghost use Rattle.apollo_coordinate.specs.Parts.{SaysAttribute, SaysFieldArgument, SaysDirectiveArgument};
 ghost use Rattle.apollo_coordinate.specs.Parts.{SaysDirective, SaysParts, error_of};
 ghost use Rattle.apollo_coordinate.specs.Refusals.{Lacks, IsCut, IsNoName, IsNoNames, IsNoAttribute};
 ghost use Rattle.apollo_coordinate.specs.Refusals.{IsNoDirective, IsNoArgument, IsNoPair, IsNoFieldArgument};
 ghost use Rattle.apollo_coordinate.specs.Refusals.{IsNoDirectiveArgument, IsNoCoordinate, without_at};
 
+use crate::directive_argument_coordinate::DirectiveArgumentCoordinate;
+use crate::directive_coordinate::DirectiveCoordinate;
+use crate::field_argument_coordinate::FieldArgumentCoordinate;
+use crate::parse_error::SchemaCoordinateParseError;
 use crate::refusal::Refusal;
+use crate::schema_coordinate::SchemaCoordinate;
+use crate::type_attribute_coordinate::TypeAttributeCoordinate;
+use crate::type_coordinate::TypeCoordinate;
 use graphql_nodes::name::Name;
+use std::alloc::{AllocError, Global};
 
 /// The parts of `Type.attribute`.
 #[derive(Clone, Copy)]
@@ -41,6 +52,18 @@ pub(crate) enum Parts<'a> {
     FieldArgument(FieldArgumentParts<'a>),
     Directive(&'a str),
     DirectiveArgument(DirectiveArgumentParts<'a>),
+}
+
+/// The parts of a text of one form, of which its coordinate is made.
+pub(crate) trait CoordinateParts {
+    type Coordinate;
+
+    /// The coordinate that they make.
+    ghost make: { Self → Self.Coordinate };
+
+    /// The coordinate, whose names have no location. The error is out of memory.
+    fn into_coordinate(self, alloc: Global) -> Result<Self::Coordinate, AllocError>
+        ensures { IfOk result (λ c. c ≡ make self) };
 }
 
 /// What stands before and after the first such mark.
@@ -128,6 +151,19 @@ impl<'a> AttributeParts<'a> {
     }
 }
 
+impl<'a> CoordinateParts for AttributeParts<'a> {
+    type Coordinate = TypeAttributeCoordinate;
+
+    ghost make = { attribute_of };
+
+    fn into_coordinate(self, alloc: Global) -> Result<TypeAttributeCoordinate, AllocError> {
+        Ok(TypeAttributeCoordinate {
+            ty: Name::new_unchecked(alloc, self.ty)?,
+            attribute: Name::new_unchecked(alloc, self.attribute)?,
+        })
+    }
+}
+
 impl<'a> FieldArgumentParts<'a> {
     /// The parts of what stands before and after the `(`.
     fn new(field: &'a str, argument: &'a str) -> Result<FieldArgumentParts<'a>, Refusal<'a>>
@@ -150,6 +186,17 @@ impl<'a> FieldArgumentParts<'a> {
             Some((field, argument)) => FieldArgumentParts::new(field, argument),
             None => Err(Refusal::Format),
         }
+    }
+}
+
+impl<'a> CoordinateParts for FieldArgumentParts<'a> {
+    type Coordinate = FieldArgumentCoordinate;
+
+    ghost make = { field_argument_of };
+
+    fn into_coordinate(self, alloc: Global) -> Result<FieldArgumentCoordinate, AllocError> {
+        let field = self.field.into_coordinate(alloc)?;
+        Ok(field.with_argument(Name::new_unchecked(alloc, self.argument)?))
     }
 }
 
@@ -176,6 +223,19 @@ impl<'a> DirectiveArgumentParts<'a> {
             Some((directive, argument)) => DirectiveArgumentParts::new(directive, argument),
             None => Err(Refusal::Format),
         }
+    }
+}
+
+impl<'a> CoordinateParts for DirectiveArgumentParts<'a> {
+    type Coordinate = DirectiveArgumentCoordinate;
+
+    ghost make = { directive_argument_of };
+
+    fn into_coordinate(self, alloc: Global) -> Result<DirectiveArgumentCoordinate, AllocError> {
+        Ok(DirectiveArgumentCoordinate {
+            directive: Name::new_unchecked(alloc, self.directive)?,
+            argument: Name::new_unchecked(alloc, self.argument)?,
+        })
     }
 }
 
@@ -213,5 +273,40 @@ impl<'a> Parts<'a> {
             Ok(parts) => Ok(parts),
             Err(_) => Err(Refusal::Name(without_at(text))),
         }
+    }
+}
+
+impl<'a> CoordinateParts for Parts<'a> {
+    type Coordinate = SchemaCoordinate;
+
+    ghost make = { coordinate_of };
+
+    fn into_coordinate(self, alloc: Global) -> Result<SchemaCoordinate, AllocError> {
+        Ok(match self {
+            Parts::Ty(ty) => TypeCoordinate {
+                ty: Name::new_unchecked(alloc, ty)?,
+            }
+            .into(),
+            Parts::TypeAttribute(parts) => parts.into_coordinate(alloc)?.into(),
+            Parts::FieldArgument(parts) => parts.into_coordinate(alloc)?.into(),
+            Parts::Directive(directive) => DirectiveCoordinate {
+                directive: Name::new_unchecked(alloc, directive)?,
+            }
+            .into(),
+            Parts::DirectiveArgument(parts) => parts.into_coordinate(alloc)?.into(),
+        })
+    }
+}
+
+/// The coordinate that is made of what was read, or the error that a refusal is answered as.
+pub(crate) fn answered<'a, P: CoordinateParts>(
+    alloc: Global,
+    read: Result<P, Refusal<'a>>,
+) -> Result<P::Coordinate, SchemaCoordinateParseError>
+    ensures { IsAnswerTo P.make read.entry result }
+{
+    match read {
+        Ok(parts) => Ok(parts.into_coordinate(alloc)?),
+        Err(refusal) => Err(refusal.into_error(alloc)),
     }
 }

@@ -1,10 +1,10 @@
 //! Coordinates made of one another, copied and compared, and refusals.
 
-use apollo_coordinate::coordinates::{
+use apollo_coordinate::parse_error::SchemaCoordinateParseError;
+use apollo_coordinate::{
     DirectiveArgumentCoordinate, DirectiveCoordinate, FieldArgumentCoordinate, SchemaCoordinate,
     TypeAttributeCoordinate, TypeCoordinate,
 };
-use apollo_coordinate::parse_error::SchemaCoordinateParseError;
 use graphql_nodes::name::{Name, NameError};
 use likeness::{are_alike, is_copied, is_printed};
 use std::alloc::{AllocError, Global};
@@ -62,28 +62,21 @@ fn directive_argument(alloc: Global) -> Result<DirectiveArgumentCoordinate, Allo
     Ok(directive.with_argument(Name::new_unchecked(alloc, "a")?))
 }
 
+/// Whether a call makes a coordinate that is right, with this text.
+macro_rules! makes {
+    ($alloc:ident, $make:ident, $text:literal) => {
+        are_right($alloc, $make($alloc), $make($alloc), $text)
+    };
+}
+
 #[test]
 fn coordinates_are_made_of_one_another_and_are_any(rt: HostRuntime) {
     let alloc = rt.alloc();
-    assert!(rt; are_right(alloc, type_coordinate(alloc), type_coordinate(alloc), "T"));
-    assert!(rt; are_right(alloc, attribute(alloc), attribute(alloc), "T.f"));
-    assert!(rt;
-        are_right(
-            alloc,
-            field_argument(alloc),
-            field_argument(alloc),
-            "T.f(a:)"
-        )
-    );
-    assert!(rt; are_right(alloc, directive(alloc), directive(alloc), "@d"));
-    assert!(rt;
-        are_right(
-            alloc,
-            directive_argument(alloc),
-            directive_argument(alloc),
-            "@d(a:)"
-        )
-    );
+    assert!(rt; makes!(alloc, type_coordinate, "T"));
+    assert!(rt; makes!(alloc, attribute, "T.f"));
+    assert!(rt; makes!(alloc, field_argument, "T.f(a:)"));
+    assert!(rt; makes!(alloc, directive, "@d"));
+    assert!(rt; makes!(alloc, directive_argument, "@d(a:)"));
 }
 
 /// Adds a refusal, and a copy of it.

@@ -1,35 +1,17 @@
 //! What lookups answer in two schemas, compared.
 
-use apollo_coordinate::coordinates::SchemaCoordinate;
+use apollo_coordinate::SchemaCoordinate;
 use apollo_schema::schema::Schema;
 use apollo_types_tests::schemas::schema_of;
+use likeness::are_equal;
 use std::process::Abort;
 
 /// Each form that a coordinate can have points to something here.
 const FIRST: &str =
     "def object Query\nfield f Int\narg a Int\ndef input I\nfield f Int\ndef enum E\nvalue f\ndirective d\narg a Int\non FIELD\n";
 
-/// The same at other lines, where an extension has what was in a definition.
-const SECOND: &str =
-    "directive d\narg a Int\non FIELD\ndef enum E\next enum E\nvalue f\ndef input I\next input I\nfield f Int\ndef object Query\next object Query\nfield f Int\narg a Int\n";
-
-/// The same names, but with other types. The enum value is the same.
-const OTHER: &str =
-    "def object Query\nfield f Int\narg a ID\ndef input I\nfield f ID\ndef enum E\nvalue f\ndirective d\narg a ID\non QUERY\n";
-
-/// Whether what was found in two schemas is equal, if it was found in both.
-fn are_equal<T: PartialEq + Drop, E: Drop>(
-    first: Result<T, E>,
-    second: Result<T, E>,
-) -> Option<bool> {
-    match (first, second) {
-        (Ok(first), Ok(second)) => Some(first == second),
-        _ => None,
-    }
-}
-
-/// Whether what a coordinate points to in two schemas is equal; none where the lookup of an attribute answers
-/// otherwise.
+/// Whether what a coordinate points to in two schemas is equal; none where there is nothing, or where the
+/// lookup of an attribute answers otherwise.
 fn are_same(coordinate: &SchemaCoordinate, first: &Schema, second: &Schema) -> Option<bool> {
     let same = are_equal(coordinate.lookup(first), coordinate.lookup(second));
     match coordinate {
@@ -64,6 +46,18 @@ fn expect(rt: &(impl Abort + AllocGlobal), second: &str, are_equal: bool) {
 
 #[test]
 fn locations_and_origins_are_left_out_and_other_values_are_unequal(rt: HostRuntime) {
-    expect(&rt, SECOND, true);
-    expect(&rt, OTHER, false);
+    for (second, are_equal) in [
+        // The same at other lines, where an extension has what was in a definition.
+        (
+            "directive d\narg a Int\non FIELD\ndef enum E\next enum E\nvalue f\ndef input I\next input I\nfield f Int\ndef object Query\next object Query\nfield f Int\narg a Int\n",
+            true,
+        ),
+        // The same names, but with other types. The enum value is the same.
+        (
+            "def object Query\nfield f Int\narg a ID\ndef input I\nfield f ID\ndef enum E\nvalue f\ndirective d\narg a ID\non QUERY\n",
+            false,
+        ),
+    ] {
+        expect(&rt, second, are_equal);
+    }
 }

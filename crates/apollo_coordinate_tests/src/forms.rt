@@ -1,10 +1,10 @@
 //! Texts, read as each form and as any.
 
-use apollo_coordinate::coordinates::{
+use apollo_coordinate::parse_error::SchemaCoordinateParseError;
+use apollo_coordinate::{
     DirectiveArgumentCoordinate, DirectiveCoordinate, FieldArgumentCoordinate, SchemaCoordinate,
     TypeAttributeCoordinate, TypeCoordinate,
 };
-use apollo_coordinate::parse_error::SchemaCoordinateParseError;
 use std::alloc::{AllocError, Global};
 use std::fmt::Display;
 use std::process::Abort;
@@ -44,108 +44,92 @@ fn answer(alloc: Global, form: &Form, input: &str) -> Result<String, AllocError>
     }
 }
 
-/// Expects inputs to be read so.
-fn expect(rt: &(impl Abort + AllocGlobal), rows: &[(Form, &str, &str)]) {
-    for (form, input, expected) in rows {
-        let answer = answer(rt.alloc(), form, *input).expect(rt, "memory");
-        assert_eq!(rt; answer.as_str(), *expected, "of {input:?}");
+/// Expects inputs to be read so, as each form.
+fn expect(rt: &(impl Abort + AllocGlobal), answers: &[(Form, &[(&str, &str)])]) {
+    for (form, rows) in answers {
+        for (input, expected) in *rows {
+            let answer = answer(rt.alloc(), form, *input).expect(rt, "memory");
+            assert_eq!(rt; answer.as_str(), *expected, "of {input:?}");
+        }
     }
 }
 
-const READ: [(Form, &str, &str); 11] = [
-    (Form::Ty, "Type", "Type"),
-    (Form::Attribute, "Type.field", "Type.field"),
-    (Form::FieldArgument, "T.f(a:)", "T.f(a:)"),
-    (Form::Directive, "@d", "@d"),
-    (Form::DirectiveArgument, "@d(a:)", "@d(a:)"),
-    (Form::Any, "Type", "Type"),
-    (Form::Any, "EnumType.ENUM_VALUE", "EnumType.ENUM_VALUE"),
-    (Form::Any, "Type.field(argument:)", "Type.field(argument:)"),
-    (Form::Any, "@directive", "@directive"),
-    (Form::Any, "@directive(arg:)", "@directive(arg:)"),
-    (Form::Any, "_0._9(__type:)", "_0._9(__type:)"),
-];
-
-#[test]
-fn coordinates_are_printed_as_they_are_read(rt: HostRuntime) {
-    expect(&rt, &READ);
-}
-
-const OF_ONE_FORM: [(Form, &str, &str); 20] = [
-    (Form::Ty, "T.a", "`T.a` is not a valid GraphQL name"),
-    (Form::Attribute, "Type", "invalid schema coordinate"),
+/// What inputs are read as.
+const ANSWERS: [(Form, &[(&str, &str)]); 12] = [
+    // Coordinates are printed as they are read.
+    (Form::Ty, &[("Type", "Type")]),
+    (Form::Attribute, &[("Type.field", "Type.field")]),
+    (Form::FieldArgument, &[("T.f(a:)", "T.f(a:)")]),
+    (Form::Directive, &[("@d", "@d")]),
+    (Form::DirectiveArgument, &[("@d(a:)", "@d(a:)")]),
+    (
+        Form::Any,
+        &[
+            ("Type", "Type"),
+            ("EnumType.ENUM_VALUE", "EnumType.ENUM_VALUE"),
+            ("Type.field(argument:)", "Type.field(argument:)"),
+            ("@directive", "@directive"),
+            ("@directive(arg:)", "@directive(arg:)"),
+            ("_0._9(__type:)", "_0._9(__type:)"),
+        ],
+    ),
+    // The first refusal in the order of reading is answered.
+    (Form::Ty, &[("T.a", "`T.a` is not a valid GraphQL name")]),
     (
         Form::Attribute,
-        "Type.a.b",
-        "`a.b` is not a valid GraphQL name",
-    ),
-    (Form::Attribute, "9.9", "`9` is not a valid GraphQL name"),
-    (Form::Attribute, "T.", "`` is not a valid GraphQL name"),
-    (Form::FieldArgument, "T.f(a:", "invalid schema coordinate"),
-    (Form::FieldArgument, "T.f(a", "invalid schema coordinate"),
-    (Form::FieldArgument, "T.f(a: )", "invalid schema coordinate"),
-    (Form::FieldArgument, "T.f", "invalid schema coordinate"),
-    (Form::FieldArgument, "T(a:)", "invalid schema coordinate"),
-    (
-        Form::FieldArgument,
-        "T.9(a",
-        "`9` is not a valid GraphQL name",
+        &[
+            ("Type", "invalid schema coordinate"),
+            ("Type.a.b", "`a.b` is not a valid GraphQL name"),
+            ("9.9", "`9` is not a valid GraphQL name"),
+            ("T.", "`` is not a valid GraphQL name"),
+        ],
     ),
     (
         Form::FieldArgument,
-        "T.f(9:)",
-        "`9` is not a valid GraphQL name",
+        &[
+            ("T.f(a:", "invalid schema coordinate"),
+            ("T.f(a", "invalid schema coordinate"),
+            ("T.f(a: )", "invalid schema coordinate"),
+            ("T.f", "invalid schema coordinate"),
+            ("T(a:)", "invalid schema coordinate"),
+            ("T.9(a", "`9` is not a valid GraphQL name"),
+            ("T.f(9:)", "`9` is not a valid GraphQL name"),
+            ("T.f(a::)", "invalid schema coordinate"),
+        ],
     ),
-    (Form::FieldArgument, "T.f(a::)", "invalid schema coordinate"),
-    (Form::Directive, "d", "invalid schema coordinate"),
-    (Form::Directive, "@@d", "`@d` is not a valid GraphQL name"),
     (
-        Form::DirectiveArgument,
-        "d(a:)",
-        "invalid schema coordinate",
-    ),
-    (
-        Form::DirectiveArgument,
-        "@d(a:) ",
-        "invalid schema coordinate",
-    ),
-    (Form::DirectiveArgument, "@d", "invalid schema coordinate"),
-    (
-        Form::DirectiveArgument,
-        "@9(a",
-        "`9` is not a valid GraphQL name",
+        Form::Directive,
+        &[
+            ("d", "invalid schema coordinate"),
+            ("@@d", "`@d` is not a valid GraphQL name"),
+        ],
     ),
     (
         Form::DirectiveArgument,
-        "@d(a(:)",
-        "`a(` is not a valid GraphQL name",
+        &[
+            ("d(a:)", "invalid schema coordinate"),
+            ("@d(a:) ", "invalid schema coordinate"),
+            ("@d", "invalid schema coordinate"),
+            ("@9(a", "`9` is not a valid GraphQL name"),
+            ("@d(a(:)", "`a(` is not a valid GraphQL name"),
+        ],
+    ),
+    // A text of no form is refused whole.
+    (
+        Form::Any,
+        &[
+            (" Type", "` Type` is not a valid GraphQL name"),
+            ("T.f(a:) ", "`T.f(a:) ` is not a valid GraphQL name"),
+            ("", "`` is not a valid GraphQL name"),
+            ("@", "`` is not a valid GraphQL name"),
+            ("@d(a", "`d(a` is not a valid GraphQL name"),
+            ("Type.a.b", "`Type.a.b` is not a valid GraphQL name"),
+            ("T(a:)", "`T(a:)` is not a valid GraphQL name"),
+        ],
     ),
 ];
 
 #[test]
-fn the_first_refusal_in_the_order_of_reading_is_answered(rt: HostRuntime) {
-    expect(&rt, &OF_ONE_FORM);
-}
-
-const OF_NO_FORM: [(Form, &str, &str); 7] = [
-    (Form::Any, " Type", "` Type` is not a valid GraphQL name"),
-    (
-        Form::Any,
-        "T.f(a:) ",
-        "`T.f(a:) ` is not a valid GraphQL name",
-    ),
-    (Form::Any, "", "`` is not a valid GraphQL name"),
-    (Form::Any, "@", "`` is not a valid GraphQL name"),
-    (Form::Any, "@d(a", "`d(a` is not a valid GraphQL name"),
-    (
-        Form::Any,
-        "Type.a.b",
-        "`Type.a.b` is not a valid GraphQL name",
-    ),
-    (Form::Any, "T(a:)", "`T(a:)` is not a valid GraphQL name"),
-];
-
-#[test]
-fn a_text_of_no_form_is_refused_whole(rt: HostRuntime) {
-    expect(&rt, &OF_NO_FORM);
+fn texts_are_read_as_coordinates_or_refused(rt: HostRuntime) {
+    expect(&rt, &ANSWERS);
 }

@@ -1,4 +1,5 @@
-//! Tests of coordinates, of what no clause says: that calls succeed with memory, and the printed texts.
+//! Tests of coordinates, of what no clause says: that calls succeed with enough memory, and the printed
+//! texts.
 #![tactic(auto)]
 
 #[cfg(test)]

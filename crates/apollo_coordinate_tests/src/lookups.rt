@@ -1,6 +1,6 @@
 //! Coordinates looked up in a schema that is built of a text.
 
-use apollo_coordinate::coordinates::SchemaCoordinate;
+use apollo_coordinate::SchemaCoordinate;
 use apollo_coordinate::lookup_answers::{SchemaCoordinateLookup, SchemaLookupError};
 use apollo_schema::schema::Schema;
 use apollo_types_tests::schemas::schema_of;
@@ -15,6 +15,7 @@ const INPUT: &str =
 const ENUM_ROOT: &str = "schema\nroot query E\ndef enum E\nvalue __schema\n";
 
 /// Which call looks a coordinate up.
+#[derive(Clone, Copy)]
 enum Lookup {
     Any,
     Attribute,
@@ -67,10 +68,10 @@ fn answer(
     }
 }
 
-/// Expects these answers of the schema that a text builds.
-fn expect(rt: &(impl Abort + AllocGlobal), schema: &str, rows: &[(Lookup, &str, &str)]) {
+/// Expects this call to answer so in the schema that a text builds.
+fn expect(rt: &(impl Abort + AllocGlobal), schema: &str, lookup: &Lookup, rows: &[(&str, &str)]) {
     let schema = schema_of(rt.alloc(), schema).expect(rt, "a schema");
-    for (lookup, input, expected) in rows {
+    for (input, expected) in rows {
         let read = SchemaCoordinate::from_str(rt.alloc(), *input);
         let coordinate = read.expect(rt, "a coordinate");
         let answer = answer(rt.alloc(), lookup, &coordinate, &schema).expect(rt, "memory");
@@ -78,139 +79,119 @@ fn expect(rt: &(impl Abort + AllocGlobal), schema: &str, rows: &[(Lookup, &str, 
     }
 }
 
-const FOUND: [(Lookup, &str, &str); 12] = [
-    (Lookup::Any, "Query", "type"),
-    (Lookup::Any, "Query.f", "field"),
-    (Lookup::Any, "Query.f(a:)", "argument"),
-    (Lookup::Any, "E.A", "enum value"),
-    (Lookup::Any, "I.g", "input field"),
-    (Lookup::Any, "N.n", "field"),
-    (Lookup::Any, "@skip", "directive"),
-    (Lookup::Any, "@skip(if:)", "argument"),
-    (Lookup::Any, "Query.__typename", "field"),
-    (Lookup::Any, "U.__typename", "field"),
-    (Lookup::Any, "Query.__schema", "field"),
-    (Lookup::Any, "Query.__type(name:)", "argument"),
-];
-
-#[test]
-fn coordinates_of_each_form_are_found(rt: HostRuntime) {
-    expect(&rt, INPUT, &FOUND);
-}
-
-const MISSING: [(Lookup, &str, &str); 13] = [
+/// What calls answer at coordinates, in schemas.
+const ANSWERS: [(&str, Lookup, &[(&str, &str)]); 8] = [
+    // Coordinates of each form are found.
     (
+        INPUT,
         Lookup::Any,
-        "Type.field(argument:)",
-        "type `Type` does not exist",
+        &[
+            ("Query", "type"),
+            ("Query.f", "field"),
+            ("Query.f(a:)", "argument"),
+            ("E.A", "enum value"),
+            ("I.g", "input field"),
+            ("N.n", "field"),
+            ("@skip", "directive"),
+            ("@skip(if:)", "argument"),
+            ("Query.__typename", "field"),
+            ("U.__typename", "field"),
+            ("Query.__schema", "field"),
+            ("Query.__type(name:)", "argument"),
+        ],
     ),
-    (Lookup::Any, "@directive", "type `directive` does not exist"),
+    // What is missing is named.
     (
+        INPUT,
         Lookup::Any,
-        "@directive(a:)",
-        "type `directive` does not exist",
+        &[
+            ("Type.field(argument:)", "type `Type` does not exist"),
+            ("@directive", "type `directive` does not exist"),
+            ("@directive(a:)", "type `directive` does not exist"),
+            ("@skip(x:)", "field or directive does not have argument `x`"),
+            (
+                "E.A(b:)",
+                "type attribute `A` is not a field and can not have arguments",
+            ),
+            (
+                "I.g(b:)",
+                "type attribute `g` is not a field and can not have arguments",
+            ),
+            ("U.x", "type does not have attributes"),
+            ("U.x(a:)", "type does not have attributes"),
+            (
+                "Query.f(z:)",
+                "field or directive does not have argument `z`",
+            ),
+            (
+                "Query.__type(x:)",
+                "field or directive does not have argument `x`",
+            ),
+            ("E.__typename", "type does not have attribute `__typename`"),
+            ("Int.__typename", "type does not have attributes"),
+            ("Query.z", "type does not have attribute `z`"),
+        ],
     ),
+    // Attributes of one sort are found.
+    (INPUT, Lookup::Attribute, &[("E.A", "enum value")]),
     (
-        Lookup::Any,
-        "@skip(x:)",
-        "field or directive does not have argument `x`",
-    ),
-    (
-        Lookup::Any,
-        "E.A(b:)",
-        "type attribute `A` is not a field and can not have arguments",
-    ),
-    (
-        Lookup::Any,
-        "I.g(b:)",
-        "type attribute `g` is not a field and can not have arguments",
-    ),
-    (Lookup::Any, "U.x", "type does not have attributes"),
-    (Lookup::Any, "U.x(a:)", "type does not have attributes"),
-    (
-        Lookup::Any,
-        "Query.f(z:)",
-        "field or directive does not have argument `z`",
-    ),
-    (
-        Lookup::Any,
-        "Query.__type(x:)",
-        "field or directive does not have argument `x`",
-    ),
-    (
-        Lookup::Any,
-        "E.__typename",
-        "type does not have attribute `__typename`",
-    ),
-    (
-        Lookup::Any,
-        "Int.__typename",
-        "type does not have attributes",
-    ),
-    (Lookup::Any, "Query.z", "type does not have attribute `z`"),
-];
-
-#[test]
-fn what_is_missing_is_named(rt: HostRuntime) {
-    expect(&rt, INPUT, &MISSING);
-}
-
-const OF_ONE_SORT: [(Lookup, &str, &str); 14] = [
-    (Lookup::Attribute, "E.A", "enum value"),
-    (Lookup::Field, "Query.f", "field"),
-    (Lookup::Field, "U.__typename", "field"),
-    (Lookup::Field, "Query.z", "type does not have attribute `z`"),
-    (Lookup::Field, "E.A", "type does not have attributes"),
-    (Lookup::Field, "Gone.f", "type `Gone` does not exist"),
-    (Lookup::InputField, "I.g", "input field"),
-    (
-        Lookup::InputField,
-        "I.z",
-        "type does not have attribute `z`",
-    ),
-    (
-        Lookup::InputField,
-        "Query.f",
-        "type does not have attributes",
-    ),
-    (
-        Lookup::InputField,
-        "Query.__typename",
-        "type does not have attributes",
-    ),
-    (Lookup::EnumValue, "E.A", "enum value"),
-    (Lookup::EnumValue, "E.B", "type does not have attribute `B`"),
-    (
-        Lookup::EnumValue,
-        "U.__typename",
-        "type does not have attributes",
-    ),
-    (Lookup::EnumValue, "Gone.A", "type `Gone` does not exist"),
-];
-
-#[test]
-fn attributes_of_one_sort_are_found(rt: HostRuntime) {
-    expect(&rt, INPUT, &OF_ONE_SORT);
-}
-
-const OF_THE_ENUM_ROOT: [(Lookup, &str, &str); 6] = [
-    (Lookup::Any, "E.__schema", "enum value"),
-    (
-        Lookup::Any,
-        "E.__schema(a:)",
-        "type attribute `__schema` is not a field and can not have arguments",
-    ),
-    (Lookup::Field, "E.__schema", "field"),
-    (Lookup::Any, "E.__type", "field"),
-    (Lookup::Any, "E.__type(name:)", "argument"),
-    (
+        INPUT,
         Lookup::Field,
-        "E.__typename",
-        "type does not have attributes",
+        &[
+            ("Query.f", "field"),
+            ("U.__typename", "field"),
+            ("Query.z", "type does not have attribute `z`"),
+            ("E.A", "type does not have attributes"),
+            ("Gone.f", "type `Gone` does not exist"),
+        ],
+    ),
+    (
+        INPUT,
+        Lookup::InputField,
+        &[
+            ("I.g", "input field"),
+            ("I.z", "type does not have attribute `z`"),
+            ("Query.f", "type does not have attributes"),
+            ("Query.__typename", "type does not have attributes"),
+        ],
+    ),
+    (
+        INPUT,
+        Lookup::EnumValue,
+        &[
+            ("E.A", "enum value"),
+            ("E.B", "type does not have attribute `B`"),
+            ("U.__typename", "type does not have attributes"),
+            ("Gone.A", "type `Gone` does not exist"),
+        ],
+    ),
+    // A value is found before a meta-field.
+    (
+        ENUM_ROOT,
+        Lookup::Any,
+        &[
+            ("E.__schema", "enum value"),
+            (
+                "E.__schema(a:)",
+                "type attribute `__schema` is not a field and can not have arguments",
+            ),
+            ("E.__type", "field"),
+            ("E.__type(name:)", "argument"),
+        ],
+    ),
+    (
+        ENUM_ROOT,
+        Lookup::Field,
+        &[
+            ("E.__schema", "field"),
+            ("E.__typename", "type does not have attributes"),
+        ],
     ),
 ];
 
 #[test]
-fn a_value_is_found_before_a_meta_field(rt: HostRuntime) {
-    expect(&rt, ENUM_ROOT, &OF_THE_ENUM_ROOT);
+fn coordinates_point_to_what_schemas_hold(rt: HostRuntime) {
+    for (schema, lookup, rows) in ANSWERS {
+        expect(&rt, schema, &lookup, rows);
+    }
 }

@@ -1,7 +1,7 @@
 -- That coordinates are the same is an equivalence.
 use Rattle.std.proofs.lemmas.Cmp.{and_equiv, nat_list_eq_equiv}
 use Rattle.std.specs.Cmp.{IsEquivalence, on_equiv}
-use Rattle.apollo_coordinate.specs.declared.coordinates.TypeAttributeCoordinate.{TypeAttributeCoordinate}
+use Rattle.apollo_coordinate.specs.declared.type_attribute_coordinate.TypeAttributeCoordinate.{TypeAttributeCoordinate}
 use Rattle.apollo_field_usage.specs.Coordinates.{same_coordinate}
 
 pub same-equivalence : IsEquivalence same_coordinate

@@ -9,7 +9,7 @@ use Rattle.graphql_nodes.specs.Tables.{lookup, set_value, insert_entry}
 use Rattle.apollo_component.specs.FirstOfEach.{first_of_each}
 use Rattle.apollo_component.proofs.Lists.Ends.{snoc_ind}
 use Rattle.apollo_component.proofs.Tabled.{first_of_each-distinct}
-use Rattle.apollo_coordinate.specs.declared.coordinates.TypeAttributeCoordinate.{TypeAttributeCoordinate}
+use Rattle.apollo_coordinate.specs.declared.type_attribute_coordinate.TypeAttributeCoordinate.{TypeAttributeCoordinate}
 use Rattle.apollo_field_usage.specs.Coordinates.{coordinate, same_coordinate}
 use Rattle.apollo_field_usage.specs.Counted.{raised, counted}
 use Rattle.apollo_field_usage.specs.Occurrences.{Occurrence}

@@ -1,7 +1,7 @@
 -- The coordinates of fields: the Schema Coordinates RFC of GraphQL.
 use Rattle.std.specs.Prelude.{Bool, ◌&&◌}
 use Rattle.graphql_nodes.specs.SameText.{same_text}
-use Rattle.apollo_coordinate.specs.declared.coordinates.TypeAttributeCoordinate.{TypeAttributeCoordinate}
+use Rattle.apollo_coordinate.specs.declared.type_attribute_coordinate.TypeAttributeCoordinate.{TypeAttributeCoordinate}
 use Rattle.apollo_field_usage.specs.Occurrences.{Occurrence}
 
 -- the type of the set, and the name of the field

@@ -1,6 +1,6 @@
 -- How often which coordinates come among fields.
 use Rattle.std.specs.Prelude.{ℕ, List, map}
-use Rattle.apollo_coordinate.specs.declared.coordinates.TypeAttributeCoordinate.{TypeAttributeCoordinate}
+use Rattle.apollo_coordinate.specs.declared.type_attribute_coordinate.TypeAttributeCoordinate.{TypeAttributeCoordinate}
 use Rattle.apollo_field_usage.specs.Coordinates.{coordinate}
 pub use Rattle.apollo_field_usage.specs.Coordinates.{same_coordinate}
 pub use Rattle.apollo_field_usage.specs.Occurrences.{Occurrence}

@@ -6,7 +6,7 @@ ghost use Rattle.apollo_field_usage.specs.Usage.{usage};
 
 use crate::reached::reached_fields;
 use crate::tallies::count_all;
-use apollo_coordinate::coordinates::TypeAttributeCoordinate;
+use apollo_coordinate::TypeAttributeCoordinate;
 use apollo_executable::document::ExecutableDocument;
 use apollo_executable::operation::Operation;
 use graphql_nodes::take_apart;

@@ -17,6 +17,6 @@ mod reached;
 mod tallies;
 
 pub use crate::counting::{FieldUsage, field_usage};
-pub use apollo_coordinate::coordinates::TypeAttributeCoordinate;
+pub use apollo_coordinate::TypeAttributeCoordinate;
 pub use apollo_executable::document::ExecutableDocument;
 pub use apollo_executable::operation::Operation;

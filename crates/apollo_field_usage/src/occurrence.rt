@@ -3,7 +3,7 @@ ghost use Rattle.std.specs.Prelude.{IfOk, ◌≡◌};
 ghost use Rattle.apollo_field_usage.specs.Coordinates.{coordinate};
 ghost use Rattle.apollo_field_usage.specs.Seen.{seen};
 
-use apollo_coordinate::coordinates::TypeAttributeCoordinate;
+use apollo_coordinate::TypeAttributeCoordinate;
 use apollo_executable::selection::Field;
 use graphql_nodes::name::NamedType;
 use graphql_nodes::node::Node;

@@ -7,7 +7,7 @@ ghost use Rattle.apollo_field_usage.specs.Seen.{seen};
 ghost use Rattle.apollo_field_usage.specs.Tallies.{tally};
 
 use crate::occurrence::FieldOccurrence;
-use apollo_coordinate::coordinates::TypeAttributeCoordinate;
+use apollo_coordinate::TypeAttributeCoordinate;
 use graphql_nodes::collections::hash_keys::HashKeys;
 use graphql_nodes::collections::table::Table;
 use std::alloc::{AllocError, Global};

@@ -16,14 +16,11 @@ use graphql_nodes::collections::table::Table;
 use graphql_nodes::name::Name;
 use graphql_nodes::node::Node;
 use graphql_nodes::operation_type::OperationType;
-use std::alloc::{AllocError, Global};
+use std::alloc::Global;
 use telling::Tell;
 
 /// What things can be added to.
-trait Container: Sized {
-    /// One without anything in it.
-    fn empty(alloc: Global) -> Result<Self, AllocError>;
-
+trait Container {
     /// Adds the thing of this name. Where memory is refused, that is handed back, if the call hands things
     /// back.
     fn add(&mut self, alloc: Global, text: &str) -> Told;
@@ -31,10 +28,6 @@ trait Container: Sized {
 
 /// `Items::push`.
 impl Container for Items<Name> {
-    fn empty(alloc: Global) -> Result<Items<Name>, AllocError> {
-        Ok(Items::new(alloc))
-    }
-
     fn add(&mut self, alloc: Global, text: &str) -> Told {
         Ok(self.push(name(alloc, text)?)?)
     }
@@ -42,10 +35,6 @@ impl Container for Items<Name> {
 
 /// `KeySet::insert`.
 impl Container for KeySet<Name> {
-    fn empty(alloc: Global) -> Result<KeySet<Name>, AllocError> {
-        Ok(KeySet::new(alloc))
-    }
-
     fn add(&mut self, alloc: Global, text: &str) -> Told {
         match self.insert(name(alloc, text)?) {
             Ok(_) => Ok(()),
@@ -56,10 +45,6 @@ impl Container for KeySet<Name> {
 
 /// `Table::insert`.
 impl Container for Table<Name, Name> {
-    fn empty(alloc: Global) -> Result<Table<Name, Name>, AllocError> {
-        Ok(Table::new(alloc))
-    }
-
     fn add(&mut self, alloc: Global, text: &str) -> Told {
         match self.insert(name(alloc, text)?, name(alloc, "v")?) {
             Ok(_) => Ok(()),
@@ -73,10 +58,6 @@ impl Container for Table<Name, Name> {
 
 /// `SelectionSet::push`.
 impl Container for SelectionSet {
-    fn empty(alloc: Global) -> Result<SelectionSet, AllocError> {
-        empty_set(alloc)
-    }
-
     fn add(&mut self, alloc: Global, text: &str) -> Told {
         Ok(self.push(spread(alloc, text)?)?)
     }
@@ -84,10 +65,6 @@ impl Container for SelectionSet {
 
 /// `DirectiveList::push`, of the directives of a type.
 impl Container for DirectiveList {
-    fn empty(alloc: Global) -> Result<DirectiveList, AllocError> {
-        Ok(DirectiveList::new(alloc))
-    }
-
     fn add(&mut self, alloc: Global, text: &str) -> Told {
         Ok(self.push(Component::from(directive(alloc, text)?))?)
     }
@@ -95,10 +72,6 @@ impl Container for DirectiveList {
 
 /// `DirectiveList::push`, of the directives of syntax.
 impl Container for NodeList {
-    fn empty(alloc: Global) -> Result<NodeList, AllocError> {
-        Ok(NodeList::new(alloc))
-    }
-
     fn add(&mut self, alloc: Global, text: &str) -> Told {
         Ok(self.push(directive(alloc, text)?)?)
     }
@@ -106,10 +79,6 @@ impl Container for NodeList {
 
 /// `OperationMap::insert`, of an operation of this name, or an anonymous one for `-`.
 impl Container for OperationMap {
-    fn empty(alloc: Global) -> Result<OperationMap, AllocError> {
-        Ok(OperationMap::new(alloc))
-    }
-
     fn add(&mut self, alloc: Global, text: &str) -> Told {
         let count = self.len();
         let copy = operation(alloc, text)?;
@@ -123,9 +92,12 @@ impl Container for OperationMap {
     }
 }
 
-/// One that has these, with room for no more: a copy.
-fn filled<T: Container + Clone + Drop>(alloc: Global, texts: &[&'static str]) -> Result<T, Stop> {
-    let mut value = T::empty(alloc)?;
+/// A value to which these are added, with room for no more: a copy.
+fn filled<T: Container + Clone + Drop>(
+    alloc: Global,
+    mut value: T,
+    texts: &[&'static str],
+) -> Result<T, Stop> {
     for text in texts {
         value.add(alloc, *text)?;
     }
@@ -148,7 +120,7 @@ struct AddAll(&'static [&'static str]);
 
 impl Change<Items<Name>> for AddAll {
     fn make(&self, alloc: Global, value: &mut Items<Name>) -> Told {
-        let mut other: Items<Name> = filled(alloc, self.0)?;
+        let mut other: Items<Name> = filled(alloc, Items::new(alloc), self.0)?;
         let copy = other.clone()?;
         match value.append(&mut other) {
             Ok(()) => expect(other.is_empty(), "the other list is not empty"),
@@ -159,7 +131,7 @@ impl Change<Items<Name>> for AddAll {
 
 impl Change<Table<Name, Name>> for AddAll {
     fn make(&self, alloc: Global, value: &mut Table<Name, Name>) -> Told {
-        let mut other: Table<Name, Name> = filled(alloc, self.0)?;
+        let mut other: Table<Name, Name> = filled(alloc, Table::new(alloc), self.0)?;
         let copy = other.clone()?;
         match value.append(&mut other) {
             Ok(()) => expect(other.is_empty(), "the other table is not empty"),
@@ -262,14 +234,15 @@ static REQUESTS: [Row<Subscribe>; 3] = [
     (&["-", "A", "B"], Subscribe("B")),
 ];
 
-/// Changes a container of each row.
+/// Changes a container of each row, which begins as an empty one.
 fn change_each<T: Container + Tell + Clone + PartialEq + Drop, C: Change<T>>(
     alloc: Global,
     text: &mut String,
+    empty: T,
     rows: &[Row<C>],
 ) -> Told {
     for (texts, change) in rows {
-        let value: T = filled(alloc, *texts)?;
+        let value = filled(alloc, empty.clone()?, *texts)?;
         try_change(alloc, text, value, change)?;
     }
     Ok(())
@@ -306,18 +279,18 @@ pub enum Changed {
 pub fn tell_changes(alloc: Global, text: &mut String, changed: Changed) -> Told {
     match changed {
         Changed::Node => try_change(alloc, text, definition(alloc)?, &Rename),
-        Changed::Items => change_each::<Items<Name>, Add>(alloc, text, &GROWING),
-        Changed::Set => change_each::<KeySet<Name>, Add>(alloc, text, &NEW),
-        Changed::Table => change_each::<Table<Name, Name>, Add>(alloc, text, &NEW),
+        Changed::Items => change_each(alloc, text, Items::<Name>::new(alloc), &GROWING),
+        Changed::Set => change_each(alloc, text, KeySet::<Name>::new(alloc), &NEW),
+        Changed::Table => change_each(alloc, text, Table::<Name, Name>::new(alloc), &NEW),
         Changed::Appended => {
-            change_each::<Items<Name>, AddAll>(alloc, text, &TO_TWO)?;
-            change_each::<Table<Name, Name>, AddAll>(alloc, text, &TO_ONE)
+            change_each(alloc, text, Items::<Name>::new(alloc), &TO_TWO)?;
+            change_each(alloc, text, Table::<Name, Name>::new(alloc), &TO_ONE)
         }
-        Changed::Selections => change_each::<SelectionSet, Add>(alloc, text, &GROWING),
-        Changed::Extended => change_each::<SelectionSet, AddAll>(alloc, text, &EXTENDED),
-        Changed::Components => change_each::<DirectiveList, Add>(alloc, text, &GROWING),
-        Changed::Directives => change_each::<NodeList, Add>(alloc, text, &GROWING),
-        Changed::Operations => change_each::<OperationMap, Add>(alloc, text, &OPERATIONS),
-        Changed::Requested => change_each::<OperationMap, Subscribe>(alloc, text, &REQUESTS),
+        Changed::Selections => change_each(alloc, text, empty_set(alloc)?, &GROWING),
+        Changed::Extended => change_each(alloc, text, empty_set(alloc)?, &EXTENDED),
+        Changed::Components => change_each(alloc, text, DirectiveList::new(alloc), &GROWING),
+        Changed::Directives => change_each(alloc, text, NodeList::new(alloc), &GROWING),
+        Changed::Operations => change_each(alloc, text, OperationMap::new(alloc), &OPERATIONS),
+        Changed::Requested => change_each(alloc, text, OperationMap::new(alloc), &REQUESTS),
     }
 }

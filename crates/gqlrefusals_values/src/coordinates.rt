@@ -2,11 +2,11 @@
 
 use crate::parts::name;
 use crate::stop::{Stop, Told, expect};
-use apollo_coordinate::coordinates::{
+use apollo_coordinate::parse_error::SchemaCoordinateParseError;
+use apollo_coordinate::{
     DirectiveArgumentCoordinate, DirectiveCoordinate, FieldArgumentCoordinate, SchemaCoordinate,
     TypeAttributeCoordinate, TypeCoordinate,
 };
-use apollo_coordinate::parse_error::SchemaCoordinateParseError;
 use std::alloc::{AllocError, Global};
 use std::fmt::{Debug, Display};
 

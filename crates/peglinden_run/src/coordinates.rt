@@ -4,12 +4,13 @@ ghost use Rattle.apollo_coordinate.specs.CoordinateText.{SaysCoordinate};
 ghost use Rattle.peglinden_run.specs.LookupCommand.{IsCoordinateCause};
 
 use crate::failure::Failure;
-use apollo_coordinate::coordinates::SchemaCoordinate;
+use apollo_compiler::compile_error::CompileError;
+use apollo_coordinate::SchemaCoordinate;
 use apollo_coordinate::parse_error::SchemaCoordinateParseError;
 use graphql_nodes::visible_text::visible;
 use std::alloc::{AllocError, Global};
 
-/// The coordinate of a text. `NoCoordinate` comes for a text of none, and `Memory` where memory ran out.
+/// The coordinate of a text. `NoCoordinate` comes for a text of none, and `Exhausted` where memory ran out.
 /// There is no other error.
 pub(crate) fn read_coordinate(alloc: Global, text: &str) -> Result<SchemaCoordinate, Failure>
     ensures says { IfOk result (SaysCoordinate text.now) }
@@ -17,7 +18,7 @@ pub(crate) fn read_coordinate(alloc: Global, text: &str) -> Result<SchemaCoordin
 {
     match SchemaCoordinate::from_str(alloc, text) {
         Ok(coordinate) => Ok(coordinate),
-        Err(SchemaCoordinateParseError::Memory) => Err(Failure::Memory),
+        Err(SchemaCoordinateParseError::Memory) => Err(Failure::Exhausted(CompileError::Memory)),
         Err(_) => Err(Failure::NoCoordinate(no_coordinate(alloc, text)?)),
     }
 }

@@ -2,7 +2,7 @@ use Rattle.std.proofs.Common.{◌≡◌, ◌<◌, ◌≤◌, ◌+◌, ◌^◌, �
 use Rattle.std.proofs.Common.{ap, ◌∙◌, arith}
 use Rattle.std.proofs.lemmas.List.{take_more, map-append, length-map, length-take-le}
 use Rattle.graphql_nodes.specs.Tables.{lookup}
-use Rattle.apollo_coordinate.specs.declared.coordinates.TypeAttributeCoordinate.{TypeAttributeCoordinate}
+use Rattle.apollo_coordinate.specs.declared.type_attribute_coordinate.TypeAttributeCoordinate.{TypeAttributeCoordinate}
 use Rattle.apollo_field_usage.specs.Coordinates.{coordinate, same_coordinate}
 use Rattle.apollo_field_usage.specs.Counted.{counted}
 use Rattle.apollo_field_usage.specs.Seen.{seen}

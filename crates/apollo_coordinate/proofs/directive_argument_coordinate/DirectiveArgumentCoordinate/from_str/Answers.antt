@@ -1,5 +1,5 @@
 use Rattle.apollo_coordinate.proofs.FormatLemmas.{directive_argument_answers}
-use Rattle.apollo_coordinate.proofs.coordinates.DirectiveArgumentCoordinate.from_str.Goals as goal
+use Rattle.apollo_coordinate.proofs.directive_argument_coordinate.DirectiveArgumentCoordinate.from_str.Goals as goal
 
 pub returns : goal.returns
 returns c =

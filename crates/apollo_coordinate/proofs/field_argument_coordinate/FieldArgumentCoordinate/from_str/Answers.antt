@@ -1,5 +1,5 @@
 use Rattle.apollo_coordinate.proofs.FormatLemmas.{field_argument_answers}
-use Rattle.apollo_coordinate.proofs.coordinates.FieldArgumentCoordinate.from_str.Goals as goal
+use Rattle.apollo_coordinate.proofs.field_argument_coordinate.FieldArgumentCoordinate.from_str.Goals as goal
 
 pub returns : goal.returns
 returns c =

@@ -1,5 +1,5 @@
 use Rattle.apollo_coordinate.proofs.FormatLemmas.{attribute_answers}
-use Rattle.apollo_coordinate.proofs.coordinates.TypeAttributeCoordinate.from_str.Goals as goal
+use Rattle.apollo_coordinate.proofs.type_attribute_coordinate.TypeAttributeCoordinate.from_str.Goals as goal
 
 pub returns : goal.returns
 returns c =
