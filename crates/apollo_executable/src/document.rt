@@ -1,14 +1,17 @@
 //! Executable documents: GraphQL specification of October 2021, section 2.2.
-ghost use Rattle.std.specs.Prelude.{◌≡◌};
+ghost use Rattle.std.specs.Prelude.{◌≡◌, ◌≢◌, [], IfOk, OnErr};
+ghost use Rattle.apollo_executable.specs.Erasure.{erased_definitions, erased_document};
 
 use crate::operation::Fragment;
 use crate::operation_map::OperationMap;
+use graphql_ast::document::Document;
 use graphql_nodes::collections::hash_keys::HashKeys;
+use graphql_nodes::collections::items::Items;
 use graphql_nodes::collections::table::Table;
 use graphql_nodes::name::Name;
 use graphql_nodes::node::Node;
 use graphql_nodes::source::SourceMap;
-use std::alloc::Global;
+use std::alloc::{AllocError, Global};
 
 /// Fragments under their names, in order.
 pub type FragmentMap = Table<Name, Node<Fragment>>;
@@ -47,5 +50,25 @@ impl ExecutableDocument {
             operations: OperationMap::with_keys(alloc, keys),
             fragments: Table::with_keys(alloc, keys),
         }
+    }
+
+    /// The document as syntax, without its sources: the anonymous operation, the named operations and the
+    /// fragments, in order, each at the location of its node. The error is out of memory, which a document
+    /// without operations and fragments doesn't meet.
+    pub fn to_ast(&self, alloc: Global) -> Result<Document, AllocError>
+        ensures written { IfOk result (λ written. written ≡ erased_document self.now) }
+        ensures memory { OnErr result (erased_definitions self.now ≢ []) }
+    {
+        let mut definitions = Vec::new(alloc);
+        for operation in self.operations.iter() {
+            definitions.push(operation.to_ast(alloc, operation.location())?)?;
+        }
+        for fragment in self.fragments.values() {
+            definitions.push(fragment.to_ast(alloc, fragment.location())?)?;
+        }
+        Ok(Document {
+            sources: Table::new(alloc),
+            definitions: Items::from_vec(definitions),
+        })
     }
 }

@@ -1,5 +1,5 @@
 //! Fields: GraphQL specification of October 2021, sections 2.5 to 2.7.
-ghost use Rattle.std.specs.Prelude.{◌≡◌, IfOk};
+ghost use Rattle.std.specs.Prelude.{◌≡◌, IfOk, [], ◌∷◌, ◌++◌, Some};
 ghost use Rattle.std.specs.Option.{option_copied};
 ghost use Rattle.graphql_ast.specs.ArgumentAnswer.{Answers};
 ghost use Rattle.graphql_ast.specs.ArgumentsByName.{defined_argument, specified_value, argument_value};
@@ -7,12 +7,15 @@ ghost use Rattle.graphql_ast.specs.TypeReferences.{inner_name};
 ghost use Rattle.apollo_schema.specs.Lookups.{type_at};
 ghost use Rattle.apollo_executable.specs.NewSelections.{new_field};
 ghost use Rattle.apollo_executable.specs.SelectionParts.{response_key};
+ghost use Rattle.apollo_executable.specs.Erasure.{erased_field};
 
-use crate::selection::{Field, SelectionSet};
+use crate::added_directives::append_directives;
+use crate::selection::{Field, Selection, SelectionSet};
 use apollo_schema::schema::Schema;
 use apollo_types::extended_type::ExtendedType;
 use graphql_ast::argument::ArgumentByNameError;
-use graphql_ast::directive::{Argument, DirectiveList};
+use graphql_ast::directive::{Argument, Directive, DirectiveList};
+use graphql_ast::selection as ast;
 use graphql_ast::type_reference::Type;
 use graphql_ast::type_system::FieldDefinition;
 use graphql_ast::value::Value;
@@ -88,5 +91,122 @@ impl Field {
         ensures { option_copied result ≡ specified_value self.now.arguments name.now }
     {
         Argument::specified_argument_by_name(self.arguments.as_slice(), name)
+    }
+
+    /// The same field under this alias.
+    pub fn with_alias(mut self, alias: Name) -> Field
+        ensures { result ≡ record self { alias = Some alias } }
+    {
+        self.alias = Some(alias);
+        self
+    }
+
+    /// The same field under this alias, or without one.
+    pub fn with_opt_alias(mut self, alias: Option<Name>) -> Field
+        ensures { result ≡ record self { alias = alias } }
+    {
+        self.alias = alias;
+        self
+    }
+
+    /// The same field with one more directive at the end. The error is out of memory, and drops the field.
+    pub fn with_directive(mut self, directive: Node<Directive>) -> Result<Field, AllocError>
+        ensures { IfOk result (λ field. field
+            ≡ record self { directives = record { 0 = self.directives.0 ++ directive ∷ [] } }) }
+    {
+        self.directives.push(directive)?;
+        Ok(self)
+    }
+
+    /// The same field with these directives at the end. The error is out of memory, and drops the field.
+    pub fn with_directives(mut self, directives: Vec<Node<Directive>>) -> Result<Field, AllocError>
+        ensures { IfOk result (λ field. field
+            ≡ record self { directives = record { 0 = self.directives.0 ++ directives.items } }) }
+    {
+        append_directives(&mut self.directives, directives)?;
+        Ok(self)
+    }
+
+    /// The same field with one more argument at the end, without a location. The error is out of memory, and
+    /// drops the field.
+    pub fn with_argument(
+        mut self,
+        alloc: Global,
+        name: Name,
+        value: Node<Value>,
+    ) -> Result<Field, AllocError>
+        ensures { IfOk result (λ field. field
+            ≡ record self {
+              arguments = self.arguments
+                  ++ record { value = record { name = name; value = value }; location = None } ∷ [];
+            }) }
+    {
+        let argument = Node::new(alloc, Argument::new(name, value))?;
+        self.arguments.push(argument)?;
+        Ok(self)
+    }
+
+    /// The same field with these arguments at the end. The error is out of memory, and drops the field.
+    pub fn with_arguments(mut self, arguments: Vec<Node<Argument>>) -> Result<Field, AllocError>
+        ensures { IfOk result (λ field. field
+            ≡ record self { arguments = self.arguments ++ arguments.items }) }
+    {
+        self.arguments.append(&mut Items::from_vec(arguments))?;
+        Ok(self)
+    }
+
+    /// The same field with one more selection at the end of its set. The error is out of memory, and drops
+    /// the field.
+    pub fn with_selection(mut self, selection: Selection) -> Result<Field, AllocError>
+        ensures { IfOk result (λ field. field
+            ≡ record self {
+              selection_set = record self.selection_set
+                  { selections = self.selection_set.selections ++ selection ∷ [] };
+            }) }
+    {
+        self.selection_set.push(selection)?;
+        Ok(self)
+    }
+
+    /// The same field with these selections at the end of its set. The error is out of memory, and drops the
+    /// field.
+    pub fn with_selections(mut self, selections: Vec<Selection>) -> Result<Field, AllocError>
+        ensures { IfOk result (λ field. field
+            ≡ record self {
+              selection_set = record self.selection_set
+                  { selections = self.selection_set.selections ++ selections.items };
+            }) }
+    {
+        self.selection_set.extend(selections)?;
+        Ok(self)
+    }
+
+    /// The field as syntax, without its definition. The error is out of memory.
+    #[cycle(to_ast)]
+    pub fn to_ast(&self, alloc: Global) -> Result<ast::Field, AllocError>
+        ensures { IfOk result (λ written. written ≡ erased_field self.now) }
+    {
+        let selection_set = Items::from_vec(self.selection_set.to_ast(alloc)?);
+        let field = self.over(selection_set)?;
+        Ok(field)
+    }
+
+    /// The field as syntax over these selections.
+    fn over(&self, selection_set: Items<ast::Selection>) -> Result<ast::Field, AllocError>
+        ensures { IfOk result (λ written. written ≡ record {
+          alias = self.now.alias;
+          name = self.now.name;
+          arguments = self.now.arguments;
+          directives = self.now.directives;
+          selection_set = selection_set;
+        }) }
+    {
+        Ok(ast::Field {
+            alias: self.alias.clone()?,
+            name: self.name.clone()?,
+            arguments: self.arguments.clone()?,
+            directives: self.directives.clone()?,
+            selection_set,
+        })
     }
 }

@@ -1,15 +1,14 @@
-//! Inline fragments and spreads: GraphQL specification of October 2021, section 2.8.
-ghost use Rattle.std.specs.Prelude.{◌≡◌, IfOk};
-ghost use Rattle.std.specs.Option.{option_copied};
-ghost use Rattle.graphql_nodes.specs.SameText.{same_text};
-ghost use Rattle.graphql_nodes.specs.Tables.{lookup};
-ghost use Rattle.apollo_executable.specs.NewSelections.{inline_fragment_on, inline_fragment_in, new_spread};
+//! Inline fragments: GraphQL specification of October 2021, section 2.8.2.
+ghost use Rattle.std.specs.Prelude.{◌≡◌, IfOk, [], ◌∷◌, ◌++◌, Some};
+ghost use Rattle.apollo_executable.specs.NewSelections.{inline_fragment_on, inline_fragment_in};
+ghost use Rattle.apollo_executable.specs.Erasure.{erased_inline_fragment};
 
-use crate::document::ExecutableDocument;
-use crate::operation::Fragment;
-use crate::selection::{FragmentSpread, InlineFragment, SelectionSet};
-use graphql_ast::directive::DirectiveList;
-use graphql_nodes::name::{Name, NamedType};
+use crate::added_directives::append_directives;
+use crate::selection::{InlineFragment, Selection, SelectionSet};
+use graphql_ast::directive::{Directive, DirectiveList};
+use graphql_ast::selection as ast;
+use graphql_nodes::collections::items::Items;
+use graphql_nodes::name::NamedType;
 use graphql_nodes::node::Node;
 use std::alloc::{AllocError, Global};
 
@@ -44,26 +43,84 @@ impl InlineFragment {
             selection_set: SelectionSet::new(alloc, parent_selection_set_type),
         }
     }
-}
 
-impl FragmentSpread {
-    /// A spread of the fragment of this name, without directives (section 2.8). It takes no memory.
-    pub fn new(alloc: Global, fragment_name: Name) -> FragmentSpread
-        ensures { result ≡ new_spread fragment_name }
+    /// The same inline fragment with one more directive at the end. The error is out of memory, and drops the
+    /// fragment.
+    pub fn with_directive(
+        mut self,
+        directive: Node<Directive>,
+    ) -> Result<InlineFragment, AllocError>
+        ensures { IfOk result (λ inline. inline
+            ≡ record self { directives = record { 0 = self.directives.0 ++ directive ∷ [] } }) }
     {
-        FragmentSpread {
-            fragment_name,
-            directives: DirectiveList::new(alloc),
-        }
+        self.directives.push(directive)?;
+        Ok(self)
     }
 
-    /// The fragment that is spread: the one that stands under the name's text in the document, if one does.
-    pub fn fragment_def<'doc>(
-        &self,
-        document: &'doc ExecutableDocument,
-    ) -> Option<&'doc Node<Fragment>>
-        ensures { option_copied result ≡ lookup (same_text self.now.fragment_name) document.now.fragments }
+    /// The same inline fragment with these directives at the end. The error is out of memory, and drops the
+    /// fragment.
+    pub fn with_directives(
+        mut self,
+        directives: Vec<Node<Directive>>,
+    ) -> Result<InlineFragment, AllocError>
+        ensures { IfOk result (λ inline. inline
+            ≡ record self { directives = record { 0 = self.directives.0 ++ directives.items } }) }
     {
-        document.fragments.get(&self.fragment_name)
+        append_directives(&mut self.directives, directives)?;
+        Ok(self)
+    }
+
+    /// The same inline fragment with one more selection at the end of its set. The error is out of memory,
+    /// and drops the fragment.
+    pub fn with_selection(mut self, selection: Selection) -> Result<InlineFragment, AllocError>
+        ensures { IfOk result (λ inline. inline
+            ≡ record self {
+              selection_set = record self.selection_set
+                  { selections = self.selection_set.selections ++ selection ∷ [] };
+            }) }
+    {
+        self.selection_set.push(selection)?;
+        Ok(self)
+    }
+
+    /// The same inline fragment with these selections at the end of its set. The error is out of memory, and
+    /// drops the fragment.
+    pub fn with_selections(
+        mut self,
+        selections: Vec<Selection>,
+    ) -> Result<InlineFragment, AllocError>
+        ensures { IfOk result (λ inline. inline
+            ≡ record self {
+              selection_set = record self.selection_set
+                  { selections = self.selection_set.selections ++ selections.items };
+            }) }
+    {
+        self.selection_set.extend(selections)?;
+        Ok(self)
+    }
+
+    /// The inline fragment as syntax, without the type of its set. The error is out of memory.
+    #[cycle(to_ast)]
+    pub fn to_ast(&self, alloc: Global) -> Result<ast::InlineFragment, AllocError>
+        ensures { IfOk result (λ written. written ≡ erased_inline_fragment self.now) }
+    {
+        let selection_set = Items::from_vec(self.selection_set.to_ast(alloc)?);
+        let inline = self.over(selection_set)?;
+        Ok(inline)
+    }
+
+    /// The inline fragment as syntax over these selections.
+    fn over(&self, selection_set: Items<ast::Selection>) -> Result<ast::InlineFragment, AllocError>
+        ensures { IfOk result (λ written. written ≡ record {
+          type_condition = self.now.type_condition;
+          directives = self.now.directives;
+          selection_set = selection_set;
+        }) }
+    {
+        Ok(ast::InlineFragment {
+            type_condition: self.type_condition.clone()?,
+            directives: self.directives.clone()?,
+            selection_set,
+        })
     }
 }

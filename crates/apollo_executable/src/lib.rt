@@ -10,10 +10,11 @@
 //! Not proved: that `is_introspection` looks at nothing after the first other field, which a test shows.
 #![tactic(auto)]
 
-mod adding;
+mod added_directives;
 pub mod document;
 mod field;
 pub mod fields;
+mod fragment_spread;
 mod inline_fragment;
 pub mod laws;
 pub mod new_field_error;
@@ -22,9 +23,7 @@ pub mod operation_map;
 pub mod operations;
 pub mod request_error;
 pub mod selection;
-mod selection_kinds;
 mod selection_set;
-mod to_ast;
 pub mod walks;
 
 pub use crate::document::{ExecutableDocument, FragmentMap};

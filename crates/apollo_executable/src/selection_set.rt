@@ -1,17 +1,35 @@
 //! Selection sets: GraphQL specification of October 2021, section 2.4.
 ghost use Rattle.std.specs.Prelude.{◌≡◌, ◌==◌, [], ◌∷◌, ◌++◌, length, Some, IfOk, IfErr, OnOk, OnErr};
-ghost use Rattle.std.specs.Prelude.{filter_map};
-ghost use Rattle.apollo_executable.specs.NewSelections.{empty_set, new_field, new_inline_fragment, new_spread};
-ghost use Rattle.apollo_executable.specs.NewSelections.{IsNewField, IsNewFieldRefusal};
+ghost use Rattle.std.specs.Prelude.{filter_map, ◌≢◌, map, true, false};
+ghost use Rattle.apollo_executable.specs.NewSelections.{empty_set, new_field, new_inline_fragment};
+ghost use Rattle.apollo_executable.specs.NewSelections.{new_spread, IsNewField, IsNewFieldRefusal};
 ghost use Rattle.apollo_executable.specs.SelectionParts.{as_field, FieldsInOrder};
+ghost use Rattle.apollo_executable.specs.Erasure.{erased_set};
+ghost use Rattle.apollo_executable.specs.Walks.WalkView.{AreWalked, IsNewWalk};
 
+use crate::document::ExecutableDocument;
 use crate::fields::Fields;
 use crate::new_field_error::NewFieldError;
 use crate::selection::{Field, FragmentSpread, InlineFragment, Selection, SelectionSet};
+use crate::walks::field_walk::{AllFields, FieldWalk, RootFields};
+use crate::walks::walk::Walk;
 use apollo_schema::schema::Schema;
+use graphql_ast::selection as ast;
 use graphql_nodes::collections::items::Items;
 use graphql_nodes::name::{Name, NamedType};
+use graphql_nodes::node::Node;
 use std::alloc::{AllocError, Global};
+
+/// What a walk is still to give. The error is that memory ran out.
+fn collect<'doc>(alloc: Global, walk: FieldWalk<'doc>) -> Result<Vec<&'doc Node<Field>>, AllocError>
+    ensures { IfOk result (λ fields. map (λ field. field.now) fields.items ≡ walk.entry.coming) }
+{
+    let mut fields = Vec::new(alloc);
+    for field in walk {
+        fields.push(field?)?;
+    }
+    Ok(fields)
+}
 
 impl SelectionSet {
     /// No selection, from this type. It takes no memory.
@@ -102,5 +120,80 @@ impl SelectionSet {
         ensures runs { FieldsInOrder }
     {
         Fields::new(self.selections.as_slice())
+    }
+
+    /// The selections as syntax, in order. The error is out of memory, which a set without selections doesn't
+    /// meet.
+    #[cycle(to_ast)]
+    #[tactic(auto, using(crate::proofs::Erasing::set_erases))]
+    pub fn to_ast(&self, alloc: Global) -> Result<Vec<ast::Selection>, AllocError>
+        ensures written { IfOk result (λ written. written.items ≡ erased_set self.now) }
+        ensures memory { OnErr result (self.now.selections ≢ []) }
+    {
+        let mut written = Vec::new(alloc);
+        written.reserve_exact(self.selections.len())?;
+        for selection in &self.selections {
+            written.push(selection.to_ast(alloc)?)?;
+        }
+        Ok(written)
+    }
+
+    /// A walk over the root fields of this set: those that stand in it or are reached through fragments, and
+    /// none below a field. Making it takes no memory. GraphQL specification of October 2021, section 6.3.2.
+    ///
+    /// That the set may belong to a fragment doesn't open that fragment.
+    pub fn root_fields<'doc>(
+        &'doc self,
+        alloc: Global,
+        document: &'doc ExecutableDocument,
+    ) -> RootFields<'doc>
+        ensures { IsNewWalk false document.now self.now result }
+    {
+        RootFields {
+            walk: Walk::new(alloc, document, self, false),
+        }
+    }
+
+    /// A walk over all fields that this set reaches, through fragments and below fields: each field comes
+    /// before those below it. Making it takes no memory. GraphQL specification of October 2021, sections 2.4
+    /// and 2.8.
+    ///
+    /// That the set may belong to a fragment doesn't open that fragment.
+    pub fn all_fields<'doc>(
+        &'doc self,
+        alloc: Global,
+        document: &'doc ExecutableDocument,
+    ) -> AllFields<'doc>
+        ensures { IsNewWalk true document.now self.now result }
+    {
+        AllFields {
+            walk: Walk::new(alloc, document, self, true),
+        }
+    }
+
+    /// The fields of a whole walk over root fields, in order, as [`root_fields`](SelectionSet::root_fields)
+    /// gives them. The error is that memory ran out, and drops what was given.
+    pub fn collect_root<'doc>(
+        &'doc self,
+        alloc: Global,
+        document: &'doc ExecutableDocument,
+    ) -> Result<Vec<&'doc Node<Field>>, AllocError>
+        ensures { IfOk result
+            (λ fields. AreWalked false document.now self.now (map (λ field. field.now) fields.items)) }
+    {
+        collect(alloc, self.root_fields(alloc, document))
+    }
+
+    /// The fields of a whole walk over all fields, in order, as [`all_fields`](SelectionSet::all_fields)
+    /// gives them. The error is that memory ran out, and drops what was given.
+    pub fn collect_all<'doc>(
+        &'doc self,
+        alloc: Global,
+        document: &'doc ExecutableDocument,
+    ) -> Result<Vec<&'doc Node<Field>>, AllocError>
+        ensures { IfOk result
+            (λ fields. AreWalked true document.now self.now (map (λ field. field.now) fields.items)) }
+    {
+        collect(alloc, self.all_fields(alloc, document))
     }
 }

@@ -7,10 +7,8 @@
 //! no type condition, and merges no fields. Of section 6.3.2 it keeps the order, and that each fragment is
 //! visited once.
 
-mod calls;
 pub mod field_walk;
 mod flags;
-mod introspection;
 mod left;
 mod open_lists;
-mod walk;
+pub(crate) mod walk;

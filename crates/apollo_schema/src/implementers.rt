@@ -3,11 +3,16 @@ ghost use Rattle.std.specs.Prelude.{◌≡◌, ◌++◌, length, IfSome, OnOk};
 ghost use Rattle.std.specs.Iterator.{YieldsFirstRef, UpTo, item_count};
 ghost use Rattle.std.specs.Iterator.SizeHint.{IsWithinCount, IsExactHint};
 ghost use Rattle.apollo_schema.specs.ImplementerNames.{names_left};
-ghost use Rattle.apollo_schema.specs.Noted.{no_implementers, with_implementer};
+ghost use Rattle.apollo_types.specs.TypeKinds.{is_object};
+ghost use Rattle.apollo_schema.specs.Lookups.{declared_interfaces};
+ghost use Rattle.apollo_schema.specs.Noted.{no_implementers, noted, noted_under, with_implementer};
 
+use apollo_component::component::ComponentName;
+use apollo_types::extended_type::ExtendedType;
 use graphql_nodes::collections::elements::Elements;
 use graphql_nodes::collections::hash_keys::HashKeys;
 use graphql_nodes::collections::key_set::KeySet;
+use graphql_nodes::collections::table::Table;
 use graphql_nodes::name::Name;
 use graphql_nodes::{clone_fields, take_apart};
 use std::alloc::{AllocError, Global};
@@ -116,3 +121,51 @@ impl<'a> Iterator for ImplementersIter<'a> {
 }
 
 impl<'a> FusedIterator for ImplementersIter<'a> {}
+
+/// The interfaces that the type declares.
+fn declared_interfaces(ty: &ExtendedType) -> &[ComponentName]
+    ensures { result.now ≡ declared_interfaces ty.now }
+{
+    match ty {
+        ExtendedType::Object(object) => object.implements_interfaces.as_slice(),
+        ExtendedType::Interface(interface) => interface.implements_interfaces.as_slice(),
+        _ => &[],
+    }
+}
+
+/// Notes a name under an interface: that of an object type, or else of an interface type. The error is out of
+/// memory.
+fn note(
+    map: &mut Table<Name, Implementers>,
+    interface: &ComponentName,
+    name: &Name,
+    is_object: bool,
+) -> Result<(), AllocError>
+    ensures { OnOk result (map.new ≡ noted is_object name.now map.old interface.now) }
+{
+    if let Some(implementers) = map.get_mut(&interface.name) {
+        implementers.add(name, is_object)?;
+        return Ok(());
+    }
+    let alloc = map.allocator();
+    let mut implementers = Implementers::with_keys(alloc, map.hash_keys());
+    implementers.add(name, is_object)?;
+    map.insert(interface.name.clone()?, implementers)?;
+    Ok(())
+}
+
+/// Notes the name of a type under each interface that the type declares. The error is out of memory.
+pub(crate) fn note_type(
+    map: &mut Table<Name, Implementers>,
+    name: &Name,
+    ty: &ExtendedType,
+) -> Result<(), AllocError>
+    ensures { OnOk result (map.new
+        ≡ noted_under (is_object ty.now) name.now map.old (declared_interfaces ty.now)) }
+{
+    let interfaces = declared_interfaces(ty);
+    for interface in interfaces {
+        note(map, interface, name, ty.is_object())?;
+    }
+    Ok(())
+}

@@ -1,6 +1,6 @@
 //! What a builder holds.
 ghost use Rattle.std.specs.Prelude.{◌≡◌, ◌≢◌, false, ◌+◌, ◌^◌, ◌≤◌, [], ◌∷◌, length, OnOk, OnErr};
-ghost use Rattle.std.specs.Prelude.{IfOk, IfErr};
+ghost use Rattle.std.specs.Prelude.{IfOk, IfErr, List, ℕ};
 ghost use Rattle.graphql_nodes.specs.Tables.{insert_entry};
 ghost use Rattle.graphql_nodes.specs.SameText.{same_text};
 ghost use Rattle.graphql_ast.specs.Definitions.{definition_location};
@@ -9,19 +9,20 @@ ghost use Rattle.graphql_ast.specs.declared.declaration_ref.DeclarationRef.TheVa
 ghost use Rattle.apollo_component.specs.Extensions.{next_number};
 ghost use Rattle.apollo_meaning.specs.declared.build_error.BuildError.TheVariants as errors;
 ghost use Rattle.apollo_meaning.specs.Items.Parts.{schema_definition_part, schema_extension_part};
-ghost use Rattle.apollo_meaning.specs.Items.ListItems.{Extended, SchemaDefined, SchemaExtended, added};
-ghost use Rattle.apollo_meaning.specs.Items.ListItems.{added_item, added_items, item_of};
+ghost use Rattle.apollo_meaning.specs.Items.ListItems.{Extended, ListItem, SchemaDefined, SchemaExtended};
+ghost use Rattle.apollo_meaning.specs.Items.ListItems.{added, added_item, added_items, item_of};
 ghost use Rattle.apollo_meaning.specs.BuiltInTable.{built_in_definitions};
+ghost use Rattle.apollo_meaning.specs.Completion.OrphanNames.{orphan_names};
 ghost use Rattle.apollo_folding.specs.DeclaredParts.{item_seen, part_seen, definition_seen};
 ghost use Rattle.apollo_folding.specs.Noting.{noting};
 ghost use Rattle.apollo_folding.specs.Refusals.{RefusedAs};
+ghost use Rattle.apollo_schema.specs.NamesLeft.{names_left};
 ghost use Rattle.apollo_schema.specs.Stands.{Stands};
 ghost use Rattle.apollo_schema.specs.Takes.{Takes, SpentBy, with_schema};
 
 mod completion;
-mod copy;
-mod extended_only;
 
+use crate::orphan_names::OrphanNames;
 use apollo_component::extension::ExtensionSource;
 use apollo_folding::builder_error::BuilderError;
 use apollo_folding::fold::Fold;
@@ -70,6 +71,14 @@ fn put(
     ensures put { OnOk result (types.new ≡ insert_entry same_text types.old name.now ty) }
 {
     types.insert(name.clone()?, ty)?;
+    Ok(())
+}
+
+/// Puts a copy of a value in the place of another.
+fn copy_into<T: Clone + Drop>(target: &mut T, original: &T) -> Result<(), AllocError>
+    ensures { OnOk result (T.Clone.is_clone original.now target.new) }
+{
+    *target = original.clone()?;
     Ok(())
 }
 
@@ -268,5 +277,40 @@ impl Tables {
             self.take_one(definition, ignores)?;
         }
         Ok(())
+    }
+
+    /// The names that are extended and not defined so far, in order of first extension, each as its first
+    /// extension has it.
+    pub fn orphan_names(&self) -> OrphanNames<'_>
+        ensures { (start : ℕ) (xs : List ListItem)
+            → Stands start xs self.now → names_left result ≡ orphan_names xs }
+    {
+        OrphanNames::of(&self.waiting)
+    }
+
+    /// Takes over copies of all that others hold, but for what they fold with.
+    fn copy_from(&mut self, original: &Tables) -> Result<(), AllocError>
+        ensures { OnOk result (self.new ≡ record original.now { fold = self.old.fold }) }
+    {
+        copy_into(&mut self.schema_definition, &original.schema_definition)?;
+        copy_into(&mut self.schema_extensions, &original.schema_extensions)?;
+        copy_into(&mut self.types, &original.types)?;
+        copy_into(
+            &mut self.directive_definitions,
+            &original.directive_definitions,
+        )?;
+        copy_into(&mut self.waiting, &original.waiting)?;
+        Ok(())
+    }
+}
+
+/// A copy draws the numbers that the original draws, and hashes by its keys.
+impl Clone for Tables {
+    ghost is_clone = { λ a b. b ≡ a };
+
+    fn clone(&self) -> Result<Tables, AllocError> {
+        let mut copy = Tables::new(self.fold.clone()?);
+        copy.copy_from(self)?;
+        Ok(copy)
     }
 }

@@ -1,6 +1,9 @@
 //! Types of any kind: GraphQL specification of October 2021, section 3.4.
-ghost use Rattle.std.specs.Prelude.{◌≡◌, ◌++◌, IfOk, OnOk};
+ghost use Rattle.std.specs.Prelude.{◌≡◌, ◌++◌, IfOk, OnOk, None};
 ghost use Rattle.std.specs.Option.{option_copied};
+ghost use Rattle.apollo_types.specs.declared.extended_type.ExtendedType.TheVariants.{Scalar, Object};
+ghost use Rattle.apollo_types.specs.declared.extended_type.ExtendedType.TheVariants.{Interface, Union, Enum};
+ghost use Rattle.apollo_types.specs.declared.extended_type.ExtendedType.TheVariants.{InputObject};
 
 use crate::components::Components;
 use crate::enum_type::EnumType;
@@ -41,6 +44,54 @@ pub enum ExtendedType {
     InputObject(Node<InputObjectType>),
 }
 
+impl From<Node<ScalarType>> for ExtendedType {
+    ghost from_gives = { λ node ty. ty ≡ Scalar node };
+
+    fn from(node: Node<ScalarType>) -> ExtendedType {
+        ExtendedType::Scalar(node)
+    }
+}
+
+impl From<Node<ObjectType>> for ExtendedType {
+    ghost from_gives = { λ node ty. ty ≡ Object node };
+
+    fn from(node: Node<ObjectType>) -> ExtendedType {
+        ExtendedType::Object(node)
+    }
+}
+
+impl From<Node<InterfaceType>> for ExtendedType {
+    ghost from_gives = { λ node ty. ty ≡ Interface node };
+
+    fn from(node: Node<InterfaceType>) -> ExtendedType {
+        ExtendedType::Interface(node)
+    }
+}
+
+impl From<Node<UnionType>> for ExtendedType {
+    ghost from_gives = { λ node ty. ty ≡ Union node };
+
+    fn from(node: Node<UnionType>) -> ExtendedType {
+        ExtendedType::Union(node)
+    }
+}
+
+impl From<Node<EnumType>> for ExtendedType {
+    ghost from_gives = { λ node ty. ty ≡ Enum node };
+
+    fn from(node: Node<EnumType>) -> ExtendedType {
+        ExtendedType::Enum(node)
+    }
+}
+
+impl From<Node<InputObjectType>> for ExtendedType {
+    ghost from_gives = { λ node ty. ty ≡ InputObject node };
+
+    fn from(node: Node<InputObjectType>) -> ExtendedType {
+        ExtendedType::InputObject(node)
+    }
+}
+
 impl Clone for ExtendedType {
     ghost is_clone = { λ a b. b ≡ a };
 
@@ -59,6 +110,48 @@ impl ExtendedType {
     ghost use Rattle.apollo_types.specs.TypeWriteOut.{write_type, type_kind, type_name, type_location};
     ghost use Rattle.apollo_types.specs.TypeWriteOut.{type_directives, type_description};
     ghost use Rattle.apollo_component.specs.Beginnings.{Begins};
+
+    /// The type, in a node with no location. The error is out of memory, and drops the type.
+    pub fn of_scalar(alloc: Global, ty: ScalarType) -> Result<ExtendedType, AllocError>
+        ensures { IfOk result (λ made. made ≡ Scalar (record { value = ty; location = None })) }
+    {
+        Ok(ExtendedType::Scalar(Node::new(alloc, ty)?))
+    }
+
+    /// The type, in a node with no location. The error is out of memory, and drops the type.
+    pub fn of_object(alloc: Global, ty: ObjectType) -> Result<ExtendedType, AllocError>
+        ensures { IfOk result (λ made. made ≡ Object (record { value = ty; location = None })) }
+    {
+        Ok(ExtendedType::Object(Node::new(alloc, ty)?))
+    }
+
+    /// The type, in a node with no location. The error is out of memory, and drops the type.
+    pub fn of_interface(alloc: Global, ty: InterfaceType) -> Result<ExtendedType, AllocError>
+        ensures { IfOk result (λ made. made ≡ Interface (record { value = ty; location = None })) }
+    {
+        Ok(ExtendedType::Interface(Node::new(alloc, ty)?))
+    }
+
+    /// The type, in a node with no location. The error is out of memory, and drops the type.
+    pub fn of_union(alloc: Global, ty: UnionType) -> Result<ExtendedType, AllocError>
+        ensures { IfOk result (λ made. made ≡ Union (record { value = ty; location = None })) }
+    {
+        Ok(ExtendedType::Union(Node::new(alloc, ty)?))
+    }
+
+    /// The type, in a node with no location. The error is out of memory, and drops the type.
+    pub fn of_enum(alloc: Global, ty: EnumType) -> Result<ExtendedType, AllocError>
+        ensures { IfOk result (λ made. made ≡ Enum (record { value = ty; location = None })) }
+    {
+        Ok(ExtendedType::Enum(Node::new(alloc, ty)?))
+    }
+
+    /// The type, in a node with no location. The error is out of memory, and drops the type.
+    pub fn of_input_object(alloc: Global, ty: InputObjectType) -> Result<ExtendedType, AllocError>
+        ensures { IfOk result (λ made. made ≡ InputObject (record { value = ty; location = None })) }
+    {
+        Ok(ExtendedType::InputObject(Node::new(alloc, ty)?))
+    }
 
     /// The kind of the type.
     pub fn kind(&self) -> TypeKind

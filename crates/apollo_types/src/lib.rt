@@ -13,7 +13,6 @@ pub mod input_object_type;
 pub mod interface_type;
 pub mod laws;
 pub mod object_type;
-mod of_kinds;
 pub mod origins;
 pub mod root_operations;
 pub mod scalar_type;

@@ -1,5 +1,5 @@
 //! The roots of a schema's definition: GraphQL specification of October 2021, section 3.3.1.
-ghost use Rattle.std.specs.Prelude.{◌≡◌, ◌≤◌, length, IfSome};
+ghost use Rattle.std.specs.Prelude.{◌≡◌, length, IfSome};
 ghost use Rattle.std.specs.Iterator.{UpTo, at_most};
 ghost use Rattle.std.specs.Iterator.SizeHint.{IsWithinCount, IsExactHint};
 ghost use Rattle.std.specs.Map.Iter.{TakesFirst};

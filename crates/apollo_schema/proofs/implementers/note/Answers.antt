@@ -1,7 +1,7 @@
 use Rattle.apollo_meaning.proofs.Prelude.{◌≡◌, Some, sym, ap, ◌∙◌, lookup, set_value, option_copied_mut}
 use Rattle.apollo_meaning.proofs.Prelude.{same_text}
 use Rattle.apollo_schema.proofs.ImplementerLemmas.{noted-found}
-use Rattle.apollo_schema.proofs.schema.implementers_map.note.Goals as goal
+use Rattle.apollo_schema.proofs.implementers.note.Goals as goal
 
 pub returns-in-Some : goal.returns-in-Some
 returns-in-Some c =

@@ -1,5 +1,5 @@
 use Rattle.apollo_meaning.proofs.Prelude.{◌≡◌, ◌∙◌, rules}
-use Rattle.apollo_schema.proofs.tables.copy.TablesClone.clone.Goals as goal
+use Rattle.apollo_schema.proofs.tables.TablesClone.clone.Goals as goal
 
 pub returns : goal.returns
 returns c =
