@@ -10,6 +10,8 @@ RT_TOKEN = re.compile(r"""'(?:[^'\\\n]|\\[^'\n]+|\\')'|"(?:[^"\\]|\\.)*"|//[^\n]
 BLOCK = re.compile(r"(?:pub(?:\(\w+\))? )?(impl|struct|enum|trait)\b(.*)")
 ITEM = re.compile(r"( *)(pub(?:\(\w+\))? )?(?:ghost )?(fn|struct|enum|trait|type|const|mod) (\w+)")
 PART = re.compile(r"    (pub(?:\(\w+\))? )?(?:ghost )?(\w+)(?=[:(,{ ]|$)")
+# A comment that documents no item, over all its lines.
+COMMENT = re.compile(r"(?:^ *// .*\n)+", re.MULTILINE)
 # Where the head of a function ends.
 CLAUSE = re.compile(r"\n *(?:ensures|requires|ghost|where|\{)|\{$", re.MULTILINE)
 
@@ -93,6 +95,13 @@ def items(path):
             owner = trait = ""
         is_test = line == "#[test]" or is_test and line.startswith("#")
         at += len(line) + 1
+
+
+def comments(path):
+    """The words of each comment of a `.rt` file that documents no item, and the number of its first line."""
+    text = path.read_text()
+    for comment in COMMENT.finditer(text):
+        yield " ".join(re.findall("// (.*)", comment[0])), text.count("\n", 0, comment.start()) + 1
 
 
 def used(path):

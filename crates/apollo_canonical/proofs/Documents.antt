@@ -5,7 +5,7 @@ pub mod PlainSyntax
 pub mod AlikeTypable
 pub mod PlainSelections
 pub mod PlainFaults
-pub mod Lists
+pub mod Seen
 pub mod PlainKept
 pub mod PlainErasure
 pub mod PlainDocuments

@@ -121,7 +121,7 @@ pub use Rattle.apollo_schema.specs.MeantSchema.{AreOf, MeansSchema}
 pub use Rattle.apollo_schema.specs.SchemaWriteOut.{write_directives, write_held_schema_definition}
 pub use Rattle.apollo_schema.specs.SchemaWriteOut.{write_held_type, write_schema}
 pub use Rattle.apollo_schema.specs.declared.schema.Schema.{Schema}
-pub use Rattle.apollo_schema_laws.proofs.Permutations.{map-flat_map}
+pub use Rattle.apollo_component.proofs.Lists.Reordered.{map-flat_map}
 pub use Rattle.apollo_schema_laws.proofs.Rearranged.Bare.{bare_directive_node, bare_other, defined-unplaced}
 pub use Rattle.apollo_schema_laws.proofs.Rearranged.Bare.{directive_of-bare, directives-unplaced}
 pub use Rattle.apollo_schema_laws.proofs.Rearranged.Bare.{extensions-unplaced, find-bare, first-unplaced}

@@ -1,10 +1,12 @@
 -- What documents are compiled to: GraphQL specification of October 2021, sections 2.2 to 2.8 and 3.
 use Rattle.std.specs.Prelude.{◌≡◌, Bool, false, true, List, [], Some}
 use Rattle.graphql_ast.specs.declared.document.Document.{Document}
+use Rattle.apollo_meaning.specs.Faults.Collisions.{Fault}
 use Rattle.apollo_meaning.specs.Faults.ListFaults.{faults_of}
 use Rattle.apollo_schema.specs.EqualSchemas.{AreEqualSchemas}
 use Rattle.apollo_schema.specs.MeantSchema.{MeansSchema}
 use Rattle.apollo_schema.specs.SchemaWriteOut.{write_schema}
+use Rattle.apollo_schema.specs.declared.schema.Schema.{Schema}
 use Rattle.apollo_schema_laws.specs.WrittenAgain.{written_again}
 use Rattle.apollo_executable.specs.Erasure.{erased_document}
 use Rattle.apollo_document.specs.DocumentFaults.{document_faults as faults_of_document}
@@ -12,6 +14,16 @@ use Rattle.apollo_document.specs.Documents.{IsDocumentOf}
 use Rattle.apollo_compiler.specs.Lists.{all_sources, executable_list, schema_list}
 use Rattle.apollo_compiler.specs.declared.compile_options.CompileOptions.{CompileOptions}
 use Rattle.apollo_compiler.specs.declared.compiled.Compiled.{Compiled}
+
+-- these documents are built to this schema with these options, with these faults
+pub record AreBuilt (options : CompileOptions) (documents : List Document) (schema : Schema)
+    (found : List Fault) : Type 0 where
+  -- the schema that the list means, with its extensions numbered from 0
+  pub means : MeansSchema 0 options.adopt_orphan_extensions (schema_list options documents) schema
+  -- its source files are those of the documents
+  pub sources : schema.sources ≡ all_sources documents
+  -- the faults of the list
+  pub faults : found ≡ faults_of options.adopt_orphan_extensions (schema_list options documents)
 
 -- these documents are compiled to this, with these options, and with definitions of the type system at fault
 -- in executable documents, or not

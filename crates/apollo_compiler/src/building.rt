@@ -3,14 +3,15 @@ ghost use Rattle.std.specs.Prelude.{◌≡◌, Err, IfOk};
 ghost use Rattle.apollo_meaning.specs.Faults.ListFaults.{faults_of};
 ghost use Rattle.apollo_meaning.specs.Order.SpentIds.{SpendsIds};
 ghost use Rattle.apollo_schema.specs.MeantSchema.{MeansSchema};
+ghost use Rattle.apollo_compiler.specs.Compilation.{AreBuilt};
 ghost use Rattle.apollo_compiler.specs.Lists.{all_sources, schema_list};
 
 use crate::compile_error::CompileError;
 use crate::compile_options::CompileOptions;
 use crate::prepared::Prepared;
-use apollo_folding::builder_error::BuilderError;
 use apollo_meaning::build_error::Faults;
 use apollo_meaning::laws::a_longer_list_folds_no_less;
+use apollo_schema::BuilderError;
 use apollo_schema::build_failure::BuildFailure;
 use apollo_schema::schema::Schema;
 use graphql_ast::document::Document;
@@ -49,11 +50,7 @@ pub(crate) fn build_prepared(
     options: CompileOptions,
     documents: &[Document],
 ) -> Result<(Schema, Faults), CompileError>
-    ensures means { IfOk result (λ built.
-        MeansSchema 0 options.adopt_orphan_extensions (schema_list options documents.now) built.0) }
-    ensures sources { IfOk result (λ built. built.0.sources ≡ all_sources documents.now) }
-    ensures faults { IfOk result (λ built. built.1.items
-        ≡ faults_of options.adopt_orphan_extensions (schema_list options documents.now)) }
+    ensures built { IfOk result (λ built. AreBuilt options documents.now built.0 built.1.items) }
     ensures spent { result ≡ Err CompileError.ExtensionIds
         → SpendsIds 0 options.adopt_orphan_extensions (schema_list options documents.now) }
 {

@@ -9,11 +9,11 @@ use crate::building::build_prepared;
 use crate::compile_error::CompileError;
 use crate::compile_options::CompileOptions;
 use crate::compiled::Compiled;
+use crate::document_building::build_executable_document;
 use crate::executable_options::ExecutableOptions;
 use crate::laws::headline;
 use crate::prepared::Prepared;
 use crate::rebuilding::rebuild;
-use crate::typing::type_documents;
 use apollo_schema_laws::write_out::a_write_out_folds_no_more;
 use graphql_ast::document::Document;
 use graphql_nodes::collections::hash_keys::HashKeys;
@@ -90,7 +90,13 @@ pub fn compile_with_keys(
     let executable_options = ExecutableOptions {
         type_system_definitions_are_errors,
     };
-    let typed = type_documents(alloc, &schema, executable_options, executable_documents)?;
+    let (document, document_faults) = build_executable_document(
+        alloc,
+        &schema,
+        executable_options,
+        executable_documents,
+    )?;
+    let erased = document.to_ast(alloc)?;
     Ok(Compiled {
         schema,
         schema_faults,
@@ -98,8 +104,8 @@ pub fn compile_with_keys(
         rebuilt: rebuilt.schema,
         rebuilt_faults: rebuilt.faults,
         rebuilt_ast: rebuilt.ast_again,
-        document: typed.document,
-        document_faults: typed.faults,
-        erased: typed.erased,
+        document,
+        document_faults,
+        erased,
     })
 }

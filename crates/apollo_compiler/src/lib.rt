@@ -25,7 +25,6 @@ mod rebuilding;
 pub mod report;
 pub mod source_files;
 pub mod text;
-mod typing;
 
 pub use crate::building::build_schema;
 pub use crate::compile_error::CompileError;

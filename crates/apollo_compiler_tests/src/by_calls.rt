@@ -4,7 +4,7 @@
 use crate::compiling::{PLAIN, expect_told, told, told_of_both};
 use crate::making::{marked, name, products, unchecked_fragment, unchecked_names};
 use apollo_compiler::{CompileError, HashKeys, build_schema};
-use apollo_coordinate::coordinates::TypeCoordinate;
+use apollo_coordinate::TypeCoordinate;
 use bench_notation::documents::read;
 use bench_notation::refusal::ReadError;
 use graphql_ast::Document;

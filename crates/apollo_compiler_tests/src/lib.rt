@@ -1,5 +1,5 @@
-//! Tests of documents that are compiled, of what no clause says: that calls succeed with memory, and what the
-//! notation can't say. Most compare a text that shows all that is looked at.
+//! Tests of documents that are compiled, of what no clause says: that calls succeed with enough memory, and
+//! what the notation can't say. Most compare a text that shows all that is looked at.
 //!
 //! What stands here serves tests: calls have no clause.
 #![tactic(auto)]

@@ -93,23 +93,22 @@ pub fn products(alloc: Global) -> Result<Document, AllocError> {
     )
 }
 
-/// An extension of the object type of this name by this field, at this location.
+/// The extension that adds the fields of an object type, where its definition stands.
 fn extension(
     alloc: Global,
-    text: &str,
-    field: Result<Node<FieldDefinition>, AllocError>,
-    location: Option<SourceSpan>,
+    object: Result<Node<ObjectTypeDefinition>, AllocError>,
 ) -> Result<Node<ObjectTypeExtension>, AllocError> {
-    let (name, fields) = both(name(alloc, text), list(alloc, field))?;
+    let object = object?;
+    let (name, fields) = both(object.name.clone(), object.fields.clone())?;
     let mut extension = ObjectTypeExtension::new(alloc, name);
     extension.fields = fields;
-    Node::new_opt_location(alloc, extension, location)
+    Node::new_opt_location(alloc, extension, object.location())
 }
 
 /// An extension of the object type of the empty name, with the directive `→` and a field of a space.
 fn unchecked_extension(alloc: Global) -> Result<Node<ObjectTypeExtension>, AllocError> {
-    let space = field(alloc, " ", "", None);
-    let (mut extension, arrow) = both(extension(alloc, "", space, None), name(alloc, "→"))?;
+    let space = object(alloc, "", field(alloc, " ", "", None), None);
+    let (mut extension, arrow) = both(extension(alloc, space), name(alloc, "→"))?;
     let directives = list(alloc, Node::new(alloc, Directive::new(alloc, arrow)))?;
     let written = extension.make_mut()?;
     written.directives = DirectiveList(directives);
@@ -160,7 +159,7 @@ const BUILT_IN: Option<SourceSpan> = Some(SourceSpan {
 
 /// The definition of an object type and an extension of it, both marked built-in.
 pub fn marked(alloc: Global) -> Result<Document, AllocError> {
-    let object = object(alloc, "T", field(alloc, "a", "Int", BUILT_IN), BUILT_IN);
-    let added = field(alloc, "b", "Int", BUILT_IN);
-    document(alloc, object, extension(alloc, "T", added, BUILT_IN))
+    let defined = object(alloc, "T", field(alloc, "a", "Int", BUILT_IN), BUILT_IN);
+    let added = object(alloc, "T", field(alloc, "b", "Int", BUILT_IN), BUILT_IN);
+    document(alloc, defined, extension(alloc, added))
 }

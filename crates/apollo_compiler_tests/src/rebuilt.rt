@@ -8,17 +8,17 @@ use std::process::Abort;
 
 const ADOPTING: CompileOptions = CompileOptions {
     adopt_orphan_extensions: true,
-    ignore_builtin_redefinitions: false,
+    ..PLAIN
 };
 
 const IGNORING: CompileOptions = CompileOptions {
-    adopt_orphan_extensions: false,
     ignore_builtin_redefinitions: true,
+    ..PLAIN
 };
 
 const BOTH: CompileOptions = CompileOptions {
     adopt_orphan_extensions: true,
-    ignore_builtin_redefinitions: true,
+    ..IGNORING
 };
 
 /// Expects each input's write-out to build an equal schema, without fault, with the same write-out.

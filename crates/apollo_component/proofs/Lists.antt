@@ -3,4 +3,7 @@ pub mod Cases
 pub mod Each
 pub mod EachAfter
 pub mod Ends
+pub mod Groups
+pub mod Kept
 pub mod Reordered
+pub mod Seen

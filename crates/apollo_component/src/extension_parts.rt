@@ -1,6 +1,6 @@
 //! The parts of the extensions of a type or of a schema's definition: GraphQL specification of October 2021,
 //! sections 3.3.2 and 3.4.3.
-ghost use Rattle.std.specs.Prelude.{◌≡◌, [], ◌∷◌, ◌++◌, map, IfOk, OnOk};
+ghost use Rattle.std.specs.Prelude.{◌≡◌, [], ◌++◌, map, IfOk, OnOk};
 ghost use Rattle.graphql_ast.specs.Declarations.{type_extension, schema_extension};
 ghost use Rattle.graphql_ast.specs.Parts.{no_parts, with_part};
 ghost use Rattle.apollo_component.specs.Beginnings.{Begins};
@@ -126,33 +126,18 @@ impl HeldParts {
         ensures { let held = entries_held self.old in
             OnOk result (entries_held self.new ≡ with_extension_part id (T.part part) held) }
     {
-        if let HeldParts::One(first, parts) = self {
-            if id == *first {
-                part.push_to(parts)?;
-                return Ok(());
+        match self {
+            HeldParts::Nothing => *self = HeldParts::One(id, one_part(alloc, part)?),
+            HeldParts::One(first, parts) if id == *first => part.push_to(parts)?,
+            HeldParts::One(_, _) => {
+                let held = mem::replace(self, HeldParts::Nothing);
+                let mut table = held.into_table(alloc)?;
+                add_to(alloc, &mut table, id, part)?;
+                *self = HeldParts::Many(table);
             }
+            HeldParts::Many(table) => add_to(alloc, table, id, part)?,
         }
-        let held = mem::replace(self, HeldParts::Nothing);
-        *self = held.with(alloc, id, part)?;
         Ok(())
-    }
-
-    /// These with one more part. The error is out of memory.
-    fn with<T: Listed>(
-        self,
-        alloc: Global,
-        id: ExtensionId,
-        part: T,
-    ) -> Result<HeldParts, AllocError>
-        ensures { let all = with_extension_part id (T.part part) (entries_held self) in
-            IfOk result (λ held. entries_held held ≡ all) }
-    {
-        if let HeldParts::Nothing = self {
-            return Ok(HeldParts::One(id, one_part(alloc, part)?));
-        }
-        let mut table = self.into_table(alloc)?;
-        add_to(alloc, &mut table, id, part)?;
-        Ok(HeldParts::Many(table))
     }
 
     /// These in a table. The error is out of memory.

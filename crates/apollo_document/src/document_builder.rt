@@ -10,7 +10,7 @@ use crate::selection_laws::elaborated_sets;
 use crate::state::{Added, State};
 use crate::tables::Tables;
 use apollo_executable::document::ExecutableDocument;
-use apollo_folding::builder_error::BuilderError;
+use apollo_schema::BuilderError;
 use apollo_schema::schema::Schema;
 use graphql_ast::added_list::AddedList;
 use graphql_ast::document::Document;

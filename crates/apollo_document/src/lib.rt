@@ -31,7 +31,7 @@ pub use apollo_executable::request_error::RequestError;
 pub use apollo_executable::selection::{
     Field, FragmentSpread, InlineFragment, Selection, SelectionSet,
 };
-pub use apollo_folding::builder_error::BuilderError;
+pub use apollo_schema::BuilderError;
 pub use apollo_schema::schema::Schema;
 pub use graphql_ast::document::Document;
 pub use graphql_nodes::source::{FileId, SourceFile, SourceMap, SourceSpan};

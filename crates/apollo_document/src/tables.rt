@@ -1,6 +1,6 @@
 //! What a builder of documents holds until it fails, and how it takes definitions: GraphQL specification of
 //! October 2021, sections 2.2 to 2.8.
-ghost use Rattle.std.specs.Prelude.{◌≡◌, ◌≢◌, [], ◌∷◌, ◌++◌, Bool, true, Option, None, Some};
+ghost use Rattle.std.specs.Prelude.{◌≡◌, ◌≢◌, [], ◌∷◌, Bool, true, Option, None, Some};
 ghost use Rattle.std.specs.Prelude.{IfOk, OnOk, OnErr, option_map};
 ghost use Rattle.std.specs.Option.{option_copied};
 ghost use Rattle.graphql_ast.specs.declared.definition.Definition.TheVariants as definitions;

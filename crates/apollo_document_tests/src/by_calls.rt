@@ -2,7 +2,9 @@
 
 use crate::building::{Seen, View, over};
 use crate::inputs::expect;
-use apollo_executable::{ExecutableDocument, NewFieldError, Operation, Selection, SelectionSet};
+use apollo_executable::{
+    ExecutableDocument, Field, NewFieldError, Operation, Selection, SelectionSet,
+};
 use apollo_schema::schema::Schema;
 use graphql_ast::directive::DirectiveList;
 use graphql_nodes::collections::items::Items;
@@ -16,13 +18,27 @@ use std::test::Fail;
 #[derive(Drop)]
 struct Alike;
 
-/// `{ user { } ...F }`
-fn of_user<'schema>(
+/// No selections, of the type `Query`.
+pub fn query_set(alloc: Global) -> Result<SelectionSet, AllocError> {
+    Ok(SelectionSet::new(alloc, Name::new_unchecked(alloc, "Query")?))
+}
+
+/// The field of this name, in this set.
+pub fn field_of<'schema>(
     alloc: Global,
     schema: &'schema Schema,
-) -> Result<SelectionSet, NewFieldError<'schema>> {
-    let mut set = SelectionSet::new(alloc, Name::new_unchecked(alloc, "Query")?);
-    let user = set.new_field(alloc, schema, Name::new_unchecked(alloc, "user")?)?;
+    set: &SelectionSet,
+    text: &str,
+) -> Result<Field, NewFieldError<'schema>> {
+    let name = Name::new_unchecked(alloc, text)?;
+    set.new_field(alloc, schema, name)
+}
+
+/// `{ user { } ...F }`
+fn of_user<'a>(seen: &Seen<'a>) -> Result<SelectionSet, NewFieldError<'a>> {
+    let alloc = seen.alloc;
+    let mut set = query_set(alloc)?;
+    let user = field_of(alloc, seen.schema, &set, "user")?;
     set.push(Selection::of_field(alloc, user)?)?;
     let spread = set.new_fragment_spread(alloc, Name::new_unchecked(alloc, "F")?);
     set.push(Selection::of_fragment_spread(alloc, spread)?)?;
@@ -48,7 +64,7 @@ pub fn document_of(
 
 impl View for Alike {
     fn view(&self, seen: &Seen<'_>, text: &mut String) -> Result<(), AllocError> {
-        match of_user(seen.alloc, seen.schema) {
+        match of_user(seen) {
             Ok(set) => {
                 let is_equal = document_of(seen.alloc, set)? == *seen.document;
                 write!(text, "equal: {is_equal}\n")

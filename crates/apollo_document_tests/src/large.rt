@@ -29,11 +29,8 @@ fn a_field_set_is_150_deep_below_each_of_150_aliases(rt: HostRuntime) -> Result<
     input.push_str(QUERY)?;
     input.push_str("fragment F Query\n")?;
     input.push_str(selections.as_str())?;
-    let account = Elaborated {
-        has_schema: true,
-        is_whole: false,
-    };
-    expect(&rt, &account, &[(input.as_str(), selections.as_str())])
+    let row = (input.as_str(), selections.as_str());
+    expect(&rt, &Elaborated::Written, &[row])
 }
 
 /// How many fields the walks over the anonymous operation give, and in how many turns.

@@ -3,11 +3,10 @@
 //! which are there since a build dropped what was selected below.
 
 use crate::building::{Seen, View, over, without};
-use crate::by_calls::document_of;
+use crate::by_calls::{document_of, field_of, query_set};
 use crate::inputs::{Account, Given, expect};
-use apollo_executable::{ExecutableDocument, NewFieldError, Selection, SelectionSet};
+use apollo_executable::{ExecutableDocument, NewFieldError, Selection};
 use apollo_schema::schema::Schema;
-use graphql_nodes::name::Name;
 use leafcheck::leaf_faults;
 use std::alloc::{AllocError, Global};
 use std::test::Fail;
@@ -41,13 +40,11 @@ impl View for Leaves {
 }
 
 /// `{ id { user } }`, by definitions of the schema.
-fn below_id<'schema>(
-    alloc: Global,
-    schema: &'schema Schema,
-) -> Result<ExecutableDocument, NewFieldError<'schema>> {
-    let mut set = SelectionSet::new(alloc, Name::new_unchecked(alloc, "Query")?);
-    let user = set.new_field(alloc, schema, Name::new_unchecked(alloc, "user")?)?;
-    let id = set.new_field(alloc, schema, Name::new_unchecked(alloc, "id")?)?;
+fn below_id<'a>(given: &Given<'a>) -> Result<ExecutableDocument, NewFieldError<'a>> {
+    let Given { alloc, schema, .. } = *given;
+    let mut set = query_set(alloc)?;
+    let user = field_of(alloc, schema, &set, "user")?;
+    let id = field_of(alloc, schema, &set, "id")?;
     let id = id.with_selection(Selection::of_field(alloc, user)?)?;
     set.push(Selection::of_field(alloc, id)?)?;
     Ok(document_of(alloc, set)?)
@@ -59,48 +56,11 @@ struct LeavesByCalls;
 
 impl Account for LeavesByCalls {
     fn tell(&self, given: &Given<'_>, text: &mut String) -> Result<(), AllocError> {
-        match below_id(given.alloc, given.schema) {
+        match below_id(given) {
             Ok(document) => tell_leaves(given.alloc, given.schema, &document, text),
             Err(_) => text.push_str("not made\n"),
         }
     }
-}
-
-const BY_CALLS: [(&str, &str); 1] = [(
-    "def object Query\nfield id ID\nfield user User\ndef object User\n===\n",
-    "`id`: a field of scalar or enum type must not have subselections\n`user`: a field of object, interface or union type must have subselections\n",
-)];
-
-#[test]
-fn below_a_field_at_fault_others_are(rt: HostRuntime) -> Result<(), Fail> {
-    expect(&rt, &LeavesByCalls, &BY_CALLS)
-}
-
-const UNKNOWN: [(&str, &str); 2] = [
-    (
-        "def object Query\nfield id ID\nfield user User\ndef object User\n===\noperation query -\nsel 0 field id\nsel 1 field user\n",
-        "elsewhere:\n",
-    ),
-    // The schema of the input may have the unknown type.
-    (
-        "def union UNKNOWN\n===\nfragment F Gone\nsel 0 field a\nsel 1 field b\n",
-        "`b`: a field of object, interface or union type must have subselections\nelsewhere:\n",
-    ),
-];
-
-#[test]
-fn without_a_schema_types_are_unknown(rt: HostRuntime) -> Result<(), Fail> {
-    expect(&rt, &without(Leaves), &UNKNOWN)
-}
-
-const GIVEN: [(&str, &str); 1] = [(
-    "def object Query\nfield user User\ndef object User\n===\noperation query -\nsel 0 field user\nsel 0 field __schema\n",
-    "`user`: a field of object, interface or union type must have subselections\n`__schema`: a field of object, interface or union type must have subselections\nelsewhere:\n`__schema`: a field of object, interface or union type must have subselections\n",
-)];
-
-#[test]
-fn types_are_those_of_the_schema_given(rt: HostRuntime) -> Result<(), Fail> {
-    expect(&rt, &over(Leaves), &GIVEN)
 }
 
 /// The leaf faults of a document with their places, and whether its build dropped something that was selected
@@ -121,6 +81,42 @@ impl View for Places {
     }
 }
 
+const BY_CALLS: [(&str, &str); 1] = [
+    // Below a field at fault others are too.
+    (
+        "\
+def object Query
+field id ID
+field user User
+def object User
+===
+",
+        "\
+`id`: a field of scalar or enum type must not have subselections
+`user`: a field of object, interface or union type must have subselections
+",
+    ),
+];
+
+const UNKNOWN: [(&str, &str); 2] = [
+    // Without a schema types are unknown.
+    (
+        "def object Query\nfield id ID\nfield user User\ndef object User\n===\noperation query -\nsel 0 field id\nsel 1 field user\n",
+        "elsewhere:\n",
+    ),
+    // The schema of the input may have the unknown type.
+    (
+        "def union UNKNOWN\n===\nfragment F Gone\nsel 0 field a\nsel 1 field b\n",
+        "`b`: a field of object, interface or union type must have subselections\nelsewhere:\n",
+    ),
+];
+
+/// Types are those of the schema that is given.
+const GIVEN: [(&str, &str); 1] = [(
+    "def object Query\nfield user User\ndef object User\n===\noperation query -\nsel 0 field user\nsel 0 field __schema\n",
+    "`user`: a field of object, interface or union type must have subselections\n`__schema`: a field of object, interface or union type must have subselections\nelsewhere:\n`__schema`: a field of object, interface or union type must have subselections\n",
+)];
+
 const PLACES: [(&str, &str); 2] = [
     (
         "def object Query\nfield user User\ndef object User\nfield id ID\nfield friend User\n===\noperation query Q\nsel 0 field user\nsel 0 field user me\nsel 1 field nope\nsel 0 inline\nsel 1 field user us\nsel 2 inline User\nsel 3 field friend\nsel 4 inline Gone\nfragment F User\nsel 0 field friend\nsel 1 field friend\nsel 2 field id\nsel 3 field x\n",
@@ -134,6 +130,9 @@ const PLACES: [(&str, &str); 2] = [
 ];
 
 #[test]
-fn each_tells_its_place_and_what_was_dropped_below(rt: HostRuntime) -> Result<(), Fail> {
+fn leaf_faults_are_told_with_their_places(rt: HostRuntime) -> Result<(), Fail> {
+    expect(&rt, &LeavesByCalls, &BY_CALLS)?;
+    expect(&rt, &without(Leaves), &UNKNOWN)?;
+    expect(&rt, &over(Leaves), &GIVEN)?;
     expect(&rt, &over(Places), &PLACES)
 }

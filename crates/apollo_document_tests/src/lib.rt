@@ -1,6 +1,6 @@
 //! Tests of elaboration, of the builder of documents and of leaf faults, of what no clause says. That is that
-//! calls succeed with memory, on worked documents, and the texts of faults and paths. Most compare a text
-//! that shows all that is looked at.
+//! calls succeed with enough memory, on worked documents, and the texts of faults and paths. Most compare a
+//! text that shows all that is looked at.
 //!
 //! What stands here serves tests: calls have no clause.
 #![tactic(auto)]

@@ -28,6 +28,7 @@ impl View for Requests {
 }
 
 const REQUESTED: [(&str, &str); 2] = [
+    // Two kept operations are ambiguous.
     (
         "def object Query\nfield a Int\n===\noperation query -\nsel 0 field a\noperation query Q\nsel 0 field a\n",
         "Ambiguous request: multiple operations but no specified `operationName`\nNo operation named 'X'\n",
@@ -38,11 +39,6 @@ const REQUESTED: [(&str, &str); 2] = [
         "X 1:4 \nX 1:4 \n",
     ),
 ];
-
-#[test]
-fn two_kept_operations_are_ambiguous(rt: HostRuntime) -> Result<(), Fail> {
-    expect(&rt, &over(Requests), &REQUESTED)
-}
 
 /// Of each operation what walks over it give, each up to its end, and whether it asks for the schema alone.
 #[derive(Drop)]
@@ -68,9 +64,10 @@ impl View for Walked {
     }
 }
 
-/// Operations that ask for the schema alone.
-const META: [(&str, &str); 1] = [(
-    "\
+const META: [(&str, &str); 1] = [
+    // Queries of meta-fields alone are introspection.
+    (
+        "\
 ===
 operation query A
 operation query B
@@ -88,22 +85,19 @@ sel 0 field __typename
 fragment More Query
 sel 0 field name
 ",
-    "\
+        "\
 root all over true introspection true
 root __typename 1:14 all __typename 1:14 over true introspection true
 root __schema 1:7 all __schema 1:7 types 1:8 over true introspection true
 root ty 1:10 __typename 1:12 all ty 1:10 __typename 1:12 over true introspection true
 ",
-)];
+    ),
+];
 
-#[test]
-fn queries_of_meta_fields_alone_are_introspection(rt: HostRuntime) -> Result<(), Fail> {
-    expect(&rt, &without(Walked), &META)
-}
-
-/// Operations that ask for something else, or aren't queries.
-const OTHERS: [(&str, &str); 1] = [(
-    "\
+const OTHERS: [(&str, &str); 1] = [
+    // Other operations are no introspection. They ask for something else, or aren't queries.
+    (
+        "\
 ===
 operation mutation A
 sel 0 field __typename
@@ -119,23 +113,29 @@ sel 0 field __types
 fragment More Query
 sel 0 field name
 ",
-    "\
+        "\
 root __typename 1:3 all __typename 1:3 over true introspection false
 root __typename 1:5 all __typename 1:5 over true introspection false
 root __schema 1:7 name 1:14 all __schema 1:7 name 1:14 over true introspection false
 root __typename 1:10 all __typename 1:10 over true introspection false
 root __types 1:12 all __types 1:12 over true introspection false
 ",
+    ),
+];
+
+const WALKED: [(&str, &str); 1] = [(
+    "===\noperation mutation -\nsel 0 field a\nsel 1 field b\n",
+    "root a 1:3 all a 1:3 b 1:4 over true introspection false\n",
 )];
 
 #[test]
-fn other_operations_are_no_introspection(rt: HostRuntime) -> Result<(), Fail> {
-    expect(&rt, &without(Walked), &OTHERS)
+fn requests_find_operations(rt: HostRuntime) -> Result<(), Fail> {
+    expect(&rt, &over(Requests), &REQUESTED)
 }
 
 #[test]
 fn operations_are_walked_over(rt: HostRuntime) -> Result<(), Fail> {
-    let input = "===\noperation mutation -\nsel 0 field a\nsel 1 field b\n";
-    let expected = "root a 1:3 all a 1:3 b 1:4 over true introspection false\n";
-    expect(&rt, &without(Walked), &[(input, expected)])
+    expect(&rt, &without(Walked), &META)?;
+    expect(&rt, &without(Walked), &OTHERS)?;
+    expect(&rt, &without(Walked), &WALKED)
 }

@@ -77,14 +77,12 @@ fn document(alloc: Global) -> Result<ExecutableDocument, AllocError> {
     }
 }
 
-/// What walks over a set give, and over the own sets of the fragments of a document.
-fn told(
-    alloc: Global,
-    document: &ExecutableDocument,
-    start: &SelectionSet,
-) -> Result<String, AllocError> {
+/// What walks give over a set with spreads of the name and the key, and over the own sets of the fragments of
+/// a document.
+fn told(alloc: Global, document: &ExecutableDocument) -> Result<String, AllocError> {
     let mut text = String::new(alloc);
-    push_walks(alloc, &mut text, document, start)?;
+    let start = spreading(alloc, empty(alloc)?, ["Own", "F"])?;
+    push_walks(alloc, &mut text, document, &start)?;
     for fragment in document.fragments.values() {
         let name = &fragment.name;
         write!(text, "{name}\n")?;
@@ -96,8 +94,7 @@ fn told(
 #[test]
 fn a_fragment_is_opened_under_its_key(rt: HostRuntime) -> Result<(), Fail> {
     let document = document(rt.alloc())?;
-    let start = spreading(rt.alloc(), empty(rt.alloc())?, ["Own", "F"])?;
-    let text = told(rt.alloc(), &document, &start)?;
+    let text = told(rt.alloc(), &document)?;
     let expected =
         "root a - = a - true in 7\nall a - = a - true in 7\nOwn\nroot a - a - = a - a - true in 8\nall a - a - = a - a - true in 8\n";
     assert_eq!(rt; text.as_str(), expected);

@@ -1,6 +1,6 @@
 //! Tests of typed documents that are made by calls, of their operations and fields, and of walks over them,
-//! of what no clause says. That is that calls succeed with memory, the texts of errors, and documents that no
-//! row can say.
+//! of what no clause says. That is that calls succeed with enough memory, the texts of errors, and documents
+//! that no row can say.
 //!
 //! What stands here serves tests: calls have no clause.
 #![tactic(auto)]

@@ -2,7 +2,6 @@ pub mod Completion
 pub mod ErrorEquality
 pub mod Faults
 pub mod Items
-pub mod Lists
 pub mod Order
 pub mod Schema
 pub mod Types

@@ -1,9 +1,9 @@
 //! Reports of the faults of documents.
 
-use crate::rows::{At, Row, Sort, first_wrong};
+use crate::rows::{At, Row};
 
 /// Each fault of documents once, and one of what has no name. One is of several lines.
-static ROWS: [Row; 11] = [
+pub(crate) static ROWS: [Row; 11] = [
     Row {
         text: "query Page {\n  book {\n    title\n    pages\n  }\n}",
         kind: "UndefinedField",
@@ -93,8 +93,3 @@ static ROWS: [Row; 11] = [
         json: "'end_line':2,'end_column':5,'path':['query','book','sort'],'type_name':'Sort'",
     },
 ];
-
-#[test]
-fn faults_of_documents_are_reported(rt: HostRuntime) {
-    assert!(rt; first_wrong(rt.alloc(), Sort::Documents, &ROWS) == None);
-}

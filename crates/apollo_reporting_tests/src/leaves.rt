@@ -1,14 +1,14 @@
 //! Reports of leaf faults.
 
 use crate::made::{Form, reported, sources_of};
-use crate::rows::{At, Row, Sort, first_wrong};
+use crate::rows::{At, Row};
 use apollo_compiler::{FileId, Name, SourceSpan};
 use graphql_nodes::collections::items::Items;
 use leafcheck::{ExecutableDefinitionName, LeafFault, LeafKind, SelectionPath};
 use std::alloc::{AllocError, Global};
 
 /// A field without subselections that wants some, below another.
-static MISSING: [Row; 1] = [Row {
+pub(crate) static MISSING: [Row; 1] = [Row {
     text: "query Page {\n  again: book {\n    title\n  }\n  book\n}",
     kind: "MissingSubselection",
     message: "`book`: a field of object, interface or union type must have subselections",
@@ -16,11 +16,6 @@ static MISSING: [Row; 1] = [Row {
     under: "   = path: query Page → book\n",
     json: "'end_line':5,'end_column':7,'path':['query Page','book'],'response_key':'book','parent_type':'Query'",
 }];
-
-#[test]
-fn missing_subselections_are_reported(rt: HostRuntime) {
-    assert!(rt; first_wrong(rt.alloc(), Sort::Leaves, &MISSING) == None);
-}
 
 /// A field of a fragment with subselections that it must not have.
 pub(crate) fn on_leaf(alloc: Global) -> Result<LeafFault, AllocError> {
@@ -54,7 +49,8 @@ pub(crate) fn reported_on_leaf(
     reported(alloc, form, &sources, fault.location, &fault)
 }
 
-static ON_LEAF: [Row; 1] = [Row {
+/// That field.
+pub(crate) static ON_LEAF: [Row; 1] = [Row {
     text: "fragment Cover on Book { name: title } # é",
     kind: "SubselectionOnLeaf",
     message: "`name`: a field of scalar or enum type must not have subselections",
@@ -67,8 +63,3 @@ static ON_LEAF: [Row; 1] = [Row {
     under: "   = path: fragment Cover → name\n",
     json: "'end_line':1,'end_column':38,'path':['fragment Cover','name'],'response_key':'name','parent_type':'Book'",
 }];
-
-#[test]
-fn subselections_on_leaves_are_reported(rt: HostRuntime) {
-    assert!(rt; first_wrong(rt.alloc(), Sort::HandMade, &ON_LEAF) == None);
-}

@@ -20,6 +20,8 @@ mod own_fault;
 #[cfg(test)]
 mod places;
 #[cfg(test)]
+mod reports;
+#[cfg(test)]
 mod rows;
 #[cfg(test)]
 mod schemas;

@@ -7,7 +7,7 @@ use crate::made::{
 use std::alloc::{AllocError, Global};
 
 /// What the texts of rows are.
-#[derive(Clone, Copy)]
+#[derive(Debug, Clone, Copy)]
 pub(crate) enum Sort {
     /// Texts that are refused.
     Texts,

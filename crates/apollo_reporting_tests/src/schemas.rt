@@ -1,9 +1,9 @@
 //! Reports of the faults of schemas.
 
-use crate::rows::{At, Row, Sort, first_wrong};
+use crate::rows::{At, Row};
 
 /// Each fault of schemas once, and one in a tenth line. A tab stands before one.
-static ROWS: [Row; 17] = [
+pub(crate) static ROWS: [Row; 17] = [
     Row {
         text: "schema { query: A }\nschema { query: B }",
         kind: "SchemaDefinitionCollision",
@@ -161,8 +161,3 @@ static ROWS: [Row; 17] = [
         json: "'end_line':10,'end_column':7,'path':null,'previous_location':{'file':'store.graphql','line':1,'column':6,'end_line':1,'end_column':7},'name':'A'",
     },
 ];
-
-#[test]
-fn faults_of_schemas_are_reported(rt: HostRuntime) {
-    assert!(rt; first_wrong(rt.alloc(), Sort::Schemas, &ROWS) == None);
-}

@@ -1,11 +1,11 @@
 //! Reports of texts that are refused.
 
-use crate::rows::{At, Row, Sort, first_wrong};
+use crate::rows::{At, Row};
 
 /// Each refusal of a text once. Some have characters of several bytes at the mark and before it. Some stand
 /// behind a tab, behind line ends of both kinds, or in an empty text. Some stand at the end of a text, with
 /// and without a last line end.
-static ROWS: [Row; 15] = [
+pub(crate) static ROWS: [Row; 15] = [
     Row {
         text: "query {\r\n  é}",
         kind: "UnexpectedCharacter",
@@ -137,8 +137,3 @@ static ROWS: [Row; 15] = [
         json: "'end_line':1,'end_column':25,'path':null",
     },
 ];
-
-#[test]
-fn refusals_are_reported(rt: HostRuntime) {
-    assert!(rt; first_wrong(rt.alloc(), Sort::Texts, &ROWS) == None);
-}

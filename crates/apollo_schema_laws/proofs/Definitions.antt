@@ -13,7 +13,7 @@ use laws.Words.{with_adopted, implicit_roots, implied_schema, schema_for, ListIt
 use laws.Words.{added_items, defined_schema, first_schema, schema_extensions, folding_order, no_schema}
 use laws.Words.{schema_of, whole, Schema, IsMeantByList, with_built_ins, extended_schema, all-kept}
 use laws.Sections.{has_none}
-use laws.Lists.{distinct-from_first, both-empty, map-empty, found-holds}
+use laws.Words.{distinct-from_first, both-empty, map-empty, found-holds}
 use laws.Types.{rising-distinct, schema_numbers, schema_numbers-rise}
 use laws.Items.{adopted-unchosen, no-schema_definitions, adopted-split, items, rooted, chosen-implied}
 use Rattle.std.specs.Cmp.Lexicographic.{pointwise}

@@ -31,8 +31,9 @@ use Rattle.apollo_schema_laws.proofs.Words.Meaning.{NoSubject, same_subject, Sch
 use Rattle.apollo_schema_laws.proofs.Words.Meaning.{subject_laws, TheSchema, TypeNamed}
 use Rattle.apollo_schema_laws.proofs.Words.Faults.{dropped_from, held_sort}
 use Rattle.std.proofs.lemmas.Map.Views.{lookup-from_Contains}
-use Rattle.apollo_schema_laws.proofs.Lists.{distinct-from_first, each-flat_map, each-found, each-map, each-of}
-use Rattle.apollo_schema_laws.proofs.Lists.{each-split, flat_map-none, found-holds, map-same}
+use Rattle.apollo_component.proofs.Lists.Kept.{distinct-from_first, each-flat_map, each-map, each-of}
+use Rattle.apollo_component.proofs.Lists.Groups.{each-found}
+use Rattle.apollo_component.proofs.Lists.Kept.{each-split, flat_map-none, found-holds, map-same}
 use Rattle.apollo_meaning.proofs.Types.NameLemmas.{type_names-first}
 use Rattle.apollo_schema_laws.proofs.Words.Written.{IsMeantByList, name_of, with_built_ins}
 use Rattle.graphql_ast.specs.Definitions.{definition_location}

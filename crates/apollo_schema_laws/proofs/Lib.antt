@@ -1,7 +1,5 @@
 mod Definitions
 mod Items
-pub mod Lists
-pub mod Permutations
 pub mod Rearranged
 mod Rebuild
 mod Sections

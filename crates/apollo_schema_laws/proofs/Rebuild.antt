@@ -10,7 +10,7 @@ use laws.Words.{extension_id, same_id, Extension, adopted, Added, OfSchema, OfTy
 use laws.Words.{extension_places, folded_when, is_folded, met_when, once_if_defined, schemas, times_met}
 use laws.Words.{types, folds, of_type, not-true, type_extension, write_type, added}
 use laws.Words.{write_held_schema_definition}
-use laws.Lists.{grouped-few, same-once, each-map}
+use laws.Words.{grouped-few, same-once, each-map}
 use laws.Sections.{each-among, is_among, ids_in, same_id-equiv}
 use laws.Types.{each-of_schema, each-of_type}
 use laws.Items.{chosen-completed}

@@ -10,10 +10,10 @@ use laws.Words.{with_origins, joined, sections_of, false, subst, true≢false, o
 use laws.Words.{IsPermutation-map, IsPermutation, each-filter, flat_map-each, flat_map-append, map-flat_map}
 use laws.Words.{list_any-map, NodeView, Directive, origins_in, identities, list_any-first_of_each}
 use laws.Words.{first_of_each-distinct, HasSameComponents}
-use laws.Lists.{in_order, is_nothing, in_order-map, first-in_order, filter_map-none, filter_map-some}
-use laws.Lists.{map-each, each-made, own-group, marked, shown, first-shown_again, each-flat_map_back}
-use laws.Lists.{each-from_map, keys-distinct, groups, passes, new_to_these, first_of_each-append, first-shown}
-use laws.Lists.{flat_map-nothing}
+use laws.Words.{in_order, is_nothing, in_order-map, first-in_order, filter_map-none, filter_map-some}
+use laws.Words.{map-each, each-made, own-group, marked, shown, first-shown_again, each-flat_map_back}
+use laws.Words.{each-from_map, keys-distinct, groups, passes, new_to_these, first_of_each-append, first-shown}
+use laws.Words.{flat_map-nothing}
 use Rattle.graphql_ast.specs.Parts.{Sort, Directives, Names, Fields, Values, InputFields, Roots, listed}
 use Rattle.graphql_ast.specs.Parts.{of_sort, part_of, sorts, with_lists}
 

@@ -15,8 +15,8 @@ use laws.Words.{first_of_each-distinct, Folding, first, parts, type_from, type_o
 use laws.Words.{names_in, placed, with_origins, joined, HaveDistinctNames, ◌+◌, ◌≤◌, nat_tests, filter_map}
 use laws.Words.{enumerate_from, Extension, extension_id, same_id, of_extensions, OfType, OfSchema, key_of}
 use laws.Words.{of_schema, option_cases, bool_cases}
-use laws.Lists.{found-permuted, first_of_each-append, all-first, option_map-twice, distinct-by_keys}
-use laws.Lists.{keys-distinct, each-from_map, flat_map-nothing, map-each}
+use laws.Words.{found-permuted, first_of_each-append, all-first, option_map-twice, distinct-by_keys}
+use laws.Words.{keys-distinct, each-from_map, flat_map-nothing, map-each}
 use laws.Sections.{directives-in_order, picked, picked-append, picked-of, written-keeps, written-parts-again}
 use laws.Items.{HaveEachNameOnce}
 use Rattle.apollo_meaning.proofs.Order.FoldingLemmas.{type_description-from, type_from-ignorable}

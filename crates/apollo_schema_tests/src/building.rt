@@ -1,18 +1,16 @@
 //! What documents build, as text.
 
 use apollo_component::extension::ExtensionSource;
-use apollo_folding::builder_error::BuilderError;
+use apollo_schema::BuilderError;
 use apollo_schema::build_failure::{BuildFailure, WithErrors};
 use apollo_schema::schema::Schema;
 use apollo_schema::schema_builder::SchemaBuilder;
 use apollo_types_tests::schemas::made_again;
-use bench_notation::documents::read;
 use bench_notation::printing::print;
 use graphql_ast::document::Document;
 use graphql_nodes::operation_type::OperationType;
 use likeness::{is_copied, is_made};
 use std::alloc::{AllocError, Global};
-use std::process::Abort;
 use std::slice;
 use telling::Tell;
 use telling::schemas::push_own;
@@ -226,11 +224,4 @@ pub fn told(
         text.push_str("a copy of the builder builds otherwise\n")?;
     }
     Ok(text)
-}
-
-/// Expects this to be said of the documents that a text says.
-pub fn expect(rt: &(impl Abort + AllocGlobal), settings: &Settings, input: &str, account: &str) {
-    let documents = read(rt.alloc(), input).expect(rt, "documents");
-    let text = told(rt.alloc(), settings, documents.as_slice()).expect(rt, "memory");
-    assert_eq!(rt; text.as_str(), account, "of {input:?}");
 }

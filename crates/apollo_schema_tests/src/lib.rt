@@ -1,5 +1,5 @@
-//! Tests of schemas and their builder, of what the proofs don't show: that calls succeed with memory, and the
-//! texts of faults. Most compare a text that shows all that is looked at.
+//! Tests of schemas and their builder, of what the proofs don't show: that calls succeed with enough memory,
+//! and the texts of faults. Most compare a text that shows all that is looked at.
 //!
 //! What stands here serves tests: calls have no clause.
 #![tactic(auto)]
@@ -22,3 +22,5 @@ mod hash_keys;
 mod rearranging;
 #[cfg(test)]
 mod roots;
+#[cfg(test)]
+mod rows;

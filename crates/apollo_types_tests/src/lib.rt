@@ -1,5 +1,5 @@
 //! Tests of components and types, and of lookups in schemas, of what the proofs don't show: that calls
-//! succeed with memory, and texts. Also what tests of schemas and coordinates make, too.
+//! succeed with enough memory, and texts. Also what tests of schemas and coordinates make.
 //!
 //! What stands here serves tests: calls have no clause.
 #![tactic(auto)]

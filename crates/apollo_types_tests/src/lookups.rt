@@ -113,84 +113,75 @@ fn push_lookup(
 }
 
 /// Expects this to be said of the fields of these types and names.
-fn expect_fields(
-    rt: &(impl Abort + AllocGlobal),
-    input: &str,
-    names: &[(&str, &str)],
-    expected: &str,
-) {
-    let schema = schema_of(rt.alloc(), input).expect(rt, "a schema");
+fn expect_fields(rt: &(impl Abort + AllocGlobal), asked: &Asked) {
+    let schema = schema_of(rt.alloc(), asked.input).expect(rt, "a schema");
     let mut text = String::new(rt.alloc());
-    for (ty, field) in names {
+    for (ty, fields) in asked.names {
         let ty = Name::new_unchecked(rt.alloc(), *ty).expect(rt, "memory");
-        let field = Name::new_unchecked(rt.alloc(), *field).expect(rt, "memory");
-        push_lookup(&mut text, &schema, &ty, &field).expect(rt, "memory");
+        for field in *fields {
+            let field = Name::new_unchecked(rt.alloc(), *field).expect(rt, "memory");
+            push_lookup(&mut text, &schema, &ty, &field).expect(rt, "memory");
+        }
     }
-    assert_eq!(rt; text.as_str(), expected, "of {input:?}");
+    assert_eq!(rt; text.as_str(), asked.told, "of {}", asked.input);
 }
 
 /// Users, and types of all other kinds.
 pub const USERS: &str =
     "def object Query\nfield me User\ndef object User\nfield name String\ndef interface Node\nfield id ID\ndef union Pet\nmember User\ndef scalar Date\ndef enum Size\nvalue BIG\ndef input Filter\nfield size Size\n";
 
-#[test]
-fn fields_are_those_of_types_and_meta_fields(rt: HostRuntime) {
-    let names = [
-        ("Query", "me"),
-        ("Query", "__schema"),
-        ("Query", "__type"),
-        ("User", "__typename"),
-        ("User", "__schema"),
-        ("User", "me"),
-        ("Node", "id"),
-        ("Node", "__typename"),
-        ("Pet", "__typename"),
-        ("Pet", "name"),
-        ("Date", "__typename"),
-        ("Filter", "size"),
-        ("Gone", "__typename"),
-    ];
-    expect_fields(
-        &rt,
-        USERS,
-        &names,
-        "Query me: definition 1:2 me 1:2 User 1:2 \nQuery __schema: definition - __schema - __Schema - ! \nQuery __type: definition - __type - ( - name - - String - ! ) __Type - \nUser __typename: definition - __typename - String - ! \nUser __schema: no such field under User, which is User\nUser me: no such field under User, which is User\nNode id: definition 1:6 id 1:6 ID 1:6 \nNode __typename: definition - __typename - String - ! \nPet __typename: definition - __typename - String - ! \nPet name: no such field under Pet, which is Pet\nDate __typename: no such field under Date, which is Date\nFilter size: no such field under Filter, which is Filter\nGone __typename: no such type\n",
-    );
-}
-
 /// A query for an identity and a user, and the users' identities.
 const IDENTITIES: &str =
     "def object Query\nfield id ID\nfield user User\ndef object User\nfield id ID\n";
 
-#[test]
-fn the_schema_field_is_that_of_the_root_of_queries_alone(rt: HostRuntime) {
-    let names = [
-        ("Query", "__schema"),
-        ("User", "__typename"),
-        ("User", "__schema"),
-        ("ID", "__typename"),
-        ("Gone", "id"),
-    ];
-    expect_fields(
-        &rt,
-        IDENTITIES,
-        &names,
-        "Query __schema: definition - __schema - __Schema - ! \nUser __typename: definition - __typename - String - ! \nUser __schema: no such field under User, which is User\nID __typename: no such field under ID, which is ID\nGone id: no such type\n",
-    );
+/// Fields that are looked up in a schema, by their types' names, and what is said of them.
+struct Asked {
+    input: &'static str,
+    names: &'static [(&'static str, &'static [&'static str])],
+    told: &'static str,
 }
 
+/// What is looked up in schemas.
+const ASKED: &[Asked] = &[
+    // Fields are those of types, and meta-fields.
+    Asked {
+        input: USERS,
+        names: &[
+            ("Query", &["me", "__schema", "__type"]),
+            ("User", &["__typename", "__schema", "me"]),
+            ("Node", &["id", "__typename"]),
+            ("Pet", &["__typename", "name"]),
+            ("Date", &["__typename"]),
+            ("Filter", &["size"]),
+            ("Gone", &["__typename"]),
+        ],
+        told: "Query me: definition 1:2 me 1:2 User 1:2 \nQuery __schema: definition - __schema - __Schema - ! \nQuery __type: definition - __type - ( - name - - String - ! ) __Type - \nUser __typename: definition - __typename - String - ! \nUser __schema: no such field under User, which is User\nUser me: no such field under User, which is User\nNode id: definition 1:6 id 1:6 ID 1:6 \nNode __typename: definition - __typename - String - ! \nPet __typename: definition - __typename - String - ! \nPet name: no such field under Pet, which is Pet\nDate __typename: no such field under Date, which is Date\nFilter size: no such field under Filter, which is Filter\nGone __typename: no such type\n",
+    },
+    // The schema field is that of the root of queries alone.
+    Asked {
+        input: IDENTITIES,
+        names: &[
+            ("Query", &["__schema"]),
+            ("User", &["__typename", "__schema"]),
+            ("ID", &["__typename"]),
+            ("Gone", &["id"]),
+        ],
+        told: "Query __schema: definition - __schema - __Schema - ! \nUser __typename: definition - __typename - String - ! \nUser __schema: no such field under User, which is User\nID __typename: no such field under ID, which is ID\nGone id: no such type\n",
+    },
+    // A declared field comes first, and any root of queries has meta-fields.
+    Asked {
+        input: "schema\nroot query Root\ndef scalar Root\ndef object Odd\nfield __typename Int\n",
+        names: &[
+            ("Odd", &["__typename", "__schema"]),
+            ("Root", &["__schema", "__typename"]),
+        ],
+        told: "Odd __typename: definition 1:5 __typename 1:5 Int 1:5 \nOdd __schema: no such field under Odd, which is Odd\nRoot __schema: definition - __schema - __Schema - ! \nRoot __typename: no such field under Root, which is Root\n",
+    },
+];
+
 #[test]
-fn a_declared_field_comes_first_and_any_root_of_queries_has_meta_fields(rt: HostRuntime) {
-    let names = [
-        ("Odd", "__typename"),
-        ("Odd", "__schema"),
-        ("Root", "__schema"),
-        ("Root", "__typename"),
-    ];
-    expect_fields(
-        &rt,
-        "schema\nroot query Root\ndef scalar Root\ndef object Odd\nfield __typename Int\n",
-        &names,
-        "Odd __typename: definition 1:5 __typename 1:5 Int 1:5 \nOdd __schema: no such field under Odd, which is Odd\nRoot __schema: definition - __schema - __Schema - ! \nRoot __typename: no such field under Root, which is Root\n",
-    );
+fn fields_are_those_of_types_and_meta_fields(rt: HostRuntime) {
+    for asked in ASKED {
+        expect_fields(&rt, asked);
+    }
 }

@@ -66,33 +66,34 @@ fn expect_origins(rt: &(impl Abort + AllocGlobal), input: &str, expected: &str) 
     assert!(rt; is_made(made_of(rt.alloc(), &schema), &schema));
 }
 
-#[test]
-fn roots_come_in_the_order_of_operation_types(rt: HostRuntime) {
-    let input =
-        "ext-schema\nroot subscription S\nschema\n@ d\nroot mutation M\next-schema\n@ e\nroot query Q\n";
-    let expected =
-        "query is Q\nmutation is M\nsubscription is S\nschema: definition extension 1 of 1:6 extension 1 of 1:6 definition extension 0 of 1:1 \nextensions: extension 1 of 1:6 extension 0 of 1:1 \n";
-    expect_origins(&rt, input, expected);
-}
-
-#[test]
-fn origins_go_by_directives_then_names_then_fields(rt: HostRuntime) {
-    let input =
-        "ext object Query\nfield withArg String\nfield@ deprecated\narg arg Boolean\ndef object Query\nfield int Int\next object Query\nimplements Inter\ndef interface Inter\nfield string String\next object Query\n@ customDirective\next object Query\nfield string String\ndirective customDirective\non OBJECT";
-    let expected =
-        "query is Query\nschema: definition \nextensions: \nQuery: extension 2 of 1:11 extension 1 of 1:7 definition extension 0 of 1:1 extension 3 of 1:13 \nextensions: extension 2 of 1:11 extension 1 of 1:7 extension 0 of 1:1 extension 3 of 1:13 \nInter: definition \nextensions: \n";
-    expect_origins(&rt, input, expected);
-}
-
 /// A type of each kind, with what it may hold in its definition and in an extension.
 const KINDS: &str =
     "def scalar S\n@ d\ndef object O\nimplements I\nfield f Int\ndef interface I\nfield f Int\ndef union U\nmember O\ndef enum E\nvalue A\ndef input N\nfield f Int\next scalar S\n@ d\next object O\nfield g Int\next interface I\nimplements J\next union U\nmember S\next enum E\nvalue B\next input N\nfield g Int";
 
+/// Schemas, and what is said of the origins in each.
+const ORIGINS: &[(&str, &str)] = &[
+    // Roots come in the order of operation types.
+    (
+        "ext-schema\nroot subscription S\nschema\n@ d\nroot mutation M\next-schema\n@ e\nroot query Q\n",
+        "query is Q\nmutation is M\nsubscription is S\nschema: definition extension 1 of 1:6 extension 1 of 1:6 definition extension 0 of 1:1 \nextensions: extension 1 of 1:6 extension 0 of 1:1 \n",
+    ),
+    // Origins go by directives, then names, then fields.
+    (
+        "ext object Query\nfield withArg String\nfield@ deprecated\narg arg Boolean\ndef object Query\nfield int Int\next object Query\nimplements Inter\ndef interface Inter\nfield string String\next object Query\n@ customDirective\next object Query\nfield string String\ndirective customDirective\non OBJECT",
+        "query is Query\nschema: definition \nextensions: \nQuery: extension 2 of 1:11 extension 1 of 1:7 definition extension 0 of 1:1 extension 3 of 1:13 \nextensions: extension 2 of 1:11 extension 1 of 1:7 extension 0 of 1:1 extension 3 of 1:13 \nInter: definition \nextensions: \n",
+    ),
+    // Types of each kind have origins.
+    (
+        KINDS,
+        "schema: \nextensions: \nS: definition extension 0 of 1:14 \nextensions: extension 0 of 1:14 \nO: definition definition extension 1 of 1:16 \nextensions: extension 1 of 1:16 \nI: extension 2 of 1:18 definition \nextensions: extension 2 of 1:18 \nU: definition extension 3 of 1:20 \nextensions: extension 3 of 1:20 \nE: definition extension 4 of 1:22 \nextensions: extension 4 of 1:22 \nN: definition extension 5 of 1:24 \nextensions: extension 5 of 1:24 \n",
+    ),
+];
+
 #[test]
-fn types_of_each_kind_have_origins(rt: HostRuntime) {
-    let expected =
-        "schema: \nextensions: \nS: definition extension 0 of 1:14 \nextensions: extension 0 of 1:14 \nO: definition definition extension 1 of 1:16 \nextensions: extension 1 of 1:16 \nI: extension 2 of 1:18 definition \nextensions: extension 2 of 1:18 \nU: definition extension 3 of 1:20 \nextensions: extension 3 of 1:20 \nE: definition extension 4 of 1:22 \nextensions: extension 4 of 1:22 \nN: definition extension 5 of 1:24 \nextensions: extension 5 of 1:24 \n";
-    expect_origins(&rt, KINDS, expected);
+fn origins_go_by_roots_directives_names_and_fields(rt: HostRuntime) {
+    for (input, expected) in ORIGINS {
+        expect_origins(&rt, input, expected);
+    }
 }
 
 /// Adds the words of what holds.

@@ -65,15 +65,15 @@ pub struct Bench {
 impl Bench {
     /// What the work of the command begins with, of an input.
     pub fn read(&self, input: &str) -> Result<Ready, Failure> {
-        match self.command.work {
-            Work::Schema => Ok(Ready::Schema(self.read_whole(input)?)),
-            Work::Lookups => Ok(Ready::Lookups(self.read_questions(input)?)),
-            Work::Documents => Ok(Ready::Documents(self.read_over_schema(input)?)),
-            Work::Walks => Ok(Ready::Walks(self.read_typed(input)?)),
-            Work::LeafFaults => Ok(Ready::LeafFaults(self.read_typed(input)?)),
-            Work::Compilation => Ok(Ready::Compilation(self.read_divided(input)?)),
-            Work::Text => Ok(Ready::Text(self.file_of(input)?)),
-        }
+        Ok(match self.command.work {
+            Work::Schema => Ready::Schema(self.read_whole(input)?),
+            Work::Lookups => Ready::Lookups(self.read_questions(input)?),
+            Work::Documents => Ready::Documents(self.read_over_schema(input)?),
+            Work::Walks => Ready::Walks(self.read_typed(input)?),
+            Work::LeafFaults => Ready::LeafFaults(self.read_typed(input)?),
+            Work::Compilation => Ready::Compilation(self.read_divided(input)?),
+            Work::Text => Ready::Text(self.file_of(input)?),
+        })
     }
 
     fn read_whole(&self, input: &str) -> Result<Vec<Document>, Failure> {

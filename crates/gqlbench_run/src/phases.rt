@@ -48,7 +48,9 @@ impl<C: Clock> Stopwatch<'_, C> {
         match ready {
             Ready::Schema(documents) => self.time_schema(documents.as_slice()),
             Ready::Lookups((schema, questions)) => self.time_lookups(schema, questions),
-            Ready::Documents((documents, schema)) => self.time_documents(schema, documents),
+            Ready::Documents((documents, schema)) => {
+                self.time_documents(schema, documents.executable.as_slice())
+            }
             Ready::Walks((_, document)) => self.time_walks(document),
             Ready::LeafFaults((schema, document)) => self.time_leaf_faults(schema, document),
             Ready::Compilation(documents) => self.time_compile(documents),
@@ -117,7 +119,7 @@ impl<C: Clock> Stopwatch<'_, C> {
         Ok(counts.to_vec(self.bench.alloc)?)
     }
 
-    fn time_documents(&mut self, schema: &Schema, documents: &DividedDocuments) -> Counted {
+    fn time_documents(&mut self, schema: &Schema, documents: &[Document]) -> Counted {
         let typed = self.doc_build(schema, documents)?;
         let written = self.doc_to_ast(&typed.0)?;
         let [operations, fragments] = sizes(&typed.0);
@@ -126,15 +128,9 @@ impl<C: Clock> Stopwatch<'_, C> {
         Ok([operations, fragments, faults].to_vec(self.bench.alloc)?)
     }
 
-    fn doc_build(
-        &mut self,
-        schema: &Schema,
-        documents: &DividedDocuments,
-    ) -> Result<Typed, Failure> {
+    fn doc_build(&mut self, schema: &Schema, documents: &[Document]) -> Result<Typed, Failure> {
         let began = self.now()?;
-        let typed = self
-            .bench
-            .type_over(schema, documents.executable.as_slice())?;
+        let typed = self.bench.type_over(schema, documents)?;
         self.took("doc-build", began, typed)
     }
 
@@ -210,7 +206,7 @@ impl<C: Clock> Stopwatch<'_, C> {
         let built = self.schema_build(documents.schema.as_slice())?;
         let written = self.to_ast(&built.0)?;
         let _again = self.rebuild(&written)?;
-        let typed = self.doc_build(&built.0, documents)?;
+        let typed = self.doc_build(&built.0, documents.executable.as_slice())?;
         let _erased = self.doc_to_ast(&typed.0)?;
         self.took("all-phases", began, ())
     }

@@ -5,7 +5,7 @@ use apollo_document::ExecutableDocumentBuilder;
 use apollo_document::build_error::Faults;
 use apollo_document::field_set::FieldSet;
 use apollo_executable::ExecutableDocument;
-use apollo_folding::builder_error::BuilderError;
+use apollo_schema::BuilderError;
 use apollo_schema::schema::Schema;
 use bench_notation::documents::read_divided;
 use gqlrefusals_schemas::builders::schema_of;

@@ -2,7 +2,7 @@
 
 use crate::inputs::Input;
 use apollo_component::extension::ExtensionSource;
-use apollo_folding::builder_error::BuilderError;
+use apollo_schema::BuilderError;
 use apollo_schema::build_failure::{BuildFailure, WithErrors};
 use apollo_schema::schema::Schema;
 use apollo_schema::schema_builder::SchemaBuilder;

@@ -5,7 +5,7 @@ use crate::row::read_rows;
 use crate::stop::Stop;
 use program_io::status::Status;
 use program_io::writing::write_out;
-use std::alloc::Global;
+use std::alloc::{AllocError, Global};
 use std::fs;
 use std::io::{self, ErrorKind, Read, Write};
 use std::rt::Files;
@@ -77,7 +77,7 @@ fn report_of<F: Files + AllocGlobal, R: Read + Drop>(
 fn source_of(alloc: Global, place: String, read: io::Result<String>) -> Result<Source, Stop> {
     match read {
         Ok(text) => Ok(Source { place, text }),
-        Err(error) if error.kind() == ErrorKind::OutOfMemory => Err(Stop::Memory),
+        Err(error) if error.kind() == ErrorKind::OutOfMemory => Err(Stop::Memory(AllocError)),
         Err(_) => Err(Stop::Refused(format!(in alloc; "{place}cannot read input")?)),
     }
 }

@@ -1,7 +1,7 @@
 //! Why no row is run.
 
 use program_io::status::Status;
-use std::alloc::{AllocError, AllocFailed};
+use std::alloc::AllocError;
 use thiserror::Error;
 
 /// Why no row is run.
@@ -12,19 +12,7 @@ pub enum Stop {
     Refused(String),
     /// Out of memory.
     #[error("out of memory")]
-    Memory,
-}
-
-impl From<AllocError> for Stop {
-    fn from(_error: AllocError) -> Stop {
-        Stop::Memory
-    }
-}
-
-impl<T: Drop> From<AllocFailed<T>> for Stop {
-    fn from(_error: AllocFailed<T>) -> Stop {
-        Stop::Memory
-    }
+    Memory(#[from(alloc)] AllocError),
 }
 
 impl Stop {
@@ -32,7 +20,7 @@ impl Stop {
     pub fn status(&self) -> Status {
         match self {
             Stop::Refused(_) => Status::Refused,
-            Stop::Memory => Status::Exhausted,
+            Stop::Memory(_) => Status::Exhausted,
         }
     }
 }

@@ -8,7 +8,7 @@ use Rattle.apollo_document.specs.Typable.{Fault as DocumentFault}
 use Rattle.apollo_executable.specs.Erasure.{erased_definitions}
 use Rattle.leafcheck.specs.LeafFaults.{leaf_faults}
 use Rattle.apollo_coordinate.specs.CoordinateText.{IsCoordinateText, SaysCoordinate}
-use Rattle.apollo_coordinate.specs.declared.coordinates.SchemaCoordinate.{SchemaCoordinate}
+use Rattle.apollo_coordinate.specs.declared.schema_coordinate.SchemaCoordinate.{SchemaCoordinate}
 use Rattle.apollo_coordinate.specs.declared.lookup_answers.SchemaCoordinateLookup.{SchemaCoordinateLookup}
 use Rattle.apollo_meaning.specs.Faults.Collisions.{Fault}
 use Rattle.apollo_schema.specs.declared.schema.Schema.{Schema}

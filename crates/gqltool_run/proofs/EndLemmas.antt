@@ -3,6 +3,7 @@ use Rattle.std.proofs.Common.{◌≡◌, ◌⊎◌, ℕ, Bool, true, false, List
 use Rattle.std.proofs.Common.{inr, refl, sym, ap, ◌∙◌}
 use Rattle.std.proofs.KnownBytes.{Appends-trans}
 use Rattle.std.specs.Io.KnownBytes.{Appends}
+use Rattle.apollo_compiler.specs.declared.compile_error.CompileError.TheVariants as spent
 use Rattle.gqltool_run.specs.declared.failure.Failure.{Failure}
 use Rattle.gqltool_run.specs.declared.failure.Failure.TheVariants as failures
 use Rattle.program_io.specs.Files.{HoldsSome, IsFileCause}
@@ -48,8 +49,8 @@ cause_over task held may_fail text (failures.NoCoordinate error) is cause = (tex
 cause_over task held may_fail text failures.CannotRead is cause = absurd (no_input_cause task text cause)
 cause_over task held may_fail text (failures.RefusedLine line) is cause = (text, (is, cause))
 cause_over task held may_fail text failures.NoDivision is cause = (text, (is, cause))
-cause_over task held may_fail text failures.Memory is cause = tt
-cause_over task held may_fail text failures.ExtensionIds is cause = (text, (is, cause))
+cause_over task held may_fail text (failures.Exhausted spent.Memory) is cause = tt
+cause_over task held may_fail text (failures.Exhausted spent.ExtensionIds) is cause = (text, (is, cause))
 
 -- a run without an answer ends in one of two ways, and at neither the output is written
 pub two_ends : (failure : Failure) → (status_of failure ≡ s.Refused) ⊎ (status_of failure ≡ s.Exhausted)
@@ -58,8 +59,7 @@ two_ends (failures.NoCoordinate error) = inl refl
 two_ends failures.CannotRead = inl refl
 two_ends (failures.RefusedLine line) = inl refl
 two_ends failures.NoDivision = inl refl
-two_ends failures.Memory = inr refl
-two_ends failures.ExtensionIds = inr refl
+two_ends (failures.Exhausted error) = inr refl
 
 -- without an answer a run ends as its cause says
 pub without_answer : (words : List (List ℕ)) (held : List ℕ → Type 0) (may_fail : Type 0)
@@ -135,7 +135,7 @@ with_sent_answer words task held may_fail old new text has_faults s.Faults sent 
 with_sent_answer words task held may_fail old new text has_faults s.Refused sent asked means prints =
     absurd sent
 with_sent_answer words task held may_fail old new text has_faults s.Exhausted sent asked means prints =
-    (failures.Memory, (refl, inr (task, (asked, tt))))
+    (failures.Exhausted spent.Memory, (refl, inr (task, (asked, tt))))
 with_sent_answer words task held may_fail old new text has_faults s.NotWritten sent asked means prints =
     with_answer words held may_fail old new text has_faults s.NotWritten sent means prints
 

@@ -8,6 +8,7 @@ use Rattle.apollo_meaning.specs.Faults.ListFaults.{faults_of}
 use Rattle.apollo_schema.specs.MeantSchema.{MeansSchema}
 use Rattle.apollo_compiler.specs.Compilation.{IsCompiled}
 use Rattle.apollo_compiler.specs.Lists.{all_sources, schema_list}
+use Rattle.apollo_compiler.specs.declared.compile_error.CompileError.TheVariants as spent
 use Rattle.apollo_compiler.specs.declared.compile_options.CompileOptions.{CompileOptions}
 use Rattle.apollo_compiler.specs.declared.compiled.Compiled.{Compiled}
 use Rattle.gqltool_run.specs.declared.failure.Failure.{Failure}
@@ -37,8 +38,8 @@ IsCompiledInput options input compiled = (documents : List Document)
 -- spend the numbers. That memory ran out says nothing of the input
 abbrev pub IsCause : CompileOptions → List ℕ → Failure → Type 0
 IsCause options input (failures.RefusedLine refused) = IsFirstRefused (lines_of input) refused
-IsCause options input failures.Memory = Unit {0}
-IsCause options input failures.ExtensionIds = (documents : List Document)
+IsCause options input (failures.Exhausted spent.Memory) = Unit {0}
+IsCause options input (failures.Exhausted spent.ExtensionIds) = (documents : List Document)
     × (AreDocumentsOf input documents
     × SpendsIds 0 options.adopt_orphan_extensions (schema_list options documents))
 IsCause options input _ = ⊥

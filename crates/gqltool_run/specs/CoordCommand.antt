@@ -2,8 +2,8 @@
 use Rattle.std.specs.Prelude.{◌≡◌, ℕ, Bool, true, false, not, ◌&&◌, List, ◌++◌, ◌==◌, codes, length}
 use Rattle.apollo_coordinate.specs.CoordinateLookups.{PointsTo, PointsToNothing}
 use Rattle.apollo_coordinate.specs.CoordinateText.{coordinate_text}
-use Rattle.apollo_coordinate.specs.declared.coordinates.SchemaCoordinate.{SchemaCoordinate}
-use Rattle.apollo_coordinate.specs.declared.coordinates.SchemaCoordinate.TheVariants as coordinates
+use Rattle.apollo_coordinate.specs.declared.schema_coordinate.SchemaCoordinate.{SchemaCoordinate}
+use Rattle.apollo_coordinate.specs.declared.schema_coordinate.SchemaCoordinate.TheVariants as coordinates
 use Rattle.apollo_coordinate.specs.declared.lookup_answers.SchemaCoordinateLookup.{SchemaCoordinateLookup}
 use Rattle.apollo_coordinate.specs.declared.lookup_answers.SchemaCoordinateLookup.TheVariants as answers
 use Rattle.apollo_coordinate.specs.declared.lookup_answers.SchemaLookupError.{SchemaLookupError}

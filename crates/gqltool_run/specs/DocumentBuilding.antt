@@ -13,6 +13,7 @@ use Rattle.apollo_document.specs.Documents.{IsDocumentOf}
 use Rattle.apollo_document.specs.DocumentFaults.{document_faults}
 use Rattle.apollo_compiler.specs.Compilation.{IsCompiled}
 use Rattle.apollo_compiler.specs.Lists.{all_sources, executable_list, no_options, schema_list}
+use Rattle.apollo_compiler.specs.declared.compile_error.CompileError.TheVariants as spent
 use Rattle.apollo_compiler.specs.declared.compiled.Compiled.{Compiled}
 use Rattle.bench_notation.specs.Line.{lines_of}
 use Rattle.bench_notation.specs.Documents.{AreDividedDocumentsOf, IsDividedReadError}
@@ -50,8 +51,8 @@ abbrev pub IsDocumentCause : List ℕ → Failure → Type 0
 IsDocumentCause input (failures.RefusedLine refused) =
     IsDividedReadError (lines_of input) (reading.Refused refused)
 IsDocumentCause input failures.NoDivision = IsDividedReadError (lines_of input) reading.NoDivision
-IsDocumentCause input failures.Memory = Unit {0}
-IsDocumentCause input failures.ExtensionIds = (schema : List Document)
+IsDocumentCause input (failures.Exhausted spent.Memory) = Unit {0}
+IsDocumentCause input (failures.Exhausted spent.ExtensionIds) = (schema : List Document)
     × ((executable : List Document)
     × (AreDividedDocumentsOf input schema executable × SpendsIds 0 false (schema_list no_options schema)))
 IsDocumentCause input _ = ⊥

@@ -1,6 +1,7 @@
 -- How a run ends.
 use Rattle.std.specs.Prelude.{◌≡◌, ◌⊎◌, ℕ, Bool, true, false, List, Option}
 use Rattle.std.specs.Io.KnownBytes.{Appends}
+use Rattle.apollo_compiler.specs.declared.compile_error.CompileError.TheVariants as spent
 use Rattle.program_io.specs.Files.{CannotBeRead, HoldsSome}
 use Rattle.program_io.specs.Writing.{IsBegun}
 use Rattle.program_io.specs.declared.status.Status.{Status}
@@ -18,7 +19,7 @@ use Rattle.gqltool_run.specs.Tasks.{AreNoCommand, AreWalkWords, Ask, AskNoCoordi
 -- That memory ran out says nothing of the input
 abbrev pub IsCauseOver : Task → (List ℕ → Type 0) → Type 0 → Failure → Type 0
 IsCauseOver task held may_fail failures.CannotRead = CannotBeRead held may_fail
-IsCauseOver task held may_fail failures.Memory = Unit {0}
+IsCauseOver task held may_fail (failures.Exhausted spent.Memory) = Unit {0}
 IsCauseOver task held may_fail failure = HoldsSome held (λ input. IsCauseOf task input failure)
 
 -- why there is no answer to these words and an input: the words are refused, or there is none to what they

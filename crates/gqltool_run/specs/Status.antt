@@ -5,7 +5,6 @@ use Rattle.program_io.specs.declared.status.Status.{Status}
 use Rattle.program_io.specs.declared.status.Status.TheVariants as s
 use Rattle.gqltool_run.specs.declared.failure.Failure.{Failure}
 use Rattle.gqltool_run.specs.declared.failure.Failure.TheVariants as f
-use Rattle.apollo_compiler.specs.declared.compile_error.CompileError.{CompileError}
 use Rattle.apollo_compiler.specs.declared.compile_error.CompileError.TheVariants as e
 use Rattle.bench_notation.specs.declared.refusal.ReadError.{ReadError}
 use Rattle.bench_notation.specs.declared.refusal.ReadError.TheVariants as r
@@ -23,22 +22,16 @@ status_of (f.NoCoordinate error) = s.Refused
 status_of f.CannotRead = s.Refused
 status_of (f.RefusedLine refused) = s.Refused
 status_of f.NoDivision = s.Refused
-status_of f.Memory = s.Exhausted
-status_of f.ExtensionIds = s.Exhausted
+status_of (f.Exhausted error) = s.Exhausted
 
 -- why a run has nothing to write whose input was not read
 abbrev pub failure_of_read : ReadError → Failure
 failure_of_read (r.Refused line) = f.RefusedLine line
 failure_of_read r.NoDivision = f.NoDivision
-failure_of_read r.Memory = f.Memory
-
--- why a run has nothing to write of whose input nothing was compiled
-abbrev pub failure_of_compiling : CompileError → Failure
-failure_of_compiling e.Memory = f.Memory
-failure_of_compiling e.ExtensionIds = f.ExtensionIds
+failure_of_read r.Memory = f.Exhausted e.Memory
 
 -- why a run has nothing to write whose input could not be had
 abbrev pub failure_of_input : FileError → Failure
 failure_of_input (i.CannotRead error) = f.CannotRead
 failure_of_input i.NotText = f.CannotRead
-failure_of_input i.Memory = f.Memory
+failure_of_input i.Memory = f.Exhausted e.Memory

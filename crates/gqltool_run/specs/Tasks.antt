@@ -2,6 +2,7 @@
 use Rattle.std.specs.Prelude.{◌≡◌, ◌⊎◌, ℕ, List, [], ◌∷◌, None, codes}
 use Rattle.apollo_coordinate.specs.CoordinateText.{IsCoordinateText, SaysCoordinate}
 use Rattle.apollo_coordinate.specs.Refusals.{without_at}
+use Rattle.apollo_compiler.specs.declared.compile_error.CompileError.TheVariants as spent
 use Rattle.apollo_compiler.specs.declared.compile_options.CompileOptions.{CompileOptions}
 use Rattle.gqltool_run.specs.declared.failure.Failure.{Failure}
 use Rattle.gqltool_run.specs.declared.failure.Failure.TheVariants as failures
@@ -55,7 +56,7 @@ AskNoCoordinate words = (text : List ℕ) × (AreCoordWords words text × ¬ IsC
 abbrev pub IsTextRefusal : List ℕ → Failure → Type 0
 IsTextRefusal text (failures.NoCoordinate error) = ¬ IsCoordinateText text
     × (error ≡ record { name = without_at text; location = None })
-IsTextRefusal text failures.Memory = Unit {0}
+IsTextRefusal text (failures.Exhausted spent.Memory) = Unit {0}
 IsTextRefusal text _ = ⊥
 
 -- why words are refused: they are no command, or the text of `coord` is refused

@@ -29,9 +29,9 @@ use std::alloc::Global;
 /// `CannotRead` comes where the input can't be read as a text: of
 /// [`BytesInMemory`](program_io::input::BytesInMemory) only where it isn't UTF-8. `RefusedLine` names the
 /// first line of it that says nothing where it stands, and `NoDivision` that none divides it, for `doc`,
-/// `walk` and `leaf`. `ExtensionIds` comes only where the numbers don't suffice for the extensions of the
-/// input. `Memory` is out of memory, and says nothing of the words or the input. There is no other error.
-/// What was built is left to the end of the process.
+/// `walk` and `leaf`. `Exhausted` comes with `ExtensionIds` only where the numbers don't suffice for the
+/// extensions of the input. With `Memory` it is out of memory, and says nothing of the words or the input.
+/// There is no other error. What was built is left to the end of the process.
 pub fn answer_to<R: Input>(
     alloc: Global,
     keys: HashKeys,

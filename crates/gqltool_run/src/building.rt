@@ -19,8 +19,8 @@ use std::alloc::Global;
 /// The schema of what an input says with these options, and its faults, of which there may be none. All
 /// tables hash by these keys.
 ///
-/// `RefusedLine` names the first line that says nothing where it stands. `ExtensionIds` comes only where the
-/// numbers don't suffice for the extensions of the input; `Memory` is out of memory. There is no other error.
+/// `RefusedLine` names the first line that says nothing where it stands. `Exhausted` comes where the numbers
+/// don't suffice for the extensions of the input, or where memory ran out. There is no other error.
 /// Without an error the documents that were read are left to the end of the process.
 pub fn build_input(
     alloc: Global,

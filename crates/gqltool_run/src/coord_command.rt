@@ -13,7 +13,7 @@ use crate::fault_printing::push_faults;
 use crate::leaving::leave_to_exit;
 use crate::output_line::push_line;
 use apollo_compiler::compile_options::CompileOptions;
-use apollo_coordinate::coordinates::SchemaCoordinate;
+use apollo_coordinate::SchemaCoordinate;
 use apollo_coordinate::lookup_answers::SchemaCoordinateLookup;
 use apollo_schema::schema::Schema;
 use graphql_nodes::collections::hash_keys::HashKeys;

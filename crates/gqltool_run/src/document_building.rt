@@ -27,9 +27,9 @@ pub fn has_faults(compiled: &Compiled) -> bool
 /// Definitions of the type system are faults of the document. All tables hash by these keys.
 ///
 /// `RefusedLine` names the first line that says nothing where it stands. `NoDivision` comes where no line
-/// divides the input. `ExtensionIds` comes only where the numbers don't suffice for the extensions of the
-/// schema; `Memory` is out of memory. There is no other error. Without an error the documents that were read
-/// are left to the end of the process.
+/// divides the input. `Exhausted` comes where the numbers don't suffice for the extensions of the schema, or
+/// where memory ran out. There is no other error. Without an error the documents that were read are left to
+/// the end of the process.
 pub fn compile_documents(alloc: Global, keys: HashKeys, input: &str) -> Result<Compiled, Failure>
     ensures read { OnOk result (All IsLine (lines_of input.now)) }
     ensures compiled { IfOk result (IsCompiledDivided input.now) }

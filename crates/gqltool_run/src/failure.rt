@@ -1,6 +1,7 @@
 //! Why a run has nothing to write.
 ghost use Rattle.std.specs.Prelude.{◌≡◌};
-ghost use Rattle.gqltool_run.specs.Status.{failure_of_compiling, failure_of_input, failure_of_read, status_of};
+ghost use Rattle.apollo_compiler.specs.declared.compile_error.CompileError.{CompileError};
+ghost use Rattle.gqltool_run.specs.Status.{failure_of_input, failure_of_read, status_of};
 ghost use Rattle.gqltool_run.specs.declared.failure.Failure.{Failure};
 
 use apollo_compiler::compile_error::CompileError;
@@ -29,19 +30,16 @@ pub enum Failure {
     /// No line divides the input, which is to be divided.
     #[error("missing ===")]
     NoDivision,
-    /// Out of memory.
-    #[error("out of memory")]
-    Memory,
-    /// The extensions of the input would pass the largest number.
-    #[error("extension identities spent")]
-    ExtensionIds,
+    /// Out of memory, or the extensions of the input would pass the largest number.
+    #[error(transparent)]
+    Exhausted(CompileError),
 }
 
 impl From<AllocError> for Failure {
-    ghost from_gives = { λ _ e. e ≡ Failure.Memory };
+    ghost from_gives = { λ _ failure. failure ≡ Failure.Exhausted CompileError.Memory };
 
     fn from(_error: AllocError) -> Failure {
-        Failure::Memory
+        Failure::Exhausted(CompileError::Memory)
     }
 }
 
@@ -51,19 +49,16 @@ impl From<FileError> for Failure {
     fn from(error: FileError) -> Failure {
         match error {
             FileError::CannotRead(_) | FileError::NotText => Failure::CannotRead,
-            FileError::Memory => Failure::Memory,
+            FileError::Memory => Failure::Exhausted(CompileError::Memory),
         }
     }
 }
 
 impl From<CompileError> for Failure {
-    ghost from_gives = { λ error failure. failure ≡ failure_of_compiling error };
+    ghost from_gives = { λ error failure. failure ≡ Failure.Exhausted error };
 
     fn from(error: CompileError) -> Failure {
-        match error {
-            CompileError::Memory => Failure::Memory,
-            CompileError::ExtensionIds => Failure::ExtensionIds,
-        }
+        Failure::Exhausted(error)
     }
 }
 
@@ -74,13 +69,13 @@ impl From<ReadError> for Failure {
         match error {
             ReadError::Refused(line) => Failure::RefusedLine(line),
             ReadError::NoDivision => Failure::NoDivision,
-            ReadError::Memory => Failure::Memory,
+            ReadError::Memory => Failure::Exhausted(CompileError::Memory),
         }
     }
 }
 
 impl Failure {
-    /// How the run ends: `Exhausted` for `Memory` and `ExtensionIds`, and `Refused` for all others.
+    /// How the run ends: `Exhausted` for what ran out, and `Refused` for all others.
     pub fn status(&self) -> Status
         ensures { result ≡ status_of self.now }
     {
@@ -90,7 +85,7 @@ impl Failure {
             | Failure::CannotRead
             | Failure::RefusedLine(_)
             | Failure::NoDivision => Status::Refused,
-            Failure::Memory | Failure::ExtensionIds => Status::Exhausted,
+            Failure::Exhausted(_) => Status::Exhausted,
         }
     }
 }

@@ -12,6 +12,7 @@ use crate::leaving::leave_to_exit;
 use crate::outlet::CutShort;
 use crate::prepared::Prepared;
 use crate::walk_command::walk_answer;
+use apollo_compiler::compile_error::CompileError;
 use apollo_compiler::compiled::Compiled;
 use graphql_nodes::collections::hash_keys::HashKeys;
 use program_io::input::Input;
@@ -111,7 +112,10 @@ fn end_with_walks<O: Write, E: Write>(
             leave_to_exit(compiled);
             end_with_answer(&last, output, errors)
         }
-        Err(CutShort::Memory) => end_without_answer(Failure::Memory, errors),
+        Err(CutShort::Memory) => end_without_answer(
+            Failure::Exhausted(CompileError::Memory),
+            errors,
+        ),
         Err(CutShort::NotWritten) => end_unwritten(errors),
     }
 }

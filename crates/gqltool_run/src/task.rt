@@ -9,8 +9,9 @@ ghost use Rattle.gqltool_run.specs.Tasks.{IsTextRefusal};
 
 use crate::failure::Failure;
 use crate::schema_options::read_options;
+use apollo_compiler::compile_error::CompileError;
 use apollo_compiler::compile_options::CompileOptions;
-use apollo_coordinate::coordinates::SchemaCoordinate;
+use apollo_coordinate::SchemaCoordinate;
 use apollo_coordinate::parse_error::SchemaCoordinateParseError;
 use std::alloc::Global;
 
@@ -34,7 +35,7 @@ pub enum Task {
 /// What these words ask for.
 ///
 /// `Usage` comes exactly for words that are no command, and `NoCoordinate` for `coord` with a text of no
-/// coordinate. `NoCoordinate` carries that text whole, but for the `@` that it may begin with. `Memory` is
+/// coordinate. `NoCoordinate` carries that text whole, but for the `@` that it may begin with. `Exhausted` is
 /// out of memory, and comes only for `coord`. There is no other error.
 pub fn read_task(alloc: Global, words: &[&str]) -> Result<Task, Failure>
     ensures asked { IfOk result (Ask (texts_of words.now)) }
@@ -99,7 +100,7 @@ fn read_coordinate(alloc: Global, text: &str) -> Result<SchemaCoordinate, Failur
     match SchemaCoordinate::from_str(alloc, text) {
         Ok(coordinate) => Ok(coordinate),
         Err(SchemaCoordinateParseError::InvalidName(error)) => Err(Failure::NoCoordinate(error)),
-        Err(SchemaCoordinateParseError::Memory) => Err(Failure::Memory),
+        Err(SchemaCoordinateParseError::Memory) => Err(Failure::Exhausted(CompileError::Memory)),
         // A text of no coordinate is refused as no name.
         Err(SchemaCoordinateParseError::InvalidFormat) => unreachable!(),
     }

@@ -20,6 +20,7 @@ use crate::fault_printing::say_faults;
 use crate::leaving::leave_to_exit;
 use crate::outlet::{CutShort, Kept, Outlet};
 use crate::output_line::push_line;
+use apollo_compiler::compile_error::CompileError;
 use apollo_compiler::compiled::Compiled;
 use apollo_executable::document::ExecutableDocument;
 use apollo_executable::operation::Operation;
@@ -50,12 +51,8 @@ pub(crate) fn walk_answer<O: Outlet>(
     let mut text = String::new(alloc);
     push_walks(alloc, &mut text, outlet, &compiled.document)?;
     say_faults(alloc, &mut text, outlet, compiled.schema_faults.as_slice())?;
-    say_faults(
-        alloc,
-        &mut text,
-        outlet,
-        compiled.document_faults.as_slice(),
-    )?;
+    let faults = compiled.document_faults.as_slice();
+    say_faults(alloc, &mut text, outlet, faults)?;
     Ok(Answer {
         text,
         has_faults: has_faults(compiled),
@@ -67,7 +64,7 @@ pub(crate) fn walk_answer<O: Outlet>(
 pub(crate) fn whole_walk_answer(alloc: Global, compiled: Compiled) -> Result<Answer, Failure>
     ensures text { IfOk result (λ answer. AreLinesOf compiled (string_bytes answer.text)) }
     ensures faults { IfOk result (λ answer. answer.has_faults ≡ has_fault compiled) }
-    ensures memory { IfErr result (λ failure. failure ≡ Failure.Memory) }
+    ensures memory { IfErr result (λ failure. failure ≡ Failure.Exhausted CompileError.Memory) }
 {
     match walk_answer(alloc, &compiled, &mut Kept) {
         Ok(answer) => {
@@ -75,7 +72,7 @@ pub(crate) fn whole_walk_answer(alloc: Global, compiled: Compiled) -> Result<Ans
             Ok(answer)
         }
         // Nothing goes out, so only memory can run out.
-        Err(_) => Err(Failure::Memory),
+        Err(_) => Err(Failure::Exhausted(CompileError::Memory)),
     }
 }
 

@@ -1,5 +1,5 @@
 -- Equality of selections, fields and inline fragments.
-use Rattle.std.proofs.Common.{rules, ◌≡◌, Bool, false, ◌&&◌, List, refl, map, subst, nat_eq}
+use Rattle.std.proofs.Common.{rules, ◌≡◌, Bool, false, ◌&&◌, List, refl, map, nat_eq}
 use Rattle.std.specs.Option.{option_map, option_eq}
 use lib.Pointwise.{pointwise}
 use denote.Hole.Compared.{compared_is}

@@ -3,7 +3,6 @@ use Rattle.std.proofs.Common.{refl, List, subst, Bool, ◌&&◌, nat_eq}
 use lib.Pointwise.{pointwise}
 use denote.Enum.Bare.{sameb}
 use Rattle.graphql_nodes.specs.NameView.{NameView}
-use Rattle.graphql_nodes.specs.NodeView.{NodeView}
 use Rattle.graphql_nodes.specs.declared.operation_type.OperationType.{OperationType}
 use Rattle.graphql_nodes.specs.declared.directive_location.DirectiveLocation.{DirectiveLocation}
 use Rattle.graphql_nodes.specs.contracts.operation_type.OperationType as operation

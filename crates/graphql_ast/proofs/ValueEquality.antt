@@ -1,5 +1,5 @@
 -- Equality of values.
-use Rattle.std.proofs.Common.{rules, ◌≡◌, Bool, true, false, ◌&&◌, List, [], ◌∷◌, refl, map, ap, ◌∙◌, subst}
+use Rattle.std.proofs.Common.{rules, ◌≡◌, Bool, true, false, ◌&&◌, List, [], ◌∷◌, refl, map, ap, ◌∙◌}
 use Rattle.std.proofs.Common.{nat_eq}
 use Rattle.std.proofs.Math.Bool.{beq}
 use lib.Pointwise.{pointwise, bytes_decides}

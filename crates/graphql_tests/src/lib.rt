@@ -1,5 +1,5 @@
 //! Tests of trees and of the notation, of what no clause says. That is printed texts, examples from the
-//! specification, that calls and copies succeed with memory, and that a write leaves the other tree.
+//! specification, that calls and copies succeed with enough memory, and that a write leaves the other tree.
 //!
 //! What a test compares stands in functions that borrow and answer whether it holds: these are cheap to
 //! prove. What is dear to prove is what owns a tree or a definition, so generic functions own them, which are

@@ -8,7 +8,7 @@ use Rattle.apollo_executable.specs.declared.operation.Operation.{Operation}
 use Rattle.apollo_executable.specs.declared.selection.SelectionSet.{SelectionSet}
 use Rattle.apollo_schema.specs.declared.schema.Schema.{Schema}
 use Rattle.leafcheck.specs.Around.{path_of, path_step}
-use Rattle.leafcheck.specs.LeafFaults.{fragment_faults, leaf_faults_in, operation_faults}
+use Rattle.leafcheck.specs.LeafFaults.{fragment_faults, operation_faults, set_faults}
 use Rattle.leafcheck.specs.Roots.{fragment_path, operation_path}
 use Rattle.leafcheck.specs.declared.around.Around.TheFolds.{fold-roll-Around}
 use Rattle.leafcheck.specs.declared.around.Around.TheOpen.{Around-F}
@@ -17,15 +17,14 @@ use Rattle.leafcheck.specs.declared.around.Around.TheVariants as variant
 module _ (s : Schema) where
   -- a set that is lent has faults
   abbrev pub HasFaults : SelectionPath → SelectionSet → Type 0
-  HasFaults path set = leaf_faults_in s set.ty path set.selections ≢ []
+  HasFaults path set = set_faults s path set ≢ []
 
   -- a set that is in two values, which are both one, has faults along the path of the one
   noted : {A : Type 0} (set_in : A → SelectionSet) (path_in : A → SelectionPath) (around lent one : A)
       (path : SelectionPath) → path ≡ path_in around → around ≡ one → lent ≡ one
       → HasFaults path (set_in lent) → HasFaults (path_in one) (set_in one)
   noted set_in path_in around lent one path opened is same some none =
-      some ((λ i. leaf_faults_in s (set_in (same i)).ty ((opened ∙ ap path_in is) i)
-      (set_in (same i)).selections) ∙ none)
+      some ((λ i. set_faults s ((opened ∙ ap path_in is) i) (set_in (same i))) ∙ none)
 
   pub operation-noted : (around lent : Bor Operation) (n : NodeView Operation) → around.now ≡ n.value
       → lent.now ≡ n.value → HasFaults (path_of (variant.Operation around)) lent.now.selection_set

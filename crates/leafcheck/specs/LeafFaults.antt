@@ -24,6 +24,7 @@ use Rattle.apollo_executable.specs.declared.operation.Fragment.{Fragment}
 use Rattle.apollo_executable.specs.declared.operation.Operation.{Operation}
 use Rattle.apollo_executable.specs.declared.selection.Field.{Field}
 use Rattle.apollo_executable.specs.declared.selection.Selection.{Selection}
+use Rattle.apollo_executable.specs.declared.selection.SelectionSet.{SelectionSet}
 use Rattle.leafcheck.specs.PlacedFields.{PlacedField, placed_fields}
 use Rattle.leafcheck.specs.Roots.{fragment_path, operation_path}
 use Rattle.leafcheck.specs.declared.leaf_fault.LeafFault.{LeafFault}
@@ -60,21 +61,21 @@ fault_at s f = option_map (fault_of f) (kind_over s f.node.value)
 abbrev pub leaf_faults_in : Schema → NameView → SelectionPath → List Selection → List LeafFault
 leaf_faults_in s ty path selections = filter_map (fault_at s) (placed_fields ty path selections)
 
+-- the same, of all that a set holds
+abbrev pub set_faults : Schema → SelectionPath → SelectionSet → List LeafFault
+set_faults s path set = leaf_faults_in s set.ty path set.selections
+
 -- the fault of a field, if it has one, and those of the fields below it
 abbrev pub faults_from : Schema → PlacedField → List LeafFault
-faults_from s f =
-    cons_option (fault_at s f)
-    (leaf_faults_in s f.node.value.selection_set.ty f.path f.node.value.selection_set.selections)
+faults_from s f = cons_option (fault_at s f) (set_faults s f.path f.node.value.selection_set)
 
 -- the faults of an operation
 abbrev pub operation_faults : Schema → NodeView Operation → List LeafFault
-operation_faults s n =
-    leaf_faults_in s n.value.selection_set.ty (operation_path n.value) n.value.selection_set.selections
+operation_faults s n = set_faults s (operation_path n.value) n.value.selection_set
 
 -- the faults of a fragment
 abbrev pub fragment_faults : Schema → NodeView Fragment → List LeafFault
-fragment_faults s n =
-    leaf_faults_in s n.value.selection_set.ty (fragment_path n.value) n.value.selection_set.selections
+fragment_faults s n = set_faults s (fragment_path n.value) n.value.selection_set
 
 -- the faults of a document: those of the anonymous operation first, then of the others, and then of the
 -- fragments

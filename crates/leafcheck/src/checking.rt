@@ -2,7 +2,6 @@
 //!
 //! Each set is looked at once, as deep as it is nested. Memory is taken for faults alone.
 ghost use Rattle.std.specs.Prelude.{◌≡◌, ◌≢◌, ◌∷◌, ◌++◌, [], IfOk, None, OnOk, OnErr};
-ghost use Rattle.std.specs.List.{cons_option};
 ghost use Rattle.leafcheck.specs.Around.{path_of};
 ghost use Rattle.leafcheck.specs.LeafFaults as spec;
 ghost use Rattle.leafcheck.specs.LeafFaults.{leaf_faults_in};
@@ -66,10 +65,9 @@ fn note_set(
     set: &SelectionSet,
     faults: &mut Items<LeafFault>,
 ) -> Result<(), AllocError>
-    ensures noted { OnOk result (faults.new
-        ≡ faults.old ++ leaf_faults_in schema.now set.now.ty (path_of around.now) set.now.selections) }
-    ensures memory { OnErr result
-        (leaf_faults_in schema.now set.now.ty (path_of around.now) set.now.selections ≢ []) }
+    ensures noted { OnOk result
+        (faults.new ≡ faults.old ++ spec.set_faults schema.now (path_of around.now) set.now) }
+    ensures memory { OnErr result (spec.set_faults schema.now (path_of around.now) set.now ≢ []) }
 {
     fields_with_places();
     for selection in &set.selections {

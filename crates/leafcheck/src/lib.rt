@@ -2,7 +2,7 @@
 //! asks for them. GraphQL specification of October 2021, section 5.3.3.
 //!
 //! It stands on public contracts of schemas, typed documents and the faults of their build alone, as a
-//! validator of another house would.
+//! validator outside this repository would.
 //!
 //! Proved: exactly the fields that lack subselections or must not have them are reported, over any schema and
 //! document.
@@ -14,7 +14,6 @@ mod around;
 pub mod checking;
 pub mod laws;
 pub mod leaf_fault;
-pub mod lost_subselections;
 pub mod reporting;
 
 pub use crate::checking::leaf_faults;

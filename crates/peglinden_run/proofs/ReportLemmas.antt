@@ -12,7 +12,9 @@ use Rattle.apollo_reporting.specs.FaultData.{fault_data}
 use Rattle.apollo_reporting.specs.Reports.{report_text}
 use Rattle.apollo_reporting.specs.Said.{OfSaid}
 use Rattle.apollo_reporting.specs.declared.detail.Detail.{Detail}
-use Rattle.peglinden_run.specs.Reports.{Adds, IsJsonLine, IsReport, SaysEach}
+use Rattle.peglinden_run.specs.declared.reports.Form.{Form}
+use Rattle.peglinden_run.specs.declared.reports.Form.TheVariants as forms
+use Rattle.peglinden_run.specs.Reports.{Adds, IsFaultSaid, IsFormText, IsJsonLine, IsReport, SaysEach}
 
 -- what is a fact of what is said, or of something, is a fact of something
 some_said : {A : Type 0} (said : Option A) (Fact : A → Type 0) → OfSaid said Fact → (x : A) × Fact x
@@ -31,7 +33,7 @@ behind : (old text middle new : List ℕ) → middle ≡ old ++ text → new ≡
 behind old text middle new one two = two ∙ ap (λ l. l ++ codes "\n") one ∙ append_assoc old text _
 
 -- a report that is added with a line end
-pub report_added : (sentence : Option (List ℕ)) (files : Files) (location : Option SourceSpan)
+report_added : (sentence : Option (List ℕ)) (files : Files) (location : Option SourceSpan)
     (about : AboutView) (report old middle new : List ℕ)
     → OfSaid sentence (λ s. report ≡ report_text files location about (visible s)) → middle ≡ old ++ report
     → new ≡ middle ++ codes "\n" → Adds (IsReport files location about) old new
@@ -40,7 +42,7 @@ report_added sentence files location about report old middle new is one two =
     (report ++ codes "\n", (behind old report middle new one two, (says.0, ap (λ l. l ++ codes "\n") says.1)))
 
 -- and a line of JSON
-pub json_added : (sentence : Option (List ℕ)) (of_details : Option (List Detail)) (files : Files)
+json_added : (sentence : Option (List ℕ)) (of_details : Option (List Detail)) (files : Files)
     (location : Option SourceSpan) (about : AboutView) (json old middle new : List ℕ)
     → OfSaid sentence (λ s. OfSaid of_details (λ details. json
     ≡ compact_text (fault_data files location about s details))) → middle ≡ old ++ json
@@ -49,6 +51,19 @@ json_added sentence of_details files location about json old middle new is one t
     let says = some_said sentence _ is in
     let line = said_then of_details _ _ (λ details same. ap (λ l. l ++ codes "\n") same) says.1 in
     (json ++ codes "\n", (behind old json middle new one two, (says.0, line)))
+
+-- what a form says, with its line end
+pub said_added : {E : Type 0} (form : Form) (sentence_of : E → Option (List ℕ)) (about_of : E → AboutView)
+    (details_of : E → Option (List Detail)) (files : Files) (location : Option SourceSpan) (fault : E)
+    (text old middle new : List ℕ)
+    → IsFormText form sentence_of about_of details_of files location fault text → middle ≡ old ++ text
+    → new ≡ middle ++ codes "\n"
+    → Adds (IsFaultSaid form files location (about_of fault) (details_of fault)) old new
+said_added forms.Words sentence_of about_of details_of files location fault text old middle new is one two =
+    report_added (sentence_of fault) files location (about_of fault) text old middle new is one two
+said_added forms.Json sentence_of about_of details_of files location fault text old middle new is one two =
+    json_added (sentence_of fault) (details_of fault) files location (about_of fault) text old middle new is
+    one two
 
 says-more : {A : Type 0} (Says : A → List ℕ → Type 0) (xs : List A) (x : A) (text said : List ℕ)
     → SaysEach Says xs text → Says x said → SaysEach Says (xs ++ x ∷ []) (text ++ said)

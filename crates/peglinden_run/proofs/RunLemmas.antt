@@ -38,8 +38,8 @@ module _ (request : Request) (held : List ℕ → List ℕ → Type 0) (may_fail
   without_answer (failures.Files reports) cause reported = (failures.Files reports, (refl, cause, reported))
   without_answer (failures.NoCoordinate sentence) cause reported =
       (failures.NoCoordinate sentence, (refl, cause, reported))
-  without_answer failures.Memory cause reported = (failures.Memory, (refl, cause, reported))
-  without_answer failures.ExtensionIds cause reported = (failures.ExtensionIds, (refl, cause, reported))
+  without_answer (failures.Exhausted error) cause reported =
+      (failures.Exhausted error, (refl, cause, reported))
 
   -- over what reading standard input gave, it ends as over standard input
   pub with_read : {B : Type 0} (input : Result B FileError) (bytes_of : B → List ℕ) (input_held : List ℕ
@@ -69,8 +69,7 @@ is_answered answer old new old_errors new_errors s.NotWritten written none = non
 pub is_not_done : (failure : Failure) → status_of failure ≡ s.Done → ⊥
 is_not_done (failures.Files reports) done = cc
 is_not_done (failures.NoCoordinate sentence) done = cc
-is_not_done failures.Memory done = cc
-is_not_done failures.ExtensionIds done = cc
+is_not_done (failures.Exhausted error) done = cc
 
 -- where words call for help, a run ends as writing a text went
 pub help_written : (words : List Text) (old new : Option (List ℕ)) (text : List ℕ) (status : Status)

@@ -3,7 +3,8 @@ use Rattle.std.proofs.Common.{◌≡◌, ℕ, List, [], ◌∷◌, false, refl, 
 use Rattle.apollo_document.specs.Typable.{Fault as DocumentFault}
 use Rattle.apollo_meaning.specs.Faults.Collisions.{Fault}
 use Rattle.leafcheck.specs.declared.leaf_fault.LeafFault.{LeafFault}
-use Rattle.peglinden_run.specs.Findings.{AreJsonLines, AreReports, Found, SaysAll, any_fault}
+use Rattle.peglinden_run.specs.declared.reports.Form.{Form}
+use Rattle.peglinden_run.specs.Findings.{AreSaid, Found, SaysAll, any_fault}
 use Rattle.peglinden_run.specs.Reports.{Adds, SaysEach}
 use Rattle.peglinden_run.proofs.ReportLemmas.{three-added}
 
@@ -35,13 +36,8 @@ module _ (OfSchema : Fault → List ℕ → Type 0) (OfDocument : DocumentFault 
   says-nothing [] (y ∷ ys) zs it a b c is = absurd (grind (arith, is, b))
   says-nothing [] [] (z ∷ zs) it a b c is = absurd (grind (arith, is, c))
 
--- no report, and no line of JSON
-pub nothing_reported : (it : Found) (text : List ℕ) → any_fault it ≡ false → text ≡ [] → AreReports it text
-nothing_reported it text is none = rw none (
-  [],
-  (says-nothing _ _ _ it.schema it.document it.leaves it refl refl refl is, grind (arith, is)),
-)
-
-pub nothing_written : (it : Found) (text : List ℕ) → any_fault it ≡ false → text ≡ [] → AreJsonLines it text
-nothing_written it text is none = rw none (says-nothing _ _ _ it.schema it.document it.leaves it refl refl
+-- no form says anything
+pub nothing_said : (form : Form) (it : Found) (text : List ℕ) → any_fault it ≡ false → text ≡ []
+    → AreSaid form it text
+nothing_said form it text is none = rw none (says-nothing _ _ _ it.schema it.document it.leaves it refl refl
     refl is)

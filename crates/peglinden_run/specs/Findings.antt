@@ -10,7 +10,9 @@ use Rattle.leafcheck.specs.FaultReports.{leaf_fault_about, leaf_fault_details}
 use Rattle.leafcheck.specs.declared.leaf_fault.LeafFault.{LeafFault}
 use Rattle.peglinden_run.specs.declared.answer.Answer.{Answer}
 use Rattle.peglinden_run.specs.declared.findings.Findings.{Findings}
-use Rattle.peglinden_run.specs.Reports.{IsJsonLine, IsReport, SaysEach, count_line}
+use Rattle.peglinden_run.specs.declared.reports.Form.{Form}
+use Rattle.peglinden_run.specs.declared.reports.Form.TheVariants as forms
+use Rattle.peglinden_run.specs.Reports.{IsFaultSaid, SaysEach, count_line}
 
 -- what is at fault in a schema, in a document and as leaves, and the source files that it stands in
 pub record Found : Type 0 where
@@ -42,32 +44,20 @@ any_fault found =
 abbrev pub fault_count : Found → ℕ
 fault_count found = min (length found.schema + length found.document + length found.leaves) (2 ^ 64 - 1)
 
--- the report of a fault of a schema
-abbrev pub IsSchemaReport : Files → Fault → List ℕ → Type 0
-IsSchemaReport sources fault text = IsReport sources fault.0 (schema_fault_about fault.1) text
+-- what a form says of a fault of a schema
+abbrev pub IsSchemaSaid : Form → Files → Fault → List ℕ → Type 0
+IsSchemaSaid form sources fault text =
+    IsFaultSaid form sources fault.0 (schema_fault_about fault.1) (Some (schema_fault_details fault.1)) text
 
--- the report of a fault of a document
-abbrev pub IsDocumentReport : Files → DocumentFault → List ℕ → Type 0
-IsDocumentReport sources fault text = IsReport sources fault.0 (document_fault_about fault.1) text
+-- and of a fault of a document
+abbrev pub IsDocumentSaid : Form → Files → DocumentFault → List ℕ → Type 0
+IsDocumentSaid form sources fault text = IsFaultSaid form sources fault.0 (document_fault_about fault.1)
+    (Some (document_fault_details fault.1)) text
 
--- the report of a leaf fault
-abbrev pub IsLeafReport : Files → LeafFault → List ℕ → Type 0
-IsLeafReport sources fault text = IsReport sources fault.location (leaf_fault_about fault) text
-
--- a fault of a schema as a line of JSON
-abbrev pub IsSchemaLine : Files → Fault → List ℕ → Type 0
-IsSchemaLine sources fault text =
-    IsJsonLine sources fault.0 (schema_fault_about fault.1) (Some (schema_fault_details fault.1)) text
-
--- a fault of a document as a line of JSON
-abbrev pub IsDocumentLine : Files → DocumentFault → List ℕ → Type 0
-IsDocumentLine sources fault text =
-    IsJsonLine sources fault.0 (document_fault_about fault.1) (Some (document_fault_details fault.1)) text
-
--- a leaf fault as a line of JSON
-abbrev pub IsLeafLine : Files → LeafFault → List ℕ → Type 0
-IsLeafLine sources fault text =
-    IsJsonLine sources fault.location (leaf_fault_about fault) (Some (leaf_fault_details fault)) text
+-- and of a leaf fault
+abbrev pub IsLeafSaid : Form → Files → LeafFault → List ℕ → Type 0
+IsLeafSaid form sources fault text =
+    IsFaultSaid form sources fault.location (leaf_fault_about fault) (Some (leaf_fault_details fault)) text
 
 -- the text is one after the other, in order, of the faults of the schema, of the document and of leaves. Each
 -- is what is said of its fault
@@ -84,23 +74,22 @@ pub record SaysAll (of_fault : Fault → List ℕ → Type 0) (of_document_fault
   pub leaves : SaysEach of_leaf found.leaves of_leaves
   pub are : text ≡ of_schema ++ (of_document ++ of_leaves)
 
--- the reports of all that is at fault, in order, and how much that is
+-- what a form says of all that is at fault, in order
+abbrev pub AreSaid : Form → Found → List ℕ → Type 0
+AreSaid form found = SaysAll (IsSchemaSaid form found.sources) (IsDocumentSaid form found.sources)
+    (IsLeafSaid form found.sources) found
+
+-- the reports of all that, and how much it is
 abbrev pub AreReports : Found → List ℕ → Type 0
 AreReports found text = (reports : List ℕ)
-    × (SaysAll (IsSchemaReport found.sources) (IsDocumentReport found.sources)
-    (IsLeafReport found.sources) found reports × (text ≡ reports ++ count_line (fault_count found)))
-
--- a line of JSON for each thing that is at fault, in order
-abbrev pub AreJsonLines : Found → List ℕ → Type 0
-AreJsonLines found =
-    SaysAll (IsSchemaLine found.sources) (IsDocumentLine found.sources) (IsLeafLine found.sources) found
+    × (AreSaid forms.Words found reports × (text ≡ reports ++ count_line (fault_count found)))
 
 -- what is written: the output of a command, and on standard error the reports; or with the flag the lines of
 -- JSON alone
 abbrev pub IsShown : Bool → Found → List ℕ → Answer → Type 0
 IsShown false found output answer = (string_bytes answer.output ≡ output)
     × AreReports found (string_bytes answer.errors)
-IsShown true found output answer = AreJsonLines found (string_bytes answer.output)
+IsShown true found output answer = AreSaid forms.Json found (string_bytes answer.output)
     × (string_bytes answer.errors ≡ [])
 
 -- the answer shows that, and whether anything is at fault

@@ -3,12 +3,13 @@
 use Rattle.std.specs.Prelude.{◌≡◌, ℕ, Bool, true, false, List, [], string_bytes}
 use Rattle.apollo_coordinate.specs.CoordinateLookups.{PointsTo, PointsToNothing}
 use Rattle.apollo_coordinate.specs.CoordinateText.{IsCoordinateText, SaysCoordinate}
-use Rattle.apollo_coordinate.specs.declared.coordinates.SchemaCoordinate.{SchemaCoordinate}
+use Rattle.apollo_coordinate.specs.declared.schema_coordinate.SchemaCoordinate.{SchemaCoordinate}
 use Rattle.apollo_coordinate.specs.declared.lookup_answers.SchemaCoordinateLookup.{SchemaCoordinateLookup}
 use Rattle.apollo_coordinate.specs.declared.lookup_answers.SchemaLookupError.{SchemaLookupError}
 use Rattle.apollo_meaning.specs.Faults.Collisions.{Fault}
 use Rattle.apollo_schema.specs.declared.schema.Schema.{Schema}
 use Rattle.apollo_compiler.specs.Lists.{no_options}
+use Rattle.apollo_compiler.specs.declared.compile_error.CompileError.TheVariants as spent
 use Rattle.peglinden_run.specs.declared.answer.Answer.{Answer}
 use Rattle.peglinden_run.specs.declared.failure.Failure.{Failure}
 use Rattle.peglinden_run.specs.declared.failure.Failure.TheVariants as failures
@@ -45,7 +46,7 @@ pub record IsLookupAnswer (held : List ℕ → List ℕ
 -- why a text says no coordinate; that memory ran out says nothing of it
 abbrev pub IsCoordinateCause : List ℕ → Failure → Type 0
 IsCoordinateCause text (failures.NoCoordinate sentence) = ¬ IsCoordinateText text
-IsCoordinateCause text failures.Memory = Unit {0}
+IsCoordinateCause text (failures.Exhausted spent.Memory) = Unit {0}
 IsCoordinateCause text _ = ⊥
 
 -- why there is no answer: the text says no coordinate, or the files make no schema

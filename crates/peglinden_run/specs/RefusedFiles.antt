@@ -10,6 +10,7 @@ use Rattle.graphql_productions.specs.Documents.{document, spells_document}
 use Rattle.graphql_text.specs.Parses.{RefusedAt}
 use Rattle.graphql_text.specs.declared.parse_error.ParseError.{ParseError}
 use Rattle.apollo_reporting.specs.TextErrors.{parse_error_about}
+use Rattle.apollo_compiler.specs.declared.compile_error.CompileError.TheVariants as spent
 use Rattle.peglinden_run.specs.declared.failure.Failure.{Failure}
 use Rattle.peglinden_run.specs.declared.failure.Failure.TheVariants as failures
 use Rattle.peglinden_run.specs.Documents.{IsDocumentAt, IsNoDocument, alone, file, most_open, most_tokens}
@@ -86,5 +87,5 @@ pub record IsFilesReport (held : List ℕ → List ℕ → Type 0) (may_fail : L
 abbrev pub IsFilesCause : (List ℕ → List ℕ → Type 0) → (List ℕ → Type 0) → List (List ℕ) → Failure → Type 0
 IsFilesCause held may_fail paths (failures.Files reports) =
     IsFilesReport held may_fail paths (string_bytes reports)
-IsFilesCause held may_fail paths failures.Memory = Unit {0}
+IsFilesCause held may_fail paths (failures.Exhausted spent.Memory) = Unit {0}
 IsFilesCause held may_fail paths _ = ⊥

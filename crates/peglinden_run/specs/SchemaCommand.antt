@@ -9,6 +9,7 @@ use Rattle.apollo_meaning.specs.Faults.ListFaults.{faults_of}
 use Rattle.apollo_meaning.specs.Order.SpentIds.{SpendsIds}
 use Rattle.apollo_compiler.specs.Lists.{all_sources, schema_list}
 use Rattle.apollo_compiler.specs.declared.compile_options.CompileOptions.{CompileOptions}
+use Rattle.apollo_compiler.specs.declared.compile_error.CompileError.TheVariants as spent
 use Rattle.peglinden_run.specs.declared.answer.Answer.{Answer}
 use Rattle.peglinden_run.specs.declared.failure.Failure.{Failure}
 use Rattle.peglinden_run.specs.declared.failure.Failure.TheVariants as failures
@@ -47,8 +48,9 @@ abbrev pub IsSchemaCause : (List ℕ → List ℕ → Type 0) → (List ℕ → 
     → Failure → Type 0
 IsSchemaCause held may_fail options paths (failures.Files reports) =
     IsFilesReport held may_fail paths (string_bytes reports)
-IsSchemaCause held may_fail options paths failures.Memory = Unit {0}
-IsSchemaCause held may_fail options paths failures.ExtensionIds = (documents : List Document)
+IsSchemaCause held may_fail options paths (failures.Exhausted spent.Memory) = Unit {0}
+IsSchemaCause held may_fail options paths (failures.Exhausted spent.ExtensionIds) =
+    (documents : List Document)
     × (AreDocumentsAt held 1 paths documents
     × SpendsIds 0 options.adopt_orphan_extensions (schema_list options documents))
 IsSchemaCause held may_fail options paths _ = ⊥

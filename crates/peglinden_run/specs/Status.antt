@@ -1,6 +1,5 @@
 -- How a run ends whose request has no answer, and what it reports.
 use Rattle.std.specs.Prelude.{ℕ, List, codes, string_bytes}
-use Rattle.apollo_compiler.specs.declared.compile_error.CompileError.{CompileError}
 use Rattle.apollo_compiler.specs.declared.compile_error.CompileError.TheVariants as e
 use Rattle.program_io.specs.declared.status.Status.{Status}
 use Rattle.program_io.specs.declared.status.Status.TheVariants as s
@@ -11,17 +10,11 @@ use Rattle.peglinden_run.specs.declared.failure.Failure.TheVariants as f
 abbrev pub status_of : Failure → Status
 status_of (f.Files reports) = s.Refused
 status_of (f.NoCoordinate sentence) = s.Refused
-status_of f.Memory = s.Exhausted
-status_of f.ExtensionIds = s.Exhausted
+status_of (f.Exhausted error) = s.Exhausted
 
 -- what is reported then
 abbrev pub message_of : Failure → List ℕ
 message_of (f.Files reports) = string_bytes reports
 message_of (f.NoCoordinate sentence) = string_bytes sentence
-message_of f.Memory = codes "error: out of memory\n"
-message_of f.ExtensionIds = codes "error: extension identities spent\n"
-
--- why a request has no answer for which nothing was compiled
-abbrev pub failure_of_compiling : CompileError → Failure
-failure_of_compiling e.Memory = f.Memory
-failure_of_compiling e.ExtensionIds = f.ExtensionIds
+message_of (f.Exhausted e.Memory) = codes "error: out of memory\n"
+message_of (f.Exhausted e.ExtensionIds) = codes "error: extension identities spent\n"

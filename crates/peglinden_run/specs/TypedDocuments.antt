@@ -11,6 +11,7 @@ use Rattle.apollo_document.specs.Documents.{IsDocumentOf}
 use Rattle.apollo_document.specs.DocumentFaults.{document_faults}
 use Rattle.apollo_compiler.specs.Lists.{all_sources, executable_list, no_options, schema_list}
 use Rattle.leafcheck.specs.LeafFaults.{leaf_faults}
+use Rattle.apollo_compiler.specs.declared.compile_error.CompileError.TheVariants as spent
 use Rattle.peglinden_run.specs.declared.failure.Failure.{Failure}
 use Rattle.peglinden_run.specs.declared.failure.Failure.TheVariants as failures
 use Rattle.peglinden_run.specs.declared.typed_documents.TypedDocument.{TypedDocument}
@@ -60,8 +61,9 @@ abbrev pub IsTypedCause : (List ℕ → List ℕ → Type 0) → (List ℕ → T
     → Failure → Type 0
 IsTypedCause held may_fail schema_paths document_paths (failures.Files reports) =
     IsFilesReport held may_fail (schema_paths ++ document_paths) (string_bytes reports)
-IsTypedCause held may_fail schema_paths document_paths failures.Memory = Unit {0}
-IsTypedCause held may_fail schema_paths document_paths failures.ExtensionIds = (documents : List Document)
+IsTypedCause held may_fail schema_paths document_paths (failures.Exhausted spent.Memory) = Unit {0}
+IsTypedCause held may_fail schema_paths document_paths (failures.Exhausted spent.ExtensionIds) =
+    (documents : List Document)
     × (AreBothAt held schema_paths document_paths documents
     × SpendsIds 0 false (schema_list no_options (schema_part schema_paths documents)))
 IsTypedCause held may_fail schema_paths document_paths _ = ⊥

@@ -19,7 +19,7 @@ use std::alloc::{AllocError, Global};
 /// The documents of the files of these paths, each under its place among them as its number, from 1 on.
 ///
 /// `Files` reports each file that can't be read or is no document, and how many they are; all files are
-/// looked at. `Memory` comes where memory ran out. There is no other error.
+/// looked at. `Exhausted` comes where memory ran out. There is no other error.
 pub fn read_documents<F: Files>(
     alloc: Global,
     files: &F,

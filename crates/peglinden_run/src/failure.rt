@@ -1,6 +1,7 @@
 //! Why a request has no answer.
 ghost use Rattle.std.specs.Prelude.{◌≡◌};
-ghost use Rattle.peglinden_run.specs.Status.{failure_of_compiling, message_of, status_of};
+ghost use Rattle.apollo_compiler.specs.declared.compile_error.CompileError.{CompileError};
+ghost use Rattle.peglinden_run.specs.Status.{message_of, status_of};
 ghost use Rattle.peglinden_run.specs.declared.failure.Failure.{Failure};
 
 use apollo_compiler::compile_error::CompileError;
@@ -16,39 +17,34 @@ pub enum Failure {
     /// The text of `lookup` is no coordinate: a sentence that says so, for standard error, with its line
     /// end.
     NoCoordinate(String),
-    /// Memory ran out.
-    Memory,
-    /// The extensions of the schema would pass the largest number.
-    ExtensionIds,
-}
-
-impl From<AllocError> for Failure {
-    ghost from_gives = { λ _ failure. failure ≡ Failure.Memory };
-
-    fn from(_error: AllocError) -> Failure {
-        Failure::Memory
-    }
+    /// Memory ran out, or the extensions of the schema would pass the largest number.
+    Exhausted(CompileError),
 }
 
 impl From<CompileError> for Failure {
-    ghost from_gives = { λ error failure. failure ≡ failure_of_compiling error };
+    ghost from_gives = { λ error failure. failure ≡ Failure.Exhausted error };
 
     fn from(error: CompileError) -> Failure {
-        match error {
-            CompileError::Memory => Failure::Memory,
-            CompileError::ExtensionIds => Failure::ExtensionIds,
-        }
+        Failure::Exhausted(error)
+    }
+}
+
+impl From<AllocError> for Failure {
+    ghost from_gives = { λ _ failure. failure ≡ Failure.Exhausted CompileError.Memory };
+
+    fn from(_error: AllocError) -> Failure {
+        Failure::Exhausted(CompileError::Memory)
     }
 }
 
 impl Failure {
-    /// How the run ends: `Exhausted` for `Memory` and `ExtensionIds`, and `Refused` for the others.
+    /// How the run ends: `Exhausted` for what ran out, and `Refused` for the others.
     pub fn status(&self) -> Status
         ensures { result ≡ status_of self.now }
     {
         match self {
             Failure::Files(_) | Failure::NoCoordinate(_) => Status::Refused,
-            Failure::Memory | Failure::ExtensionIds => Status::Exhausted,
+            Failure::Exhausted(_) => Status::Exhausted,
         }
     }
 
@@ -59,8 +55,10 @@ impl Failure {
         match self {
             Failure::Files(reports) => reports.as_str(),
             Failure::NoCoordinate(sentence) => sentence.as_str(),
-            Failure::Memory => "error: out of memory\n",
-            Failure::ExtensionIds => "error: extension identities spent\n",
+            Failure::Exhausted(CompileError::Memory) => "error: out of memory\n",
+            Failure::Exhausted(CompileError::ExtensionIds) => {
+                "error: extension identities spent\n"
+            }
         }
     }
 }

@@ -37,7 +37,7 @@ fn push_fields(
 {
     push_operation(text, operation)?;
     let usages = field_usage(alloc, document, operation)?;
-    push_usages(alloc, text, usages.as_slice())
+    push_usages(text, usages.as_slice())
 }
 
 /// Adds the line that names an operation. The error is out of memory.
@@ -53,22 +53,12 @@ fn push_operation(text: &mut String, operation: &Operation) -> Result<(), AllocE
 }
 
 /// Adds a line for each of these fields. The error is out of memory.
-fn push_usages(alloc: Global, text: &mut String, usages: &[FieldUsage]) -> Result<(), AllocError>
+fn push_usages(text: &mut String, usages: &[FieldUsage]) -> Result<(), AllocError>
     ensures { OnOk result (string_bytes text.new ≡ string_bytes text.old ++ flat_map usage_line usages.now) }
 {
     for usage in usages {
-        push_usage(alloc, text, usage)?;
+        let count = usage.count;
+        write!(text, "  {usage} {count}\n")?;
     }
     Ok(())
-}
-
-/// Adds the line of a field. The error is out of memory.
-fn push_usage(alloc: Global, text: &mut String, usage: &FieldUsage) -> Result<(), AllocError>
-    ensures { OnOk result (string_bytes text.new ≡ string_bytes text.old ++ usage_line usage.now) }
-{
-    text.push_str("  ")?;
-    text.push_str(usage.to_string(alloc)?.as_str())?;
-    text.push_str(" ")?;
-    text.push_str(usage.count.to_string(alloc)?.as_str())?;
-    text.push_str("\n")
 }

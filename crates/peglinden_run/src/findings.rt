@@ -1,12 +1,11 @@
 //! What is at fault in a schema and in documents over it.
 ghost use Rattle.std.specs.Prelude.{◌≡◌, IfOk, OnOk, string_bytes};
-ghost use Rattle.peglinden_run.specs.Findings.{AreJsonLines, AreReports, IsAnswerOf, IsLeafLine};
-ghost use Rattle.peglinden_run.specs.Findings.{IsLeafReport, any_fault, fault_count};
-ghost use Rattle.peglinden_run.specs.Findings.{found_in, of_schema};
+ghost use Rattle.peglinden_run.specs.Findings.{AreReports, AreSaid, IsAnswerOf, IsLeafSaid, any_fault};
+ghost use Rattle.peglinden_run.specs.Findings.{fault_count, found_in, of_schema};
 ghost use Rattle.peglinden_run.specs.Reports.{Adds, SaysEach};
 
 use crate::answer::Answer;
-use crate::reports::{push_count, push_json, push_json_lines, push_report, push_reports};
+use crate::reports::{Form, push_count, push_each, push_said};
 use apollo_document::build_error as of_documents;
 use apollo_meaning::build_error as of_schemas;
 use apollo_reporting::source_lines::SourceLines;
@@ -56,59 +55,45 @@ impl Findings {
             .saturating_add(self.leaf_faults.len())
     }
 
+    /// What a form says of all faults; nothing where there is none. The error is out of memory.
+    #[tactic(auto, using(crate::proofs::SaidOfAll::nothing_said))]
+    fn said(&self, alloc: Global, form: Form) -> Result<String, AllocError>
+        ensures { IfOk result (λ text. AreSaid form (found_in self.now) (string_bytes text)) }
+    {
+        if !self.any() {
+            return Ok(String::new(alloc));
+        }
+        let lines = SourceLines::new(alloc, &self.sources)?;
+        self.said_in(alloc, form, &lines)
+    }
+
+    /// The same, found in these sources, which are those of the faults.
+    fn said_in<S: Sources>(
+        &self,
+        alloc: Global,
+        form: Form,
+        sources: &S,
+    ) -> Result<String, AllocError>
+        requires { S.files sources.now ≡ self.now.sources }
+        ensures { IfOk result (λ text. AreSaid form (found_in self.now) (string_bytes text)) }
+    {
+        let mut text = String::new(alloc);
+        let schema = self.schema_faults.as_slice();
+        let document = self.document_faults.as_slice();
+        push_each(alloc, &mut text, form, sources, schema)?;
+        push_each(alloc, &mut text, form, sources, document)?;
+        push_leaves(alloc, &mut text, form, sources, self.leaf_faults.as_slice())?;
+        Ok(text)
+    }
+
     /// The reports of all faults, and how many there are; nothing where there is none. The error is out of
     /// memory.
-    #[tactic(auto, using(crate::proofs::SaidOfAll::nothing_reported))]
     fn reports(&self, alloc: Global) -> Result<String, AllocError>
         ensures { IfOk result (λ reports. AreReports (found_in self.now) (string_bytes reports)) }
     {
-        if !self.any() {
-            return Ok(String::new(alloc));
-        }
-        let lines = SourceLines::new(alloc, &self.sources)?;
-        self.reports_in(alloc, &lines)
-    }
-
-    /// The same, found in these sources, which are those of the faults.
-    fn reports_in<S: Sources>(&self, alloc: Global, sources: &S) -> Result<String, AllocError>
-        requires { S.files sources.now ≡ self.now.sources }
-        ensures { IfOk result (λ reports. AreReports (found_in self.now) (string_bytes reports)) }
-    {
-        let mut reports = String::new(alloc);
-        push_reports(alloc, &mut reports, sources, self.schema_faults.as_slice())?;
-        push_reports(
-            alloc,
-            &mut reports,
-            sources,
-            self.document_faults.as_slice(),
-        )?;
-        push_leaf_reports(alloc, &mut reports, sources, self.leaf_faults.as_slice())?;
+        let mut reports = self.said(alloc, Form::Words)?;
         push_count(alloc, &mut reports, self.count())?;
         Ok(reports)
-    }
-
-    /// The JSON of all faults, one a line. The error is out of memory.
-    #[tactic(auto, using(crate::proofs::SaidOfAll::nothing_written))]
-    fn json_lines(&self, alloc: Global) -> Result<String, AllocError>
-        ensures { IfOk result (λ lines. AreJsonLines (found_in self.now) (string_bytes lines)) }
-    {
-        if !self.any() {
-            return Ok(String::new(alloc));
-        }
-        let lines = SourceLines::new(alloc, &self.sources)?;
-        self.json_lines_in(alloc, &lines)
-    }
-
-    /// The same, found in these sources, which are those of the faults.
-    fn json_lines_in<S: Sources>(&self, alloc: Global, sources: &S) -> Result<String, AllocError>
-        requires { S.files sources.now ≡ self.now.sources }
-        ensures { IfOk result (λ lines. AreJsonLines (found_in self.now) (string_bytes lines)) }
-    {
-        let mut lines = String::new(alloc);
-        push_json_lines(alloc, &mut lines, sources, self.schema_faults.as_slice())?;
-        push_json_lines(alloc, &mut lines, sources, self.document_faults.as_slice())?;
-        push_leaf_lines(alloc, &mut lines, sources, self.leaf_faults.as_slice())?;
-        Ok(lines)
     }
 
     /// The answer of this output and the reports of these faults, or with `json` of the JSON of the faults
@@ -118,7 +103,7 @@ impl Findings {
     {
         if json {
             Ok(Answer {
-                output: self.json_lines(alloc)?,
+                output: self.said(alloc, Form::Json)?,
                 errors: String::new(alloc),
                 has_faults: self.any(),
             })
@@ -132,36 +117,20 @@ impl Findings {
     }
 }
 
-/// Adds the reports of leaf faults, in order, each with an empty line behind it. The error is out of memory.
-fn push_leaf_reports<S: Sources>(
+/// Adds what a form says of leaf faults, in order. The error is out of memory.
+fn push_leaves<S: Sources>(
     alloc: Global,
-    reports: &mut String,
+    text: &mut String,
+    form: Form,
     sources: &S,
     faults: &[LeafFault],
 ) -> Result<(), AllocError>
     ensures { OnOk result
-        (Adds (SaysEach (IsLeafReport (S.files sources.now)) faults.now) (string_bytes reports.old)
-        (string_bytes reports.new)) }
+        (Adds (SaysEach (IsLeafSaid form (S.files sources.now)) faults.now) (string_bytes text.old)
+        (string_bytes text.new)) }
 {
     for fault in faults {
-        push_report(alloc, reports, sources, fault.location, fault)?;
-    }
-    Ok(())
-}
-
-/// Adds the JSON of leaf faults, one a line, in order. The error is out of memory.
-fn push_leaf_lines<S: Sources>(
-    alloc: Global,
-    lines: &mut String,
-    sources: &S,
-    faults: &[LeafFault],
-) -> Result<(), AllocError>
-    ensures { OnOk result
-        (Adds (SaysEach (IsLeafLine (S.files sources.now)) faults.now) (string_bytes lines.old)
-        (string_bytes lines.new)) }
-{
-    for fault in faults {
-        push_json(alloc, lines, sources, fault.location, fault)?;
+        push_said(alloc, text, form, sources, fault.location, fault)?;
     }
     Ok(())
 }

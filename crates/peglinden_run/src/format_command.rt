@@ -18,7 +18,7 @@ use std::alloc::{AllocError, Global};
 /// end. With `check` it is the name of each file whose text differs from that, as [`visible`] shows it, each
 /// on a line. Such a file is at fault.
 ///
-/// `Files` comes where a file can't be read or is no document, and `Memory` where memory ran out. There
+/// `Files` comes where a file can't be read or is no document, and `Exhausted` where memory ran out. There
 /// is no other error.
 pub(crate) fn format_answer<F: Files>(
     alloc: Global,

@@ -10,7 +10,7 @@ use crate::failure::Failure;
 use crate::looked_up::found_text;
 use apollo_compiler::building::build_schema;
 use apollo_compiler::compile_options::CompileOptions;
-use apollo_coordinate::coordinates::SchemaCoordinate;
+use apollo_coordinate::SchemaCoordinate;
 use apollo_coordinate::lookup_answers::SchemaLookupError;
 use graphql_nodes::collections::hash_keys::HashKeys;
 use program_io::files::Files;
@@ -21,8 +21,8 @@ use std::alloc::{AllocError, Global};
 /// and is reported. What is at fault in the schema is passed over.
 ///
 /// `NoCoordinate` comes for a text that is no coordinate, before a file is read. `Files` comes where a file
-/// can't be read or is no document. `ExtensionIds` comes only where the numbers don't suffice for the
-/// extensions. `Memory` comes where memory ran out. There is no other error.
+/// can't be read or is no document. `Exhausted` comes where memory ran out, or where the numbers don't
+/// suffice for the extensions. There is no other error.
 pub(crate) fn lookup_answer<F: Files>(
     alloc: Global,
     keys: HashKeys,

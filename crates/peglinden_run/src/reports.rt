@@ -2,7 +2,7 @@
 ghost use Rattle.std.specs.Prelude.{◌≡◌, ◌++◌, ◌∷◌, [], IfOk, OnOk, Some, string_bytes};
 ghost use Rattle.apollo_reporting.specs.TextErrors.{parse_error_about};
 ghost use Rattle.peglinden_run.specs.RefusedFiles.{IsUnreadReport, unread_text};
-ghost use Rattle.peglinden_run.specs.Reports.{Adds, IsJsonLine, IsReport, SaysEach, count_line};
+ghost use Rattle.peglinden_run.specs.Reports.{Adds, IsFaultSaid, IsFormText, IsReport, SaysEach, count_line};
 
 use apollo_reporting::counts::faults_line;
 use apollo_reporting::fault_json::to_json;
@@ -16,6 +16,15 @@ use graphql_nodes::visible_text::visible;
 use graphql_text::parse_error::ParseError;
 use program_io::file_error::FileError;
 use std::alloc::{AllocError, Global};
+
+/// A form in which faults are said.
+#[derive(Clone, Copy)]
+pub(crate) enum Form {
+    /// For people: a report, and an empty line.
+    Words,
+    /// A line of JSON.
+    Json,
+}
 
 /// The report that the file of this path isn't read, with the words of the system, and an empty line. The
 /// error is out of memory.
@@ -60,37 +69,56 @@ pub(crate) fn parse_report(
     Ok(report)
 }
 
-/// Adds the report of a fault, and an empty line. The error is out of memory.
-#[tactic(auto, using(crate::proofs::ReportLemmas::report_added))]
-pub(crate) fn push_report<S: Sources, E: Reported>(
+/// What a form says of a fault, without the line end behind it. The error is out of memory.
+fn said_text<S: Sources, E: Reported>(
     alloc: Global,
-    reports: &mut String,
+    form: Form,
+    sources: &S,
+    location: Option<SourceSpan>,
+    fault: &E,
+) -> Result<String, AllocError>
+    ensures { IfOk result (λ text.
+        IsFormText form E.output E.said_about E.said_details (S.files sources.now) location fault.now
+        (string_bytes text)) }
+{
+    match form {
+        Form::Words => report_text(alloc, sources, location, fault),
+        Form::Json => to_json(alloc, sources, location, fault),
+    }
+}
+
+/// Adds what a form says of a fault. The error is out of memory.
+pub(crate) fn push_said<S: Sources, E: Reported>(
+    alloc: Global,
+    text: &mut String,
+    form: Form,
     sources: &S,
     location: Option<SourceSpan>,
     fault: &E,
 ) -> Result<(), AllocError>
     ensures { OnOk result
-        (Adds (IsReport (S.files sources.now) location (E.said_about fault.now)) (string_bytes reports.old)
-        (string_bytes reports.new)) }
+        (Adds (IsFaultSaid form (S.files sources.now) location (E.said_about fault.now)
+        (E.said_details fault.now)) (string_bytes text.old) (string_bytes text.new)) }
 {
-    let report = report_text(alloc, sources, location, fault)?;
-    reports.push_str(report.as_str())?;
-    reports.push_str("\n")
+    text.push_str(said_text(alloc, form, sources, location, fault)?.as_str())?;
+    text.push_str("\n")
 }
 
-/// Adds the reports of faults, in order, each with an empty line behind it. The error is out of memory.
-pub(crate) fn push_reports<S: Sources, E: Reported>(
+/// Adds what a form says of faults, in order. The error is out of memory.
+pub(crate) fn push_each<S: Sources, E: Reported>(
     alloc: Global,
-    reports: &mut String,
+    text: &mut String,
+    form: Form,
     sources: &S,
     faults: &[(Option<SourceSpan>, E)],
 ) -> Result<(), AllocError>
     ensures { OnOk result
-        (Adds (SaysEach (λ fault. IsReport (S.files sources.now) fault.0 (E.said_about fault.1)) faults.now)
-        (string_bytes reports.old) (string_bytes reports.new)) }
+        (Adds (SaysEach (λ fault.
+        IsFaultSaid form (S.files sources.now) fault.0 (E.said_about fault.1) (E.said_details fault.1))
+        faults.now) (string_bytes text.old) (string_bytes text.new)) }
 {
     for fault in faults {
-        push_report(alloc, reports, sources, fault.0, &fault.1)?;
+        push_said(alloc, text, form, sources, fault.0, &fault.1)?;
     }
     Ok(())
 }
@@ -108,39 +136,4 @@ pub(crate) fn push_count(
     }
     reports.push_str(faults_line(count).to_string(alloc)?.as_str())?;
     reports.push_str("\n")
-}
-
-/// Adds the JSON of a fault, as a line. The error is out of memory.
-#[tactic(auto, using(crate::proofs::ReportLemmas::json_added))]
-pub(crate) fn push_json<S: Sources, E: Reported>(
-    alloc: Global,
-    lines: &mut String,
-    sources: &S,
-    location: Option<SourceSpan>,
-    fault: &E,
-) -> Result<(), AllocError>
-    ensures { OnOk result
-        (Adds (IsJsonLine (S.files sources.now) location (E.said_about fault.now)
-        (E.said_details fault.now)) (string_bytes lines.old) (string_bytes lines.new)) }
-{
-    lines.push_str(to_json(alloc, sources, location, fault)?.as_str())?;
-    lines.push_str("\n")
-}
-
-/// Adds the JSON of faults, one a line, in order. The error is out of memory.
-pub(crate) fn push_json_lines<S: Sources, E: Reported>(
-    alloc: Global,
-    lines: &mut String,
-    sources: &S,
-    faults: &[(Option<SourceSpan>, E)],
-) -> Result<(), AllocError>
-    ensures { OnOk result
-        (Adds (SaysEach (λ fault.
-        IsJsonLine (S.files sources.now) fault.0 (E.said_about fault.1) (E.said_details fault.1)) faults.now)
-        (string_bytes lines.old) (string_bytes lines.new)) }
-{
-    for fault in faults {
-        push_json(alloc, lines, sources, fault.0, &fault.1)?;
-    }
-    Ok(())
 }

@@ -10,6 +10,7 @@ use crate::answer::Answer;
 use crate::answering::answer_to;
 use crate::failure::Failure;
 use crate::naming::names_input;
+use apollo_compiler::compile_error::CompileError;
 use graphql_nodes::collections::hash_keys::HashKeys;
 use graphql_nodes::visible_text::visible;
 use peglinden_words::command_line::read_words;
@@ -58,7 +59,9 @@ pub fn run<F: Files, R: Input, O: Write, E: Write>(
         Ok(request) => run_request(alloc, keys, &request, files, reader, output, errors),
         Err(WordsError::Help(text)) => end_with_help(text.as_str(), output, errors),
         Err(WordsError::Usage(text)) => end_with_usage(text.as_str(), errors),
-        Err(WordsError::Memory) => end_with_failure(&Failure::Memory, errors),
+        Err(WordsError::Memory) => {
+            end_with_failure(&Failure::Exhausted(CompileError::Memory), errors)
+        }
     }
 }
 

@@ -22,8 +22,8 @@ use std::alloc::{AllocError, Global};
 /// The answer of `schema` with these options to files. It is the write-out of the schema of their documents,
 /// as text, or with `json` the JSON of its faults in place of that.
 ///
-/// `Files` comes where a file can't be read or is no document. `ExtensionIds` comes only where the numbers
-/// don't suffice for the extensions. `Memory` comes where memory ran out. There is no other error.
+/// `Files` comes where a file can't be read or is no document. `Exhausted` comes where memory ran out, or
+/// where the numbers don't suffice for the extensions. There is no other error.
 pub(crate) fn schema_answer<F: Files>(
     alloc: Global,
     keys: HashKeys,

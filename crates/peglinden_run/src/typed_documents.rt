@@ -28,9 +28,8 @@ pub(crate) struct TypedDocument {
 /// Definitions of the type system in the documents are at fault. The files of the schema are numbered
 /// from 1, and the others after them.
 ///
-/// `Files` comes where a file of either sort can't be read or is no document. `ExtensionIds` comes only where
-/// the numbers don't suffice for the extensions of the schema. `Memory` comes where memory ran out. There is
-/// no other error.
+/// `Files` comes where a file of either sort can't be read or is no document. `Exhausted` comes where memory
+/// ran out, or where the numbers don't suffice for the extensions of the schema. There is no other error.
 pub(crate) fn type_documents<F: Files>(
     alloc: Global,
     keys: HashKeys,

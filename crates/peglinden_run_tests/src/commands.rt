@@ -1,7 +1,7 @@
 //! Each command, where nothing is at fault and where something is.
 
-use crate::rows::{Row, expect_all};
-use program_io::status::Status;
+use crate::rows::{expect_done, expect_faults, expect_refused};
+use std::test::Fail;
 
 /// The field that isn't there, and the one that is left without selections.
 const MISSING_FIELD: &str = "error: type `Book` does not have a field `pages`
@@ -40,182 +40,120 @@ note: first defined here
 1 fault
 ";
 
-static WITHOUT_FAULT: [Row; 4] = [
-    Row {
-        words: &["schema", "store.graphql"],
-        output: "type Query {\n  book: Book\n}\n\ntype Book {\n  title: String\n}\n",
-        errors: "",
-        status: Status::Done,
-    },
-    Row {
-        words: &["check", "--schema", "store.graphql", "page.graphql"],
-        output: "",
-        errors: "",
-        status: Status::Done,
-    },
-    Row {
-        words: &["typed", "--schema", "store.graphql", "page.graphql"],
-        output: "query Page {\n  book {\n    title\n  }\n}\n",
-        errors: "",
-        status: Status::Done,
-    },
-    Row {
-        words: &["fields", "--schema", "store.graphql", "page.graphql"],
-        output: "query Page\n  Query.book 1\n  Book.title 1\n",
-        errors: "",
-        status: Status::Done,
-    },
-];
+/// The schema of `store.graphql`, in our layout.
+const STORE: &str = "type Query {\n  book: Book\n}\n\ntype Book {\n  title: String\n}\n";
 
 #[test]
-fn commands_without_a_fault(rt: HostRuntime) {
-    expect_all(&rt, &WITHOUT_FAULT);
-}
-
-static WITH_A_FAULT: [Row; 4] = [
-    Row {
-        words: &["schema", "twice.graphql"],
-        output: "type Book {\n  title: String\n}\n",
-        errors: SECOND_BOOK,
-        status: Status::Faults,
-    },
-    Row {
-        words: &["check", "--schema", "store.graphql", "faulty.graphql"],
-        output: "",
-        errors: MISSING_FIELD,
-        status: Status::Faults,
-    },
-    Row {
-        words: &[
-            "check",
-            "--json",
-            "--schema",
-            "store.graphql",
-            "faulty.graphql",
+fn commands_without_a_fault(rt: HostRuntime) -> Result<(), Fail> {
+    let page = "query Page {\n  book {\n    title\n  }\n}\n";
+    let fields = "query Page\n  Query.book 1\n  Book.title 1\n";
+    expect_done(
+        &rt,
+        &[
+            ("schema store.graphql", STORE),
+            ("check --schema store.graphql page.graphql", ""),
+            ("typed --schema store.graphql page.graphql", page),
+            ("fields --schema store.graphql page.graphql", fields),
         ],
-        output: MISSING_FIELD_JSON,
-        errors: "",
-        status: Status::Faults,
-    },
-    Row {
-        words: &["fields", "--schema", "store.graphql", "faulty.graphql"],
-        output: "query Page\n  Query.book 1\n",
-        errors: MISSING_FIELD,
-        status: Status::Faults,
-    },
-];
-
-#[test]
-fn commands_with_a_fault(rt: HostRuntime) {
-    expect_all(&rt, &WITH_A_FAULT);
+    )
 }
 
-static FOUND: [Row; 6] = [
-    Row {
-        words: &["lookup", "Book.title", "store.graphql"],
-        output: "# store.graphql:6:3\ntitle: String\n",
-        errors: "",
-        status: Status::Done,
-    },
-    Row {
-        words: &["lookup", "Money", "parts.graphql"],
-        output: "# parts.graphql:8:1\nenum Money {\n  EURO\n}\n",
-        errors: "",
-        status: Status::Done,
-    },
-    Row {
-        words: &["lookup", "Book.price", "parts.graphql"],
-        output: "# parts.graphql:4:3\n\"\"\"What it costs.\"\"\"\nprice(in: Money = EURO): Int\n",
-        errors: "",
-        status: Status::Done,
-    },
-    Row {
-        words: &["lookup", "Place.shelf", "parts.graphql"],
-        output: "# parts.graphql:13:3\nshelf: Int = 1\n",
-        errors: "",
-        status: Status::Done,
-    },
-    Row {
-        words: &["lookup", "@shown(where:)", "parts.graphql"],
-        output: "# parts.graphql:1:18\nwhere: Place\n",
-        errors: "",
-        status: Status::Done,
-    },
-    Row {
-        words: &["lookup", "@skip", "parts.graphql"],
-        output: "# built-in\ndirective @skip(if: Boolean!) on FIELD | FRAGMENT_SPREAD | INLINE_FRAGMENT\n",
-        errors: "",
-        status: Status::Done,
-    },
-];
+#[test]
+fn commands_with_a_fault(rt: HostRuntime) -> Result<(), Fail> {
+    let first_book = "type Book {\n  title: String\n}\n";
+    expect_faults(
+        &rt,
+        &[
+            ("schema twice.graphql", first_book, SECOND_BOOK),
+            (
+                "check --schema store.graphql faulty.graphql",
+                "",
+                MISSING_FIELD,
+            ),
+            (
+                "check --json --schema store.graphql faulty.graphql",
+                MISSING_FIELD_JSON,
+                "",
+            ),
+            (
+                "fields --schema store.graphql faulty.graphql",
+                "query Page\n  Query.book 1\n",
+                MISSING_FIELD,
+            ),
+        ],
+    )
+}
 
 #[test]
-fn what_a_coordinate_points_to(rt: HostRuntime) {
-    expect_all(&rt, &FOUND);
+fn what_a_coordinate_points_to(rt: HostRuntime) -> Result<(), Fail> {
+    expect_done(
+        &rt,
+        &[
+            (
+                "lookup Book.title store.graphql",
+                "# store.graphql:6:3\ntitle: String\n",
+            ),
+            (
+                "lookup Money parts.graphql",
+                "# parts.graphql:8:1\nenum Money {\n  EURO\n}\n",
+            ),
+            (
+                "lookup Book.price parts.graphql",
+                "# parts.graphql:4:3\n\"\"\"What it costs.\"\"\"\nprice(in: Money = EURO): Int\n",
+            ),
+            (
+                "lookup Place.shelf parts.graphql",
+                "# parts.graphql:13:3\nshelf: Int = 1\n",
+            ),
+            (
+                "lookup @shown(where:) parts.graphql",
+                "# parts.graphql:1:18\nwhere: Place\n",
+            ),
+            (
+                "lookup @skip parts.graphql",
+                "# built-in\ndirective @skip(if: Boolean!) on FIELD | FRAGMENT_SPREAD | INLINE_FRAGMENT\n",
+            ),
+        ],
+    )
 }
 
 /// What is at fault in the schema is nothing to `lookup`; what points to nothing is.
-static LOOKUPS: [Row; 3] = [
-    Row {
-        words: &["lookup", "Book.title", "twice.graphql"],
-        output: "# twice.graphql:1:13\ntitle: String\n",
-        errors: "",
-        status: Status::Done,
-    },
-    Row {
-        words: &["lookup", "Book.price", "twice.graphql"],
-        output: "",
-        errors: "error: `Book.price` points to nothing: type does not have attribute `price`\n",
-        status: Status::Faults,
-    },
-    Row {
-        words: &["lookup", "Book.", "store.graphql"],
-        output: "",
-        errors: "error: `Book.` is not a schema coordinate, as `Type`, `Type.field`, `Type.field(argument:)`, `@directive` or `@directive(argument:)` are\n",
-        status: Status::Refused,
-    },
-];
-
 #[test]
-fn lookups_are_at_fault_where_nothing_is_found(rt: HostRuntime) {
-    expect_all(&rt, &LOOKUPS);
+fn lookups_are_at_fault_where_nothing_is_found(rt: HostRuntime) -> Result<(), Fail> {
+    let title = "# twice.graphql:1:13\ntitle: String\n";
+    expect_done(&rt, &[("lookup Book.title twice.graphql", title)])?;
+    let missing = "error: `Book.price` points to nothing: type does not have attribute `price`\n";
+    expect_faults(&rt, &[("lookup Book.price twice.graphql", "", missing)])?;
+    let refused =
+        "error: `Book.` is not a schema coordinate, as `Type`, `Type.field`, `Type.field(argument:)`, `@directive` or `@directive(argument:)` are\n";
+    expect_refused(&rt, &[("lookup Book. store.graphql", refused)])
 }
 
-/// A text that has the layout, and one that hasn't.
-static FORMATS: [Row; 5] = [
-    Row {
-        words: &["format", "store.graphql"],
-        output: "type Query {\n  book: Book\n}\n\ntype Book {\n  title: String\n}\n",
-        errors: "",
-        status: Status::Done,
-    },
-    Row {
-        words: &["format", "twice.graphql"],
-        output: "type Book {\n  title: String\n}\n\ntype Book {\n  price: Int\n}\n",
-        errors: "",
-        status: Status::Done,
-    },
-    Row {
-        words: &["format", "--check", "store.graphql", "page.graphql"],
-        output: "",
-        errors: "",
-        status: Status::Done,
-    },
-    Row {
-        words: &["format", "--check", "store.graphql", "twice.graphql"],
-        output: "twice.graphql\n",
-        errors: "",
-        status: Status::Faults,
-    },
-    Row {
-        words: &["format", "--check", "\x1b[31m.graphql"],
-        output: "\u{fffd}[31m.graphql\n",
-        errors: "",
-        status: Status::Faults,
-    },
-];
-
+/// Texts that have the layout, and texts that haven't.
 #[test]
-fn files_are_formatted(rt: HostRuntime) {
-    expect_all(&rt, &FORMATS);
+fn files_are_formatted(rt: HostRuntime) -> Result<(), Fail> {
+    let books = "type Book {\n  title: String\n}\n\ntype Book {\n  price: Int\n}\n";
+    expect_done(
+        &rt,
+        &[
+            ("format store.graphql", STORE),
+            ("format twice.graphql", books),
+            ("format --check store.graphql page.graphql", ""),
+        ],
+    )?;
+    expect_faults(
+        &rt,
+        &[
+            (
+                "format --check store.graphql twice.graphql",
+                "twice.graphql\n",
+                "",
+            ),
+            (
+                "format --check \x1b[31m.graphql",
+                "\u{fffd}[31m.graphql\n",
+                "",
+            ),
+        ],
+    )
 }

@@ -1,32 +1,10 @@
 //! Files that are refused, and files of strange texts.
 
-use crate::rows::{Row, expect_all};
-use program_io::status::Status;
+use crate::rows::{expect_done, expect_faults, expect_refused};
+use std::test::Fail;
 
-/// Each file that is refused is reported, wherever it stands among the others.
-static REFUSED: [Row; 4] = [
-    Row {
-        words: &["schema", "nowhere.graphql"],
-        output: "",
-        errors: "error: cannot read `nowhere.graphql`: entity not found\n\n1 fault\n",
-        status: Status::Refused,
-    },
-    Row {
-        words: &["schema", "first.graphql", "store.graphql", "last.graphql"],
-        output: "",
-        errors: "error: cannot read `first.graphql`: entity not found\n\nerror: cannot read `last.graphql`: entity not found\n\n2 faults\n",
-        status: Status::Refused,
-    },
-    Row {
-        words: &["format", "bytes.graphql"],
-        output: "",
-        errors: "error: cannot read `bytes.graphql`: not UTF-8\n\n1 fault\n",
-        status: Status::Refused,
-    },
-    Row {
-        words: &["check", "--schema", "broken.graphql", "nowhere.graphql"],
-        output: "",
-        errors: "error: expected a type, found `}`
+/// A file that isn't there, beside one whose text is refused.
+const BROKEN_AND_MISSING: &str = "error: expected a type, found `}`
   --> broken.graphql:2:9
    |
  2 |   book: }
@@ -35,68 +13,65 @@ static REFUSED: [Row; 4] = [
 error: cannot read `nowhere.graphql`: entity not found
 
 2 faults
-",
-        status: Status::Refused,
-    },
-];
+";
 
+/// Each file that is refused is reported, wherever it stands among the others.
 #[test]
-fn each_refused_file_is_reported(rt: HostRuntime) {
-    expect_all(&rt, &REFUSED);
+fn each_refused_file_is_reported(rt: HostRuntime) -> Result<(), Fail> {
+    expect_refused(
+        &rt,
+        &[
+            (
+                "schema nowhere.graphql",
+                "error: cannot read `nowhere.graphql`: entity not found\n\n1 fault\n",
+            ),
+            (
+                "schema first.graphql store.graphql last.graphql",
+                "error: cannot read `first.graphql`: entity not found\n\nerror: cannot read `last.graphql`: entity not found\n\n2 faults\n",
+            ),
+            (
+                "format bytes.graphql",
+                "error: cannot read `bytes.graphql`: not UTF-8\n\n1 fault\n",
+            ),
+            (
+                "check --schema broken.graphql nowhere.graphql",
+                BROKEN_AND_MISSING,
+            ),
+        ],
+    )
 }
 
-/// An empty file is no document, a last line needs no end, and lines end in any way.
-static TEXTS: [Row; 4] = [
-    Row {
-        words: &["format", "empty.graphql"],
-        output: "",
-        errors: "error: expected a definition, found the end of the text
+/// Of an empty file.
+const NO_DEFINITION: &str = "error: expected a definition, found the end of the text
   --> empty.graphql:1:1
    |
  1 | 
    | ^
 
 1 fault
-",
-        status: Status::Refused,
-    },
-    Row {
-        words: &["format", "open.graphql"],
-        output: "scalar Date\n",
-        errors: "",
-        status: Status::Done,
-    },
-    Row {
-        words: &["format", "--check", "open.graphql", "lines.graphql"],
-        output: "open.graphql\nlines.graphql\n",
-        errors: "",
-        status: Status::Faults,
-    },
-    Row {
-        words: &["schema", "lines.graphql"],
-        output: "type Query {\n  a: Int\n}\n",
-        errors: "",
-        status: Status::Done,
-    },
-];
+";
 
+/// An empty file is no document, a last line needs no end, and lines end in any way.
 #[test]
-fn strange_texts(rt: HostRuntime) {
-    expect_all(&rt, &TEXTS);
+fn strange_texts(rt: HostRuntime) -> Result<(), Fail> {
+    expect_refused(&rt, &[("format empty.graphql", NO_DEFINITION)])?;
+    let query = "type Query {\n  a: Int\n}\n";
+    expect_done(
+        &rt,
+        &[
+            ("format open.graphql", "scalar Date\n"),
+            ("schema lines.graphql", query),
+        ],
+    )?;
+    let changed = "open.graphql\nlines.graphql\n";
+    expect_faults(
+        &rt,
+        &[("format --check open.graphql lines.graphql", changed, "")],
+    )
 }
 
-/// The same file twice stands twice.
-static TWICE: [Row; 2] = [
-    Row {
-        words: &["format", "open.graphql", "open.graphql"],
-        output: "scalar Date\nscalar Date\n",
-        errors: "",
-        status: Status::Done,
-    },
-    Row {
-        words: &["schema", "open.graphql", "open.graphql"],
-        output: "scalar Date\n",
-        errors: "error: the type `Date` is defined multiple times in the schema
+/// Of a schema whose only file is named twice.
+const SECOND_DATE: &str = "error: the type `Date` is defined multiple times in the schema
   --> open.graphql:1:8
    |
  1 | scalar Date
@@ -108,12 +83,19 @@ note: first defined here
    |        ^^^^
 
 1 fault
-",
-        status: Status::Faults,
-    },
-];
+";
 
+/// The same file twice stands twice.
 #[test]
-fn a_file_twice(rt: HostRuntime) {
-    expect_all(&rt, &TWICE);
+fn a_file_twice(rt: HostRuntime) -> Result<(), Fail> {
+    let twice = "scalar Date\nscalar Date\n";
+    expect_done(&rt, &[("format open.graphql open.graphql", twice)])?;
+    expect_faults(
+        &rt,
+        &[(
+            "schema open.graphql open.graphql",
+            "scalar Date\n",
+            SECOND_DATE,
+        )],
+    )
 }

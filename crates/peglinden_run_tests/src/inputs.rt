@@ -1,28 +1,15 @@
 //! Standard input among the files.
 
-use crate::rows::{FILES, Row, ended, expect};
+use crate::rows::{FILES, ended, expect};
 use graphql_nodes::collections::hash_keys::HashKeys;
 use peglinden_run::running::run;
 use program_io::in_memory::FilesInMemory;
 use program_io::status::Status;
 use std::io::{self, Error, ErrorKind, Read};
+use std::test::Fail;
 
-/// Standard input is a document, or is refused as a file is.
-static ROWS: [(Row, &[u8]); 4] = [
-    (
-        Row {
-            words: &["fields", "--schema", "store.graphql", "-"],
-            output: "query\n  Query.book 1\n  Book.title 1\n",
-            errors: "",
-            status: Status::Done,
-        },
-        b"{ book { title } }",
-    ),
-    (
-        Row {
-            words: &["format", "-", "nowhere.graphql"],
-            output: "",
-            errors: "error: expected a definition, found `}`
+/// A document that isn't, beside a file that isn't there.
+const NO_DOCUMENTS: &str = "error: expected a definition, found `}`
   --> -:1:1
    |
  1 | }
@@ -31,36 +18,35 @@ static ROWS: [(Row, &[u8]); 4] = [
 error: cannot read `nowhere.graphql`: entity not found
 
 2 faults
-",
-            status: Status::Refused,
-        },
-        b"}",
-    ),
-    (
-        Row {
-            words: &["format", "-"],
-            output: "",
-            errors: "error: cannot read `-`: not UTF-8\n\n1 fault\n",
-            status: Status::Refused,
-        },
-        b"\xff",
-    ),
-    (
-        Row {
-            words: &["format", "open.graphql"],
-            output: "scalar Date\n",
-            errors: "",
-            status: Status::Done,
-        },
-        b"}",
-    ),
-];
+";
 
+/// Standard input is a document where it is named, or is refused as a file is.
 #[test]
-fn standard_input_is_a_file(rt: HostRuntime) {
-    for row in &ROWS {
-        expect(&rt, &row.0, row.1);
+fn standard_input_is_a_file(rt: HostRuntime) -> Result<(), Fail> {
+    let fields = "query\n  Query.book 1\n  Book.title 1\n";
+    let not_text = "error: cannot read `-`: not UTF-8\n\n1 fault\n";
+    let rows: [(&str, &[u8], (Status, &str, &str)); 4] = [
+        (
+            "fields --schema store.graphql -",
+            b"{ book { title } }",
+            (Status::Done, fields, ""),
+        ),
+        (
+            "format - nowhere.graphql",
+            b"}",
+            (Status::Refused, "", NO_DOCUMENTS),
+        ),
+        ("format -", b"\xff", (Status::Refused, "", not_text)),
+        (
+            "format open.graphql",
+            b"}",
+            (Status::Done, "scalar Date\n", ""),
+        ),
+    ];
+    for (words, input, outcome) in rows {
+        expect(&rt, words, input, outcome)?;
     }
+    Ok(())
 }
 
 /// Standard input is named once: twice is a mistake in the words.

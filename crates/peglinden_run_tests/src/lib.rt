@@ -1,5 +1,5 @@
-//! Tests of the run of `peglinden`, over files and standard input in memory. Each row is what a run is on,
-//! what it writes on both streams, and how it ends.
+//! Tests of the run of `peglinden`, over files and standard input in memory: what a run on these words writes
+//! on both streams, and how it ends.
 //!
 //! What stands here serves tests: calls have no clause.
 #![tactic(auto)]

@@ -1,5 +1,5 @@
-//! Rows of runs. What a run promises stands in its contract. Here nothing is promised, so that no test
-//! carries it along.
+//! What runs are expected to do. What a run promises stands in its contract. Here nothing is promised, so
+//! that no test carries it along.
 
 use graphql_nodes::collections::hash_keys::HashKeys;
 use peglinden_run::running::run;
@@ -9,17 +9,9 @@ use program_io::status::Status;
 use std::alloc::Global;
 use std::io::Write;
 use std::process::Abort;
+use std::test::Fail;
 
-/// A run, what it writes on both streams, and how it ends.
-#[derive(Clone, Copy)]
-pub struct Row {
-    pub words: &'static [&'static str],
-    pub output: &'static str,
-    pub errors: &'static str,
-    pub status: Status,
-}
-
-/// The files of the rows: a schema and documents over it, one with a fault, and a schema with one. Also texts
+/// The files of the runs: a schema and documents over it, one with a fault, and a schema with one. Also texts
 /// of every sort, one of them in a file whose name has a control character.
 pub static FILES: [(&str, &[u8]); 11] = [
     ("store.graphql", STORE),
@@ -99,19 +91,52 @@ pub fn ended<O: Write, E: Write>(
     )
 }
 
-/// Expects of a row on this input what it says.
-pub fn expect(rt: &(impl Abort + AllocGlobal), row: &Row, input: &[u8]) {
+/// Expects a run on these words, with a blank between two, to end so, to write this and to say that.
+pub fn expect(
+    rt: &(impl Abort + AllocGlobal),
+    words: &str,
+    input: &[u8],
+    outcome: (Status, &str, &str),
+) -> Result<(), Fail> {
+    let words: Vec<&str> = words.split(' ').collect(rt.alloc())?;
     let mut output = Vec::new(rt.alloc());
     let mut errors = Vec::new(rt.alloc());
-    let status = ended(rt.alloc(), row.words, input, &mut output, &mut errors);
-    assert_eq!(rt; errors.as_slice(), row.errors.as_bytes());
-    assert_eq!(rt; output.as_slice(), row.output.as_bytes());
-    assert_eq!(rt; status, row.status);
+    let status = ended(
+        rt.alloc(),
+        words.as_slice(),
+        input,
+        &mut output,
+        &mut errors,
+    );
+    assert_eq!(rt; errors.as_slice(), outcome.2.as_bytes());
+    assert_eq!(rt; output.as_slice(), outcome.1.as_bytes());
+    assert_eq!(rt; status, outcome.0);
+    Ok(())
 }
 
-/// Expects of each row, without an input, what it says.
-pub fn expect_all(rt: &(impl Abort + AllocGlobal), rows: &[Row]) {
-    for row in rows {
-        expect(rt, row, b"");
+/// Expects runs on these words to write this, with nothing at fault.
+pub fn expect_done(rt: &(impl Abort + AllocGlobal), rows: &[(&str, &str)]) -> Result<(), Fail> {
+    for (words, output) in rows {
+        expect(rt, *words, b"", (Status::Done, *output, ""))?;
     }
+    Ok(())
+}
+
+/// Expects runs on these words to write this and to say that, with something at fault.
+pub fn expect_faults(
+    rt: &(impl Abort + AllocGlobal),
+    rows: &[(&str, &str, &str)],
+) -> Result<(), Fail> {
+    for (words, output, errors) in rows {
+        expect(rt, *words, b"", (Status::Faults, *output, *errors))?;
+    }
+    Ok(())
+}
+
+/// Expects runs on these words to be refused, and to say this.
+pub fn expect_refused(rt: &(impl Abort + AllocGlobal), rows: &[(&str, &str)]) -> Result<(), Fail> {
+    for (words, errors) in rows {
+        expect(rt, *words, b"", (Status::Refused, "", *errors))?;
+    }
+    Ok(())
 }

@@ -1,5 +1,6 @@
 //! Failures that no row can bring about, and the texts of failed readings.
 
+use apollo_compiler::CompileError;
 use bench_notation::refusal::{ReadError, Reason, RefusedLine};
 use gqltool_run::failure::Failure;
 use program_io::status::Status;
@@ -7,7 +8,7 @@ use std::test::Fail;
 
 #[test]
 fn spent_identities_and_refused_readings(rt: HostRuntime) -> Result<(), Fail> {
-    let spent = Failure::ExtensionIds;
+    let spent = Failure::Exhausted(CompileError::ExtensionIds);
     let refused = ReadError::Refused(RefusedLine {
         number: 3,
         reason: Reason::BadWord,

@@ -1,7 +1,7 @@
 //! Words, names, nodes, and the containers of trees. Of an option and a list what is there is written, and
 //! nothing around it.
 
-use crate::Tell;
+use crate::{Tell, Told};
 use graphql_nodes::collections::items::Items;
 use graphql_nodes::collections::key_set::KeySet;
 use graphql_nodes::collections::shared::Shared;
@@ -11,12 +11,11 @@ use graphql_nodes::node::Node;
 use graphql_nodes::node_str::NodeStr;
 use graphql_nodes::source::{FileId, SourceFile, SourceSpan};
 use likeness::push_location;
-use std::alloc::AllocError;
 use std::hash::Hash;
 
 /// A word is written as it is, without a space behind it.
 impl Tell for &str {
-    fn tell(&self, text: &mut String) -> Result<(), AllocError> {
+    fn tell(&self, text: &mut String) -> Told {
         text.push_str(*self)
     }
 }
@@ -26,42 +25,42 @@ impl Tell for &str {
 pub struct At(pub Option<SourceSpan>);
 
 impl Tell for At {
-    fn tell(&self, text: &mut String) -> Result<(), AllocError> {
+    fn tell(&self, text: &mut String) -> Told {
         push_location(text, self.0)
     }
 }
 
 /// A name, and where it stands.
 impl Tell for Name {
-    fn tell(&self, text: &mut String) -> Result<(), AllocError> {
+    fn tell(&self, text: &mut String) -> Told {
         tell!(text; self.as_str(), " ", At(self.location()))
     }
 }
 
 /// A description, in quotes, and where it stands.
 impl Tell for NodeStr {
-    fn tell(&self, text: &mut String) -> Result<(), AllocError> {
+    fn tell(&self, text: &mut String) -> Told {
         write!(text, "{self:?} ")?;
         push_location(text, self.location())
     }
 }
 
 impl Tell for FileId {
-    fn tell(&self, text: &mut String) -> Result<(), AllocError> {
+    fn tell(&self, text: &mut String) -> Told {
         let number = self.0;
         write!(text, "file {number} ")
     }
 }
 
 impl Tell for SourceFile {
-    fn tell(&self, text: &mut String) -> Result<(), AllocError> {
+    fn tell(&self, text: &mut String) -> Told {
         let (path, said) = (&self.path, &self.text);
         write!(text, "{path:?} {said:?}\n")
     }
 }
 
 impl<T: Tell> Tell for Option<T> {
-    fn tell(&self, text: &mut String) -> Result<(), AllocError> {
+    fn tell(&self, text: &mut String) -> Told {
         match self {
             Some(value) => value.tell(text),
             None => Ok(()),
@@ -71,19 +70,19 @@ impl<T: Tell> Tell for Option<T> {
 
 /// Where a node stands, and what it holds.
 impl<T: Tell> Tell for Node<T> {
-    fn tell(&self, text: &mut String) -> Result<(), AllocError> {
+    fn tell(&self, text: &mut String) -> Told {
         tell!(text; At(self.location()), **self)
     }
 }
 
 impl<T: Tell> Tell for Shared<T> {
-    fn tell(&self, text: &mut String) -> Result<(), AllocError> {
+    fn tell(&self, text: &mut String) -> Told {
         (**self).tell(text)
     }
 }
 
 impl<T: Tell> Tell for &[T] {
-    fn tell(&self, text: &mut String) -> Result<(), AllocError> {
+    fn tell(&self, text: &mut String) -> Told {
         for value in *self {
             value.tell(text)?;
         }
@@ -93,7 +92,7 @@ impl<T: Tell> Tell for &[T] {
 
 /// Tells each value of a list. A slice in a variable goes to this function, since a method would lend the
 /// variable.
-pub fn tell_all<T: Tell>(values: &[T], text: &mut String) -> Result<(), AllocError> {
+pub fn tell_all<T: Tell>(values: &[T], text: &mut String) -> Told {
     for value in values {
         value.tell(text)?;
     }
@@ -101,7 +100,7 @@ pub fn tell_all<T: Tell>(values: &[T], text: &mut String) -> Result<(), AllocErr
 }
 
 /// Tells a list in brackets, where it isn't empty.
-pub fn tell_enclosed<T: Tell>(values: &[T], text: &mut String) -> Result<(), AllocError> {
+pub fn tell_enclosed<T: Tell>(values: &[T], text: &mut String) -> Told {
     if values.is_empty() {
         return Ok(());
     }
@@ -111,13 +110,13 @@ pub fn tell_enclosed<T: Tell>(values: &[T], text: &mut String) -> Result<(), All
 }
 
 impl<T: Tell> Tell for Vec<T> {
-    fn tell(&self, text: &mut String) -> Result<(), AllocError> {
+    fn tell(&self, text: &mut String) -> Told {
         self.as_slice().tell(text)
     }
 }
 
 impl<T: Tell> Tell for Items<T> {
-    fn tell(&self, text: &mut String) -> Result<(), AllocError> {
+    fn tell(&self, text: &mut String) -> Told {
         for value in self {
             value.tell(text)?;
         }
@@ -126,14 +125,14 @@ impl<T: Tell> Tell for Items<T> {
 }
 
 impl<T: Tell + Eq + Hash> Tell for KeySet<T> {
-    fn tell(&self, text: &mut String) -> Result<(), AllocError> {
+    fn tell(&self, text: &mut String) -> Told {
         self.as_slice().tell(text)
     }
 }
 
 /// Each key, and then its value.
 impl<K: Tell + Eq + Hash, V: Tell> Tell for Table<K, V> {
-    fn tell(&self, text: &mut String) -> Result<(), AllocError> {
+    fn tell(&self, text: &mut String) -> Told {
         for (key, value) in self.iter() {
             key.tell(text)?;
             value.tell(text)?;
@@ -147,7 +146,7 @@ impl<K: Tell + Eq + Hash, V: Tell> Tell for Table<K, V> {
 pub struct Enclosed<'a, T>(pub &'a Items<T>);
 
 impl<'a, T: Tell> Tell for Enclosed<'a, T> {
-    fn tell(&self, text: &mut String) -> Result<(), AllocError> {
+    fn tell(&self, text: &mut String) -> Told {
         tell_enclosed(self.0.as_slice(), text)
     }
 }

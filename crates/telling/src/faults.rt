@@ -1,16 +1,15 @@
 //! Faults, a line for each: where it is, its text, and what it holds that the text doesn't say, locations and
 //! paths.
 
-use crate::Tell;
 use crate::containers::At;
+use crate::{Tell, Told};
 use apollo_document::build_error::BuildError as DocumentError;
 use apollo_document::selection_path::SelectionPath;
 use apollo_meaning::build_error::BuildError as SchemaError;
 use graphql_nodes::source::SourceSpan;
-use std::alloc::AllocError;
 
 impl Tell for SchemaError {
-    fn tell(&self, text: &mut String) -> Result<(), AllocError> {
+    fn tell(&self, text: &mut String) -> Told {
         write!(text, "{self}")?;
         match self {
             SchemaError::ExecutableDefinition { .. }
@@ -68,13 +67,13 @@ impl Tell for SchemaError {
 }
 
 impl Tell for SelectionPath {
-    fn tell(&self, text: &mut String) -> Result<(), AllocError> {
+    fn tell(&self, text: &mut String) -> Told {
         write!(text, "({self})")
     }
 }
 
 impl Tell for DocumentError {
-    fn tell(&self, text: &mut String) -> Result<(), AllocError> {
+    fn tell(&self, text: &mut String) -> Told {
         write!(text, "{self}")?;
         match self {
             DocumentError::TypeSystemDefinition { name: None, .. }
@@ -110,7 +109,7 @@ impl Tell for DocumentError {
 
 /// A fault: where it is, and the error.
 impl<E: Tell> Tell for (Option<SourceSpan>, E) {
-    fn tell(&self, text: &mut String) -> Result<(), AllocError> {
+    fn tell(&self, text: &mut String) -> Told {
         tell!(text; At(self.0), self.1, "\n")
     }
 }

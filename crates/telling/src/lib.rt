@@ -9,9 +9,10 @@ use std::alloc::AllocError;
 
 /// Tells the parts one after the other.
 macro_rules! tell {
-    ($text:expr; $($part:expr),* $(,)?) => {{
-        $($part.tell($text)?;)*
-        Ok::<(), AllocError>(())
+    ($text:expr; $part:expr) => { $part.tell($text) };
+    ($text:expr; $part:expr, $($more:expr),+) => {{
+        $part.tell($text)?;
+        tell!($text; $($more),+)
     }};
 }
 
@@ -24,9 +25,12 @@ pub mod syntax;
 pub mod typed;
 pub mod walks;
 
+/// What comes of telling. The error is out of memory, which is asked for nothing but the text: where that has
+/// room, none is.
+pub type Told = Result<(), AllocError>;
+
 /// A value that is written in full.
 pub trait Tell {
-    /// Adds all of it. The error is out of memory, which is asked for nothing but the text: where that has
-    /// room, none is.
-    fn tell(&self, text: &mut String) -> Result<(), AllocError>;
+    /// Adds all of it.
+    fn tell(&self, text: &mut String) -> Told;
 }

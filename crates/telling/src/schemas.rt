@@ -1,7 +1,7 @@
 //! Types and schemas. Of what is built in, only what isn't as in every schema is written in full.
 
-use crate::Tell;
 use crate::containers::At;
+use crate::{Tell, Told};
 use apollo_component::component::ComponentName;
 use apollo_schema::implementers::Implementers;
 use apollo_schema::schema::Schema;
@@ -14,48 +14,47 @@ use apollo_types::object_type::ObjectType;
 use apollo_types::scalar_type::ScalarType;
 use apollo_types::schema_definition::SchemaDefinition;
 use apollo_types::union_type::UnionType;
-use std::alloc::AllocError;
 
 impl Tell for ScalarType {
-    fn tell(&self, text: &mut String) -> Result<(), AllocError> {
+    fn tell(&self, text: &mut String) -> Told {
         tell!(text; "scalar ", self.description, self.name, "\n", self.directives)
     }
 }
 
 impl Tell for ObjectType {
-    fn tell(&self, text: &mut String) -> Result<(), AllocError> {
+    fn tell(&self, text: &mut String) -> Told {
         tell!(text; "object ", self.description, self.name, "\n", self.directives)?;
         tell!(text; self.implements_interfaces, self.fields)
     }
 }
 
 impl Tell for InterfaceType {
-    fn tell(&self, text: &mut String) -> Result<(), AllocError> {
+    fn tell(&self, text: &mut String) -> Told {
         tell!(text; "interface ", self.description, self.name, "\n", self.directives)?;
         tell!(text; self.implements_interfaces, self.fields)
     }
 }
 
 impl Tell for UnionType {
-    fn tell(&self, text: &mut String) -> Result<(), AllocError> {
+    fn tell(&self, text: &mut String) -> Told {
         tell!(text; "union ", self.description, self.name, "\n", self.directives, self.members)
     }
 }
 
 impl Tell for EnumType {
-    fn tell(&self, text: &mut String) -> Result<(), AllocError> {
+    fn tell(&self, text: &mut String) -> Told {
         tell!(text; "enum ", self.description, self.name, "\n", self.directives, self.values)
     }
 }
 
 impl Tell for InputObjectType {
-    fn tell(&self, text: &mut String) -> Result<(), AllocError> {
+    fn tell(&self, text: &mut String) -> Told {
         tell!(text; "input ", self.description, self.name, "\n", self.directives, self.fields)
     }
 }
 
 impl Tell for ExtendedType {
-    fn tell(&self, text: &mut String) -> Result<(), AllocError> {
+    fn tell(&self, text: &mut String) -> Told {
         match self {
             ExtendedType::Scalar(node) => node.tell(text),
             ExtendedType::Object(node) => node.tell(text),
@@ -67,11 +66,7 @@ impl Tell for ExtendedType {
     }
 }
 
-fn push_root(
-    text: &mut String,
-    word: &str,
-    root: &Option<ComponentName>,
-) -> Result<(), AllocError> {
+fn push_root(text: &mut String, word: &str, root: &Option<ComponentName>) -> Told {
     match root {
         Some(root) => tell!(text; word, root),
         None => Ok(()),
@@ -79,7 +74,7 @@ fn push_root(
 }
 
 impl Tell for SchemaDefinition {
-    fn tell(&self, text: &mut String) -> Result<(), AllocError> {
+    fn tell(&self, text: &mut String) -> Told {
         tell!(text; "schema ", self.description, "\n", self.directives)?;
         push_root(text, "query ", &self.query)?;
         push_root(text, "mutation ", &self.mutation)?;
@@ -89,7 +84,7 @@ impl Tell for SchemaDefinition {
 
 /// The names of object types, and of interface types.
 impl Tell for Implementers {
-    fn tell(&self, text: &mut String) -> Result<(), AllocError> {
+    fn tell(&self, text: &mut String) -> Told {
         tell!(text; "by ", self.objects, "and ", self.interfaces, "\n")
     }
 }
@@ -103,7 +98,7 @@ fn is_plain(ty: &ExtendedType) -> bool {
 }
 
 /// Adds the directive definitions and types: all of them, or those alone that aren't as in every schema.
-fn push_definitions(text: &mut String, schema: &Schema, all: bool) -> Result<(), AllocError> {
+fn push_definitions(text: &mut String, schema: &Schema, all: bool) -> Told {
     for (key, node) in schema.directive_definitions.iter() {
         if !node.is_built_in() {
             tell!(text; key, node)?;
@@ -124,13 +119,13 @@ fn push_definitions(text: &mut String, schema: &Schema, all: bool) -> Result<(),
 }
 
 /// Adds what a schema has that isn't as in every schema.
-pub fn push_own(text: &mut String, schema: &Schema) -> Result<(), AllocError> {
+pub fn push_own(text: &mut String, schema: &Schema) -> Told {
     tell!(text; schema.sources, schema.schema_definition)?;
     push_definitions(text, schema, false)
 }
 
 impl Tell for Schema {
-    fn tell(&self, text: &mut String) -> Result<(), AllocError> {
+    fn tell(&self, text: &mut String) -> Told {
         tell!(text; self.sources, self.schema_definition)?;
         push_definitions(text, self, true)
     }

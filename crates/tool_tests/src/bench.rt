@@ -119,112 +119,132 @@ sel 0 field zz
 /// GraphQL text of both sorts.
 const TEXT: &str = "type Query { a: Int }\n\n{ a }\n";
 
-/// The word of a work, the options of a build and a number, an input, and the report, as lines and as
-/// objects.
-const REPORTS: [(&str, &[&str], &str, &str, &str); 8] = [
-    (
-        "schema",
-        &["3"],
-        INPUT,
-        "\
-15 types, 2 definitions out, 1 faults, equal when rebuilt
+/// The phases of the work on a schema, as lines and as objects.
+const SCHEMA_PHASES: &str = "\
 schema-build   min            7 median            7 mean            7 ns
 to_ast         min            7 median            7 mean            7 ns
 rebuild+eq     min            7 median            7 mean            7 ns
 drop           min            7 median            7 mean            7 ns
-",
-        "\
-{\"types\":15,\"definitions_out\":2,\"faults\":1,\"equal_when_rebuilt\":true}
+";
+
+const SCHEMA_PHASES_IN_JSON: &str = "\
 {\"phase\":\"schema-build\",\"least\":7,\"median\":7,\"mean\":7}
 {\"phase\":\"to_ast\",\"least\":7,\"median\":7,\"mean\":7}
 {\"phase\":\"rebuild+eq\",\"least\":7,\"median\":7,\"mean\":7}
 {\"phase\":\"drop\",\"least\":7,\"median\":7,\"mean\":7}
-",
+";
+
+/// The word of a work, the options of a build and a number, an input, and the parts of the report, as lines
+/// and as objects.
+const REPORTS: [(&str, &[&str], &str, &[&str], &[&str]); 8] = [
+    (
+        "schema",
+        &["3"],
+        INPUT,
+        &[
+            "15 types, 2 definitions out, 1 faults, equal when rebuilt\n",
+            SCHEMA_PHASES,
+        ],
+        &[
+            "{\"types\":15,\"definitions_out\":2,\"faults\":1,\"equal_when_rebuilt\":true}\n",
+            SCHEMA_PHASES_IN_JSON,
+        ],
     ),
     (
         "schema",
         &["--adopt", "+1"],
         INPUT,
-        "\
-16 types, 4 definitions out, 0 faults, equal when rebuilt
-schema-build   min            7 median            7 mean            7 ns
-to_ast         min            7 median            7 mean            7 ns
-rebuild+eq     min            7 median            7 mean            7 ns
-drop           min            7 median            7 mean            7 ns
-",
-        "\
-{\"types\":16,\"definitions_out\":4,\"faults\":0,\"equal_when_rebuilt\":true}
-{\"phase\":\"schema-build\",\"least\":7,\"median\":7,\"mean\":7}
-{\"phase\":\"to_ast\",\"least\":7,\"median\":7,\"mean\":7}
-{\"phase\":\"rebuild+eq\",\"least\":7,\"median\":7,\"mean\":7}
-{\"phase\":\"drop\",\"least\":7,\"median\":7,\"mean\":7}
-",
+        &[
+            "16 types, 4 definitions out, 0 faults, equal when rebuilt\n",
+            SCHEMA_PHASES,
+        ],
+        &[
+            "{\"types\":16,\"definitions_out\":4,\"faults\":0,\"equal_when_rebuilt\":true}\n",
+            SCHEMA_PHASES_IN_JSON,
+        ],
     ),
     (
         "lookups",
         &["--ignore-builtin", "2"],
         INPUT,
-        "\
+        &[
+            "\
 38 calls of type_field, 38 found, 39 calls of is_subtype, 2 true
 type_field     min            7 median            7 mean            7 ns
 is_subtype     min            7 median            7 mean            7 ns
 ",
-        "\
+        ],
+        &[
+            "\
 {\"type_field_calls\":38,\"type_field_found\":38,\"is_subtype_calls\":39,\"is_subtype_true\":2}
 {\"phase\":\"type_field\",\"least\":7,\"median\":7,\"mean\":7}
 {\"phase\":\"is_subtype\",\"least\":7,\"median\":7,\"mean\":7}
 ",
+        ],
     ),
     (
         "doc",
         &["2"],
         DIVIDED,
-        "\
+        &[
+            "\
 1 operations, 2 fragments, 3 faults
 doc-build      min            7 median            7 mean            7 ns
 doc-to_ast     min            7 median            7 mean            7 ns
 drop           min            7 median            7 mean            7 ns
 ",
-        "\
+        ],
+        &[
+            "\
 {\"operations\":1,\"fragments\":2,\"faults\":3}
 {\"phase\":\"doc-build\",\"least\":7,\"median\":7,\"mean\":7}
 {\"phase\":\"doc-to_ast\",\"least\":7,\"median\":7,\"mean\":7}
 {\"phase\":\"drop\",\"least\":7,\"median\":7,\"mean\":7}
 ",
+        ],
     ),
     (
         "walk",
         &["--adopt", "3"],
         DIVIDED,
-        "\
+        &[
+            "\
 1 operations, 2 fragments, 4 root fields, 8 fields in all
 root-walks     min            7 median            7 mean            7 ns
 all-walks      min            7 median            7 mean            7 ns
 ",
-        "\
+        ],
+        &[
+            "\
 {\"operations\":1,\"fragments\":2,\"root_fields\":4,\"all_fields\":8}
 {\"phase\":\"root-walks\",\"least\":7,\"median\":7,\"mean\":7}
 {\"phase\":\"all-walks\",\"least\":7,\"median\":7,\"mean\":7}
 ",
+        ],
     ),
     (
         "leaf",
         &["--ignore-builtin", "2"],
         DIVIDED,
-        "\
+        &[
+            "\
 1 operations, 2 fragments, 1 leaf faults
 leaf_faults    min            7 median            7 mean            7 ns
 ",
-        "\
+        ],
+        &[
+            "\
 {\"operations\":1,\"fragments\":2,\"leaf_faults\":1}
 {\"phase\":\"leaf_faults\",\"least\":7,\"median\":7,\"mean\":7}
 ",
+        ],
     ),
     (
         "compile",
         &["--adopt", "2"],
         DIVIDED,
-        "\
+        &[
+            "\
 14 types, 1 definitions out, 0 faults; 1 operations, 2 fragments, 3 faults
 compile        min            7 median            7 mean            7 ns
 all-phases     min           91 median           91 mean           91 ns
@@ -236,7 +256,9 @@ doc-build      min            7 median            7 mean            7 ns
 doc-to_ast     min            7 median            7 mean            7 ns
 drop           min            7 median            7 mean            7 ns
 ",
-        "\
+        ],
+        &[
+            "\
 {\"types\":14,\"definitions_out\":1,\"schema_faults\":0,\"operations\":1,\"fragments\":2,\"document_faults\":3}
 {\"phase\":\"compile\",\"least\":7,\"median\":7,\"mean\":7}
 {\"phase\":\"all-phases\",\"least\":91,\"median\":91,\"mean\":91}
@@ -248,12 +270,14 @@ drop           min            7 median            7 mean            7 ns
 {\"phase\":\"doc-to_ast\",\"least\":7,\"median\":7,\"mean\":7}
 {\"phase\":\"drop\",\"least\":7,\"median\":7,\"mean\":7}
 ",
+        ],
     ),
     (
         "text",
         &["2"],
         TEXT,
-        "\
+        &[
+            "\
 29 bytes, 2 definitions, 32 bytes written
 parse          min            7 median            7 mean            7 ns
 print          min            7 median            7 mean            7 ns
@@ -261,7 +285,9 @@ drop           min            7 median            7 mean            7 ns
 4142857142 bytes read a second
 4571428571 bytes written a second
 ",
-        "\
+        ],
+        &[
+            "\
 {\"bytes\":29,\"definitions\":2,\"bytes_written\":32}
 {\"phase\":\"parse\",\"least\":7,\"median\":7,\"mean\":7}
 {\"phase\":\"print\",\"least\":7,\"median\":7,\"mean\":7}
@@ -269,19 +295,24 @@ drop           min            7 median            7 mean            7 ns
 {\"bytes_read_per_second\":4142857142}
 {\"bytes_written_per_second\":4571428571}
 ",
+        ],
     ),
 ];
 
-/// Expects a run on these words to write this, over a system that gives no random bytes. It expects the same
-/// with `--random-keys` between them, over a system that does.
+/// Expects a run on these words to write these parts, over a system that gives no random bytes. It expects
+/// the same with `--random-keys` between them, over a system that does.
 fn expect_report<'a>(
     rt: &(impl Abort + AllocGlobal),
     before: &[&'a str],
     behind: &[&'a str],
     input: &str,
-    output: &str,
+    parts: &[&str],
 ) -> Result<(), Fail> {
-    let outcome = (Status::Done, output, "");
+    let mut output = String::new(rt.alloc());
+    for part in parts {
+        output.push_str(*part)?;
+    }
+    let outcome = (Status::Done, output.as_str(), "");
     let mut words = before.to_vec(rt.alloc())?;
     words.extend_from_slice(behind)?;
     let fixed = system_of(Some(7), None, None);

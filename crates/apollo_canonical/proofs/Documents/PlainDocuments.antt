@@ -10,7 +10,8 @@ use canonical.Prelude.{erased_definitions, erased_fragment, erased_operation, ke
 use canonical.Prelude.{kept_named, lookup, map, map-append, map-map, operation_over, option_map, plain_name}
 use canonical.Prelude.{root_or_none, stripped_fragment, stripped_operation, sym, typed_fragment}
 use canonical.Prelude.{typed_operation, unwrap_or, values_of, ◌++◌, ◌∙◌, ◌≡◌}
-use canonical.Documents.Lists.{alike-made, alike-map, lookup-bare, map-listed, one-listed}
+use canonical.Documents.Seen.{lookup-bare, map-listed, one-listed}
+use Rattle.apollo_component.proofs.Lists.Seen.{alike-made, alike-map}
 use canonical.Documents.PlainErasure.{set-erased_alike, set-typed_alike}
 use canonical.Documents.PlainKept.{Frag, Op, bare_frag, bare_op, kept-anonymous, kept-fragments, kept-named}
 use canonical.Documents.PlainSelections.{alike_sets}

@@ -9,7 +9,8 @@ use canonical.Prelude.{is_some-map, kept_anonymous, kept_fragments, kept_named, 
 use canonical.Prelude.{map-map, operation_in, operation_under_name, operations, option_map, same_key}
 use canonical.Prelude.{same_text, sym, ◌∙◌, ◌≡◌}
 use canonical.Documents.AlikeTypable.{type-there}
-use canonical.Documents.Lists.{after_first-map, chosen-map}
+use canonical.Documents.Seen.{after_first-map}
+use Rattle.apollo_component.proofs.Lists.Seen.{chosen-map}
 use Rattle.apollo_canonical.specs.EqualDocuments.{bare_item}
 
 abbrev pub Op : Type 0

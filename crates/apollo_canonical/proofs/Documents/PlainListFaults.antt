@@ -15,7 +15,7 @@ use Rattle.apollo_document.specs.declared.selection_path.ExecutableDefinitionNam
 use Rattle.apollo_document.specs.declared.selection_path.ExecutableDefinitionName.TheVariants.{NamedOperation}
 use Rattle.apollo_canonical.proofs.Schemas.Carried.{each_after-carried}
 use Rattle.apollo_canonical.proofs.Documents.AlikeTypable.{said}
-use Rattle.apollo_canonical.proofs.Documents.Lists.{key-bare}
+use Rattle.apollo_canonical.proofs.Documents.Seen.{key-bare}
 use Rattle.apollo_canonical.proofs.Documents.PlainFaults.{faults-plain}
 use Rattle.apollo_canonical.proofs.Documents.PlainKept.{Frag, Op, bare_frag, bare_op, kept-anonymous}
 use Rattle.apollo_canonical.proofs.Documents.PlainKept.{kept-fragments, kept-named, on-plain, repeated}

@@ -12,7 +12,7 @@ use canonical.Documents.PlainSyntax.{selection-bare as syntax-bare}
 use canonical.Documents.AlikeTypable.{AreOneDefinition, AreOneName, field-judged, fragment-judged}
 use canonical.Documents.AlikeTypable.{typed-alike}
 use canonical.Documents.Induction.{field, inline, of_selections, spread}
-use canonical.Documents.Lists.{map-cons_option}
+use Rattle.apollo_component.proofs.Lists.Seen.{map-cons_option}
 use canonical.Documents.TypedLevels.{Layer, field-bare, inline-bare, selection-bare, set-bare}
 use Rattle.graphql_ast.specs.BareSelections as syntax
 use Rattle.graphql_ast.specs.declared.selection.Selection as ast

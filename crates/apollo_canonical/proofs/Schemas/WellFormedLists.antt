@@ -6,9 +6,9 @@ use canonical.Prelude.{filter_map, first_of_each, first_of_each-distinct, flat_m
 use canonical.Prelude.{last_or, list_all, list_any, name_laws, option_or, same_text, slice_get, subst, sym}
 use canonical.Prelude.{true, true≢false, values_of, ℕ, ◌∷◌, ◌≡◌}
 use Rattle.graphql_nodes.specs.Tables.{lookup}
-pub use Rattle.apollo_schema_laws.proofs.Lists.Kept.{each-flat_map, each-flat_map_back as each-from_flat_map}
-pub use Rattle.apollo_schema_laws.proofs.Lists.Kept.{each-from_map, each-map, each-of, each-split}
-pub use Rattle.apollo_schema_laws.proofs.Lists.Kept.{flat_map-none, if-found, map-empty, passes}
+pub use Rattle.apollo_component.proofs.Lists.Kept.{each-flat_map, each-flat_map_back as each-from_flat_map}
+pub use Rattle.apollo_component.proofs.Lists.Kept.{each-from_map, each-map, each-of, each-split}
+pub use Rattle.apollo_component.proofs.Lists.Kept.{flat_map-none, if-found, map-empty, passes}
 
 module _ {X : Type 0} (P : X → Type 0) where
   -- what passes a test is among all

@@ -8,7 +8,7 @@ use meaning.Prelude.{append-nil, each_after, with_adopted, first_schema, filter,
 use meaning.Prelude.{adopted, found_at, or-none, roots_in, map, list_any, option_or, TypePart, completed}
 use meaning.Prelude.{same-true, flat_map, extended_part, extensions_of, schema_orphan, adopted_part, Defined}
 use meaning.Prelude.{orphans_of, adopted_by, bool_cases, SchemaPart, schema_for}
-use meaning.Lists.{flat_map-none, nothing}
+use Rattle.apollo_component.proofs.Lists.Kept.{flat_map-none, nothing}
 use meaning.Items.ItemLemmas.{first-append}
 use meaning.Types.TypeLemmas.{Own, Own-named}
 use meaning.Faults.FoundLemmas.{found_after-order, found_in-order}
@@ -90,7 +90,7 @@ module _ (xs : List ListItem) where
 
   pub orphan_names-adopted : orphan_names (xs ++ adopted xs) ≡ []
   orphan_names-adopted = (λ i. flat_map (λ n. first_name (adopted-orphans_of n i))
-      (extended_names (xs ++ adopted xs))) ∙ flat_map-none (extended_names (xs ++ adopted xs))
+      (extended_names (xs ++ adopted xs))) ∙ flat_map-none _ (λ n. refl) (extended_names (xs ++ adopted xs))
 
 -- an implied schema definition defines no type
 implied-untyped : (adopts : Bool) (o : Option SchemaPart) (named implicit : List Root) (n : List ℕ)

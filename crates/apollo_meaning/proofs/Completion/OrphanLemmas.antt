@@ -8,7 +8,7 @@ use meaning.Prelude.{Definition, first_of_each, first_of_each-push_new, first_of
 use meaning.Prelude.{snoc_ind, TypePart, key_of, ListItem, Extended, extended_part, items_of, extended_parts}
 use meaning.Prelude.{items_held, first, extended_names, orphans_of, adopted_by, adopted, waited_at, waited}
 use meaning.Prelude.{same-true, cons_option, bool_cases, slice_get, list_any-first_of_each, filter_map-made}
-use meaning.Lists.{any-given}
+use Rattle.apollo_component.proofs.Lists.Kept.{any-given}
 use meaning.Items.ItemLemmas.{first-append, waited-push}
 use Rattle.std.specs.List.{IsDistinct}
 use Rattle.std.specs.Map.{values_of}

@@ -10,7 +10,7 @@ use meaning.Prelude.{Collection, collisions, first_place, if◌then◌else◌, T
 use meaning.Prelude.{joined_faults, schemas, find-made, same_text, collision, SchemaPart, said-later}
 use meaning.Prelude.{entry_laws, append-nil, schema_extensions, dropped_component, dropped_from_type}
 use meaning.Prelude.{part_faults, collision_at, append_assoc, component_in, what_is_held}
-use meaning.Lists.{find-among}
+use Rattle.apollo_component.proofs.Lists.Kept.{find-among}
 use meaning.Faults.FoundLemmas.{schema_faults_with-joining}
 use Rattle.std.proofs.lemmas.List.{length-map}
 use Rattle.graphql_nodes.specs.OperationTexts.{operation_text}

@@ -11,7 +11,7 @@ use meaning.Prelude.{filter_map-append, extension_places, find-made, placed_by, 
 use meaning.Prelude.{each_after, SchemaPart, lookup-append, length-append, option_map_or, filter-append}
 use meaning.Prelude.{or-none, Option, filter, lookup, Family, schemas, Placed, ne_eqb, met_when, ap, ◌∙◌, max}
 use meaning.Prelude.{bool_cases}
-use meaning.Lists.{flat_map-filter, flat_map-none, nothing}
+use Rattle.apollo_component.proofs.Lists.Kept.{flat_map-filter, flat_map-none, nothing}
 use Rattle.std.specs.Option.{IfSome}
 use Rattle.std.proofs.lemmas.List.{take-append-le}
 use Rattle.apollo_component.proofs.Lists.Each.{each-append, filter-map}
@@ -239,7 +239,7 @@ module _ {P Y : Type 0} (f : Family P) (say : P → List ListItem → List ℕ �
     said-undefined : f.defined x ≡ None
         → said_when ys (length xs) ≡ flat_map (said_then ys (length xs)) (at_place (length xs) (f.extended x))
     said-undefined undefined = said-parts _ _ (λ e low. told-before e low ∙ ap (λ o. told o e) undefined
-        ∙ nothing _) ∙ rw flat_map-none
+        ∙ nothing _) ∙ rw (flat_map-none {Y = Y} (λ _. []) (λ e. refl) (extension_places f xs))
 
     pub said-other : f.defined x ≡ None → f.extended x ≡ None → said_when ys (length xs) ≡ []
     said-other undefined unextended = said-undefined undefined ∙ rw unextended
@@ -280,4 +280,4 @@ module _ {P Y : Type 0} (f : Family P) (say : P → List ListItem → List ℕ �
             ≡ option_map_or (λ _. []) o (flat_map (λ e. say d (take e.0 xs) (f.key d) e.1)
             (filter (λ e. same (f.key d) (f.key e.1)) (extension_places f xs)))
         by None = sym (flat_map-filter _ _ (extension_places f xs))
-        by (Some z) = flat_map-none (extension_places f xs)
+        by (Some z) = flat_map-none _ (λ e. refl) (extension_places f xs)

@@ -8,7 +8,7 @@ use Rattle.apollo_meaning.proofs.Prelude.{map-append, snoc_ind, SchemaPart, sche
 use Rattle.apollo_meaning.proofs.Prelude.{filter_map-append, enumerate_from-append, schema_extension_source}
 use Rattle.apollo_meaning.proofs.Prelude.{SchemaExtended, schema_numbered, types_folded_at, filter_map-made}
 use Rattle.apollo_component.specs.declared.extension.ComponentOrigin.TheVariants as origins
-use Rattle.apollo_meaning.proofs.Lists.{map-empty}
+use Rattle.apollo_component.proofs.Lists.Kept.{map-empty}
 use Rattle.apollo_meaning.proofs.Items.ItemLemmas.{first_schema-push_definition, first_schema-push_undefined}
 use Rattle.apollo_meaning.proofs.Items.ItemLemmas.{schema_extensions-push_extension}
 use Rattle.apollo_meaning.proofs.Items.ItemLemmas.{schema_extensions-push_unextended, folded-push}

@@ -7,7 +7,7 @@ use meaning.Prelude.{kind_of, key_of, ListItem, Defined, Extended, Folding, OfTy
 use meaning.Prelude.{same, first, extensions_of, of_kind, types_folded_at, schemas_folded_at, folded_at}
 use meaning.Prelude.{folded, type_from, extension_part, numbered, extensions_with_origin, parts, same-true}
 use meaning.Prelude.{AllByRecursion, each-filter, each-weaken, filter-all, filter_map-made, filter_map-unmade}
-use meaning.Lists.{map-empty}
+use Rattle.apollo_component.proofs.Lists.Kept.{map-empty}
 use meaning.Items.ItemLemmas.{first-push_definition, extensions_with_origin-append, first-push_undefined}
 use meaning.Items.ItemLemmas.{extensions_of-push_unextended, folded-push, extensions_of-push_extension}
 use Rattle.std.proofs.lemmas.List.Elements.{filter_passes, recursion_from_All}

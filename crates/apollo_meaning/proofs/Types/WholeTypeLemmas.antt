@@ -5,7 +5,7 @@ use meaning.Prelude.{◌≡◌, Bool, true, false, cond, ◌&&◌, List, [], ◌
 use meaning.Prelude.{ap, ◌∙◌, arith, filter_map, flat_map, each_after, each_after-start, TypePart, kind_of}
 use meaning.Prelude.{key_of, same_kind, ListItem, extended_part, same, extensions_of, of_kind, types, Placed}
 use meaning.Prelude.{extension_places, first_place, Fault, part_faults, same-true, is_folded, joined_faults}
-use meaning.Lists.{flat_map-filter}
+use Rattle.apollo_component.proofs.Lists.Kept.{flat_map-filter}
 use meaning.Order.PlaceLemmas.{placed-after}
 use Rattle.apollo_meaning.specs.Faults.ListFaults.{faults_of_extension, found_of_type}
 

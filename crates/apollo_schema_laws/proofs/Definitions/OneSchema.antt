@@ -14,8 +14,8 @@ pub use laws.Words.{bare_component, bare_component_name, extension_location, Com
 pub use laws.Words.{bare_schema_definition, SchemaPart, root_in, roots_of, schema_definition_of}
 pub use laws.Words.{schema_directives_of, schema_extension_source, placed}
 use laws.Words.{IsDistinct, Definition}
-pub use laws.Lists.{in_order, in_order-map, each-both, shown, each-flat_map_back, each-from_map, each-made}
-pub use laws.Lists.{each-map, option_map-twice}
+pub use laws.Words.{in_order, in_order-map, each-both, shown, each-flat_map_back, each-from_map, each-made}
+pub use laws.Words.{each-map, option_map-twice}
 pub use laws.Sections.{ids_in, ids_in-append, ids_in-sections, picked, picked-append, of_origin-sections}
 pub use laws.Sections.{parts_in, has_some, has_some-picked, written-in_order, definition-alone, each-alone}
 pub use laws.Sections.{extension-alone, marks, of-alone, parts-again, shown-joined, kept, sort-there}

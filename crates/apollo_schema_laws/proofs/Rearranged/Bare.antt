@@ -25,7 +25,7 @@ use Rattle.graphql_ast.specs.declared.definition.Definition.TheVariants as ast
 use Rattle.graphql_ast.specs.declared.parts.Parts.{Parts}
 use Rattle.apollo_schema_laws.specs.Equal.{AreEqualLists, compared}
 use Rattle.apollo_meaning.specs.Completion.ImpliedSchema.{implicit_root}
-use Rattle.apollo_schema_laws.proofs.Permutations.{map-flat_map}
+use Rattle.apollo_component.proofs.Lists.Reordered.{map-flat_map}
 
 -- of a location only whether it is marked built-in
 abbrev pub marked : Bool → Option SourceSpan

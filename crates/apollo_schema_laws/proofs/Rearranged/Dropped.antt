@@ -37,8 +37,8 @@ use Rattle.apollo_schema_laws.proofs.Subjects.{NoSubject}
 use Rattle.apollo_meaning.proofs.Completion.CompletionLemmas.{orphan_names-adopted}
 use Rattle.apollo_meaning.proofs.Items.ItemLemmas.{first_schema-push_definition}
 use Rattle.apollo_meaning.specs.Completion.OrphanNames.{first_name}
-use Rattle.apollo_schema_laws.proofs.Lists.{each-made, filter-filter}
-use Rattle.apollo_schema_laws.proofs.Permutations.{map-flat_map}
+use Rattle.apollo_component.proofs.Lists.Kept.{each-made, filter-filter}
+use Rattle.apollo_component.proofs.Lists.Reordered.{map-flat_map}
 
 module _ {P : Type 0} (f : Family P) where
   -- one more item leaves what stands before its place

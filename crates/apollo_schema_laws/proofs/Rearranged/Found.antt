@@ -27,12 +27,12 @@ use Rattle.apollo_schema_laws.proofs.Subjects.{first-agree, first_schema-agree, 
 use Rattle.apollo_schema_laws.proofs.Subjects.{NoSubject, same_subject, schema_definitions-agree}
 use Rattle.apollo_schema_laws.proofs.Subjects.{schema_extensions-agree, Subject, subject, subject_laws}
 use Rattle.apollo_schema_laws.proofs.Subjects.{subject_of_group, TheSchema, TypeNamed}
-use Rattle.apollo_schema_laws.proofs.Lists.{passes}
+use Rattle.apollo_component.proofs.Lists.Kept.{passes}
 use Rattle.apollo_schema_laws.proofs.Rearranged.Sorts.{AllNamed, extensions-named, orphans_of_schema}
 use Rattle.apollo_schema_laws.proofs.Rearranged.Sorts.{type_orphans}
 use Rattle.apollo_schema_laws.proofs.Rearranged.Regrouped.{schema-regrouped, type-regrouped}
-use Rattle.apollo_schema_laws.proofs.Permutations.{alike-permutation, exchange, filter-permutation}
-use Rattle.apollo_schema_laws.proofs.Permutations.{filter_map-permutation, flat_map-permutation}
+use Rattle.apollo_component.proofs.Lists.Reordered.{alike-permutation, exchange, filter-permutation}
+use Rattle.apollo_component.proofs.Lists.Reordered.{filter_map-permutation, flat_map-permutation}
 
 pub rearranged-refl : (xs : List ListItem) → AreRearranged xs xs
 rearranged-refl xs = record { same_definitions = IsPermutation-refl xs; in_order = λ g. refl }

@@ -27,7 +27,7 @@ use Rattle.apollo_schema_laws.specs.Reported.{Executable, FurtherDirective, Furt
 use Rattle.apollo_schema_laws.specs.Reported.{is_of_sort, OrphanOfSchema, OrphanOfType, OtherKind}
 use Rattle.apollo_schema_laws.specs.Reported.{RepeatedComponent, RepeatedRoot, same_sort, Sort, sort_of}
 use Rattle.graphql_nodes.proofs.Texts.{same-refl}
-use Rattle.apollo_schema_laws.proofs.Lists.{each-flat_map, each-made, each-of, filter-filter, passes}
+use Rattle.apollo_component.proofs.Lists.Kept.{each-flat_map, each-made, each-of, filter-filter, passes}
 use Rattle.graphql_ast.specs.declared.definition.Definition.TheVariants as ast
 use Rattle.apollo_schema_laws.proofs.Subjects.{first-is, NoSubject, same_subject, Subject, subject}
 use Rattle.apollo_schema_laws.proofs.Subjects.{subject_laws, TheSchema, TypeNamed}

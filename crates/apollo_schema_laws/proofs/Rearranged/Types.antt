@@ -22,7 +22,7 @@ use Rattle.apollo_component.specs.BareComponents.{bare_component_name}
 use Rattle.apollo_types.specs.BareTypes.{bare_extended_type, bare_schema_definition, BareSchemaDefinition}
 use Rattle.apollo_types.specs.BareTypes.{BareType}
 use Rattle.apollo_meaning.specs.Items.Parts.{held_parts}
-use Rattle.apollo_schema_laws.proofs.Permutations.{map-flat_map}
+use Rattle.apollo_component.proofs.Lists.Reordered.{map-flat_map}
 use Rattle.apollo_schema_laws.proofs.Rearranged.Bare.{bare_list, bare_part, equal-whole}
 use Rattle.apollo_schema_laws.proofs.Rearranged.Bare.{extensions-unplaced, first-unplaced}
 use Rattle.apollo_schema_laws.proofs.Rearranged.Bare.{first_schema-unplaced, of_kind-unplaced, of_type-bare}

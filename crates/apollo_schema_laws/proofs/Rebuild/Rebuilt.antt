@@ -13,7 +13,7 @@ pub use laws.Definitions.{equal-again, implied-unwritten, left-out, left-out-equ
 pub use laws.Definitions.{IsWrittenHead, extension_written, schema-again, IsMeantSchema, first_schema-append}
 pub use laws.Definitions.{meant-schema, node-of, schema_node, schema_numbers-parts, SameImplied, no-own}
 pub use laws.Definitions.{written-alike, roots_where, implied-distinct, schema-row}
-pub use laws.Lists.{distinct-filter, flat_map-none}
+pub use laws.Words.{distinct-filter, flat_map-none}
 pub use laws.Types.{schema_numbers, schema_numbers-rise, once-in_parts, once}
 pub use laws.Items.{faultless-by_topic, type-faultless, chosen-implied}
 pub use Rattle.apollo_component.proofs.Lists.EachAfter.{each_after-append}

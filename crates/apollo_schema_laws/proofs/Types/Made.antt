@@ -9,7 +9,7 @@ pub use laws.Words.{roots_of, same_operation, schema_definition_of, Sourced, com
 pub use laws.Words.{type_of_kind, as_parts, in_sections, name_of}
 pub use laws.Types.Kinds.{held, kept, sections-made, shown_in}
 pub use laws.Types.WrittenParts.{components-sections}
-pub use laws.Lists.{each-flat_map, each-map, each-of, if-found}
+pub use laws.Words.{each-flat_map, each-map, each-of, if-found}
 pub use Rattle.graphql_ast.specs.Parts.{Sort, Directives, has, sorts}
 use Rattle.graphql_ast.specs.Parts.{part_of}
 

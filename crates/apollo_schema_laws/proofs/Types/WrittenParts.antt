@@ -11,7 +11,7 @@ pub use laws.Words.{type_kind, type_name, type_location, type_description, type_
 pub use laws.Words.{ExtendedType, Scalar, Object, Interface, Defined, Extended, item_of, added, added_items}
 pub use laws.Words.{ignorable_if, ListItem, TypePart, write_held_type, TypeNamed, in_sections, type_sections}
 use laws.Words.{IsDistinct}
-pub use laws.Lists.{new_to_these, each-made, filter-alike}
+pub use laws.Words.{new_to_these, each-made, filter-alike}
 pub use laws.Sections.{of_origin-sections, parts_in}
 pub use laws.Items.{about, is_about, lookup-past, defined_names, defined_names-append}
 use Rattle.graphql_ast.specs.declared.definition.Definition.{Definition}

@@ -35,4 +35,16 @@ pub use Rattle.apollo_component.proofs.Lists.Cases.{bool_cases, find-first, find
 pub use Rattle.apollo_component.proofs.Lists.Cases.{found-passes, is_some-map, list_any-map, lookup-keyed}
 pub use Rattle.apollo_component.proofs.Lists.Cases.{option_cases}
 pub use Rattle.apollo_component.proofs.Lists.Reordered.{one-element-permutation}
-pub use Rattle.apollo_schema_laws.proofs.Permutations.{filter-permutation, map-flat_map}
+pub use Rattle.apollo_component.proofs.Lists.Reordered.{filter-permutation, map-flat_map}
+pub use Rattle.apollo_component.proofs.Lists.Kept.{all-first, both-empty, distinct-by_keys}
+pub use Rattle.apollo_component.proofs.Lists.Kept.{distinct-from_first, each-both, each-flat_map}
+pub use Rattle.apollo_component.proofs.Lists.Kept.{each-flat_map_back, each-from_map, each-made, each-map}
+pub use Rattle.apollo_component.proofs.Lists.Kept.{each-of, filter-alike, filter_map-none, filter_map-some}
+pub use Rattle.apollo_component.proofs.Lists.Kept.{flat_map-none, flat_map-nothing, found-holds}
+pub use Rattle.apollo_component.proofs.Lists.Kept.{found-permuted, grouped-few, groups, if-found}
+pub use Rattle.apollo_component.proofs.Lists.Kept.{keys-distinct, map-each, map-empty, option_map-twice}
+pub use Rattle.apollo_component.proofs.Lists.Kept.{own-group, passes, same-once}
+pub use Rattle.apollo_component.proofs.Lists.Groups.{distinct-filter, each-found, first-in_order, first-shown}
+pub use Rattle.apollo_component.proofs.Lists.Groups.{first-shown_again, first_of_each-again}
+pub use Rattle.apollo_component.proofs.Lists.Groups.{first_of_each-append, in_order, in_order-map, is_nothing}
+pub use Rattle.apollo_component.proofs.Lists.Groups.{marked, new_to-same, new_to_these, shown}

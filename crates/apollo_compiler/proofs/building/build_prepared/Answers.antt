@@ -22,9 +22,11 @@ returns-in-Ok-build c =
     let all = building_of-all c.args.options c.args.documents.now i (omega arith) c.loop-document.invariant in
     let is = subst (λ b. IsBuiltOf b c.in-Ok-build.schema) all c.in-Ok-build.ensures.built in
     record {
-      means = is.means;
-      sources = is.its_sources;
-      faults = c.new.ensures.items ∙ sym is.faultless;
+      built = record {
+        means = is.means;
+        sources = is.its_sources;
+        faults = c.new.ensures.items ∙ sym is.faultless;
+      };
       spent = λ e. cc;
     }
 
@@ -36,7 +38,10 @@ returns-in-Err-Faults c =
     let is = subst (λ b. IsFoundIn b found.partial found.errors.items) all
     (rw c.in-Err-Faults.field-0-is at c.in-Err-Faults.ensures.faults) in
     rw c.in-Err-Faults.field-0-is
-    (record { means = is.0; sources = is.1.1; faults = is.1.0.0; spent = λ e. cc })
+    (record {
+      built = record { means = is.0; sources = is.1.1; faults = is.1.0.0 };
+      spent = λ e. cc;
+    })
 
 -- what one document's definitions spend, all that are added spend
 pub returns-in-Err-ExtensionIds-clause-spent : goal.returns-in-Err-ExtensionIds-clause-spent

@@ -12,14 +12,14 @@ use Rattle.apollo_compiler.proofs.rebuilding.rebuild.Goals as goal
 pub returns-clause-means : goal.returns-clause-means
 returns-clause-means c = subst (λ (l : List Added). MeansSchema 0 true l c.in_ok-again.again)
     (schema_list-written c.from_ref.result.now c.in_ok-document.document c.args.schema.now
-    c.from_ref.ensures.value c.in_ok-document.ensures.definitions) c.in_ok-again.ensures.means
+    c.from_ref.ensures.value c.in_ok-document.ensures.definitions) c.in_ok-again.ensures.built.means
 
 pub returns-clause-sources : goal.returns-clause-sources
-returns-clause-sources c = c.in_ok-again.ensures.sources ∙ ap all_sources c.from_ref.ensures.value
+returns-clause-sources c = c.in_ok-again.ensures.built.sources ∙ ap all_sources c.from_ref.ensures.value
     ∙ ap (λ (files : Files). merged [] files) c.in_ok-document.ensures.sources
 
 pub returns-clause-faults : goal.returns-clause-faults
-returns-clause-faults c = c.in_ok-again.ensures.faults
+returns-clause-faults c = c.in_ok-again.ensures.built.faults
     ∙ ap (faults_of true) (schema_list-written c.from_ref.result.now c.in_ok-document.document
     c.args.schema.now c.from_ref.ensures.value c.in_ok-document.ensures.definitions)
 

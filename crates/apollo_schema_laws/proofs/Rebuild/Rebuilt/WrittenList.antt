@@ -16,7 +16,7 @@ use laws.Words.{IsDistinct, built_in_definitions}
 pub use laws.Types.{document_items, document_items-append, items-types}
 pub use laws.Definitions.{written_extensions, schema_extension_of, written_parts_of, made_schema, root-made}
 pub use laws.Definitions.{operations-named, schema-components, schema_sections}
-pub use laws.Lists.{each-flat_map, each-of, map-empty, distinct-from_first}
+pub use laws.Words.{each-flat_map, each-of, map-empty, distinct-from_first}
 pub use laws.Items.{directives-about, first_schema-about, is_about, schema_extensions-about, no-extensions}
 pub use laws.Items.{by_implied, items, distinct-front, new-after, none-added, none-made, items-split}
 pub use laws.Sections.{joined-values, written-keeps}

@@ -1,6 +1,6 @@
 use Rattle.apollo_meaning.specs.Faults.ListFaults.{faults_of}
 use Rattle.apollo_schema_laws.specs.Reported.{same_sort, sort_of}
-use Rattle.apollo_schema_laws.proofs.Lists.{grouped-by}
+use Rattle.apollo_component.proofs.Lists.Groups.{grouped-by}
 use Rattle.apollo_schema_laws.proofs.Rearranged.Sorts.{sort_laws}
 use Rattle.apollo_schema_laws.proofs.rearrangement.each_fault_is_of_one_sort.Goals as goal
 

@@ -2,6 +2,7 @@ use Rattle.std.proofs.Common.{◌≡◌, false, IfOk, Result, Ok, Err, string_by
 use Rattle.std.proofs.lemmas.Bool.{true≢false}
 use Rattle.std.proofs.lemmas.Result.{IfErr-weaker, IfOk-weaker}
 use Rattle.bench_notation.specs.Line.{texts_of}
+use Rattle.apollo_compiler.specs.declared.compile_error.CompileError.TheVariants as spent
 use Rattle.program_io.specs.Files.{HoldsSome}
 use Rattle.gqltool_run.specs.declared.answer.Answer.{Answer}
 use Rattle.gqltool_run.specs.declared.failure.Failure.{Failure}
@@ -61,8 +62,8 @@ returns-in-Ok-Walks-clause-causes g c =
     let held = g.R.Input.holds c.args.reader.now in
     let may_fail = g.R.Input.may_fail c.args.reader.now in
     let ready = rw c.in-Ok-Walks.field-0-is at c.in-Ok-Walks.ensures.ready in
-    IfErr-weaker c.whole_walk_answer.result (λ (failure : Failure). failure ≡ failures.Memory) (IsCauseTo
-    words held may_fail) (λ failure is. rw is (inr (tasks.Walk, (ready.0, tt))))
+    IfErr-weaker c.whole_walk_answer.result (λ (failure : Failure). failure ≡ failures.Exhausted spent.Memory)
+    (IsCauseTo words held may_fail) (λ failure is. rw is (inr (tasks.Walk, (ready.0, tt))))
     c.whole_walk_answer.ensures.memory
 
 pub returns-in-Ok-Walks-clause-usage : goal.returns-in-Ok-Walks-clause-usage

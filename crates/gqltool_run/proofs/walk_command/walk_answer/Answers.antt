@@ -27,7 +27,7 @@ returns-in_err-say_faults-2-clause-begun g c =
     let none : string_bytes c.new-text.result ≡ [] = search rules in
     let walked = rw none at c.in_ok-push_walks.ensures.said in
     let told = rw c.as_slice.ensures.value at c.in_ok-say_faults.ensures.said in
-    let cut = rw c.as_slice-2.ensures.value at c.in_err-say_faults-2.ensures.begun in
+    let cut = rw c.as_slice-faults.ensures.value at c.in_err-say_faults-2.ensures.begun in
     OnErr-always _ _ (lines-cut_in_document compiled.document compiled.schema_faults.items
     compiled.document_faults.items _ _ [] (string_bytes c.push_walks.new.text) walked _ _ told _ cut)
 
@@ -38,7 +38,7 @@ returns-clause-said g c =
     let none : string_bytes c.new-text.result ≡ [] = search rules in
     let walked = rw none at c.in_ok-push_walks.ensures.said in
     let told = rw c.as_slice.ensures.value at c.in_ok-say_faults.ensures.said in
-    let last = rw c.as_slice-2.ensures.value at c.in_ok-say_faults-2.ensures.said in
+    let last = rw c.as_slice-faults.ensures.value at c.in_ok-say_faults-2.ensures.said in
     lines-said compiled.document compiled.schema_faults.items compiled.document_faults.items
     (sent c.args.outlet.now) (sent c.push_walks.new.outlet) [] (string_bytes c.push_walks.new.text) walked
     (sent c.say_faults.new.outlet) (string_bytes c.say_faults.new.text) told

@@ -14,8 +14,8 @@ pub use laws.Words.{type_location, type_name, ExtendedType, Defined, Extended, d
 pub use laws.Words.{first, extensions_of, of_kind, TypePart, folding_order, AreTypesOf, extension_part}
 pub use laws.Words.{type_names, type_from, parts, TypeNamed}
 use laws.Words.{IsDistinct, built_in_definitions}
-pub use laws.Lists.{first_of_each-again, new_to-same, new_to_these, each-both, each-from_map, found-holds}
-pub use laws.Lists.{passes, each-found, each-made}
+pub use laws.Words.{first_of_each-again, new_to-same, new_to_these, each-both, each-from_map, found-holds}
+pub use laws.Words.{passes, each-found, each-made}
 pub use laws.Items.{built_ins, IsHandedIn, handed, handed-later, later_items, whole-split, each-entry}
 pub use laws.Items.{lookup-past, about, first-about, extensions-about, built_in_names, about-built_ins}
 pub use laws.Items.{first-built_in, first-unmarked, values-by_keys, defined_names, defined_names-append}

@@ -1,44 +1,18 @@
--- What is seen of lists, options and tables through functions of their elements.
-use Rattle.apollo_canonical.proofs.Prelude.{AllZip, Bool, List, NameView, NodeView, Option, [], after_first}
-use Rattle.apollo_canonical.proofs.Prelude.{arith, bare_entry, bare_name, bare_node, by_text, cons_option}
-use Rattle.apollo_canonical.proofs.Prelude.{filter_map, lookup, lookup_key, map, map-map, option_map, refl}
-use Rattle.apollo_canonical.proofs.Prelude.{same_text, ℕ, ◌∷◌, ◌≡◌}
-use Rattle.apollo_executable.specs.Listed.{listed}
+-- What is seen of lists through functions of their elements.
+use Rattle.std.proofs.Common.{◌≡◌, List, [], ◌∷◌, Option, map, option_map, arith, refl}
+use Rattle.std.specs.List.{AllZip, cons_option, filter_map}
+use Rattle.std.proofs.lemmas.Simd.{map-map}
 
 pub map-cons_option : {A B : Type 0} (f : A → B) (o : Option A) (xs : List A)
     → map f (cons_option o xs) ≡ cons_option (option_map f o) (map f xs)
 map-cons_option f o xs = grind arith
 
-pub map-listed : {A B : Type 0} (f : A → B) (o : Option A) → map f (listed o) ≡ listed (option_map f o)
-map-listed f o = grind arith
-
-pub one-listed : {A : Type 0} (o p : Option A) → listed o ≡ listed p → o ≡ p
-one-listed o p e = grind (arith, e)
-
--- what is chosen of each element, and what stands after the first that passes
+-- what is chosen of each element
 pub chosen-map : {X Y A B : Type 0} (v : X → Y) (f : A → B) (p : X → Option A) (q : Y → Option B)
     → ((x : X) → q (v x) ≡ option_map f (p x)) → (xs : List X)
     → filter_map q (map v xs) ≡ map f (filter_map p xs)
 chosen-map v f p q each [] = refl
 chosen-map v f p q each (x ∷ xs) = rw (each x, chosen-map v f p q each xs, map-cons_option f (p x) _)
-
-pub after_first-map : {X Y : Type 0} (p : Y → Bool) (f : X → Y) (xs : List X)
-    → after_first p (map f xs) ≡ map f (after_first (λ x. p (f x)) xs)
-after_first-map p f [] = refl
-after_first-map p f (x ∷ xs) = grind (arith, after_first-map p f xs)
-
--- what is found of tables, and under which name
-module _ {V B : Type 0} (f : V → B) where
-  pub lookup-bare : (text : List ℕ) (es : List (NameView × NodeView V))
-      → option_map (bare_node f) (lookup (by_text text) es) ≡ lookup (by_text text) (map (bare_entry f) es)
-  lookup-bare text [] = refl
-  lookup-bare text (e ∷ es) = grind (arith, lookup-bare text es)
-
-  pub key-bare : (name : NameView) (es : List (NameView × NodeView V))
-      → option_map bare_name (lookup_key (same_text name) es) ≡ lookup_key (same_text (bare_name name))
-      (map (bare_entry f) es)
-  key-bare name [] = refl
-  key-bare name (e ∷ es) = grind (arith, key-bare name es)
 
 -- a function that sees no more of an element than another does sees no more of a list
 pub alike-map : {A B C : Type 0} (f : A → B) (g : A → C) → ((a b : A) → f a ≡ f b → g a ≡ g b)

@@ -3,7 +3,7 @@ use lib.Pointwise.{pointwise}
 use Rattle.graphql_nodes.specs.NameView.{NameView}
 use Rattle.graphql_nodes.proofs.Comparisons.{names, lists}
 use Rattle.apollo_document.proofs.ErrorEquality.{roots}
-use Rattle.leafcheck.proofs.lost_subselections.begins_with.Goals as goal
+use Rattle.leafcheck.proofs.leaf_fault.begins_with.Goals as goal
 
 pub returns-then-eq : goal.returns-then-eq
 returns-then-eq c =

@@ -1,14 +1,24 @@
--- Lists: what tests keep, what is found, and groups of elements by keys that differ.
-use Rattle.apollo_schema_laws.proofs as laws
-pub use laws.Words.{◌≡◌, Bool, true, false, cond, ◌&&◌, List, [], ◌∷◌, ◌++◌, None, Option, Some, map}
-pub use laws.Words.{option_map, filter, find, refl, sym, ap, ◌∙◌, arith, not, subst, true≢false, ◌+◌, ◌≤◌}
-pub use laws.Words.{length, flat_map, length-append, filter-append, filter_passes, recursion_from_All}
-pub use laws.Words.{filter-all, find-first, one-element-permutation, map-id, each-append, filter-permutation}
-pub use laws.Words.{AllByRecursion, filter_map, list_any, IfSome, filter-fails, each-weaken, each-filter}
-pub use laws.Words.{flat_map-each, IsPermutation-refl, IsPermutation-trans, IsPermutation-append_right}
-pub use laws.Words.{IsPermutation-filter_both, IsEquivalence, IsPermutation, filter-wider, first_of_each}
-pub use laws.Words.{first_of_each-distinct, first_of_each-map}
-use laws.Words.{IsDistinct}
+-- Lists: what holds of each element, what tests keep and choose, what is found, and groups of elements by
+-- keys that differ.
+use Rattle.std.proofs.Common.{◌≡◌, Bool, true, false, cond, ◌&&◌, List, [], ◌∷◌, ◌++◌, None, Option, Some, map}
+use Rattle.std.proofs.Common.{option_map, filter, find, refl, sym, ap, ◌∙◌, arith, not, subst, true≢false, ◌+◌}
+use Rattle.std.proofs.Common.{is_some, length, length-append, map-id, slice_get, ◌≤◌}
+use Rattle.std.specs.Cmp.{IsEquivalence}
+unfoldable use Rattle.std.specs.List.{IsDistinct}
+use Rattle.std.specs.List.{flat_map, AllByRecursion, filter_map, list_any}
+use Rattle.std.specs.List.Sorted.{IsPermutation}
+use Rattle.std.specs.Option.{IfSome, option_map_or}
+use Rattle.std.proofs.lemmas.List.Elements.{filter-append, filter_passes, recursion_from_All}
+use Rattle.std.proofs.lemmas.List.Sorted.{IsPermutation-append_right, IsPermutation-filter_both}
+use Rattle.std.proofs.lemmas.List.Sorted.{IsPermutation-refl, IsPermutation-trans}
+use Rattle.apollo_component.specs.FirstOfEach.{first_of_each}
+use Rattle.apollo_component.proofs.FirstOfEachLemmas.{first_of_each-map}
+use Rattle.apollo_component.proofs.Lists.BySubject.{filter-wider}
+use Rattle.apollo_component.proofs.Lists.Cases.{find-first}
+use Rattle.apollo_component.proofs.Lists.Each.{each-append, each-filter, each-weaken, filter-fails, flat_map-each}
+use Rattle.apollo_component.proofs.Lists.Ends.{filter-all}
+use Rattle.apollo_component.proofs.Lists.Reordered.{filter-permutation, one-element-permutation}
+use Rattle.apollo_component.proofs.Tabled.{first_of_each-distinct}
 
 pub filter-filter : {X : Type 0} (p q : X → Bool) (xs : List X)
     → filter p (filter q xs) ≡ filter (λ x. q x && p x) xs
@@ -234,3 +244,25 @@ same-once same laws (j ∷ ks) d k =
     let none : same j k ≡ true → filter (λ i. same i k) ks ≡ [] = λ e. filter-fails (λ i. same j i ≡ false) _
     (λ i apart. laws.symm i k ∙ sym (laws.congr j k i e) ∙ apart) ks d.0 in
     grind (arith, none, same-once same laws ks d.1 k)
+
+-- what is added by those that pass a test
+pub flat_map-filter : {X Y : Type 0} (g : X → List Y) (t : X → Bool) (xs : List X)
+    → flat_map g (filter t xs) ≡ flat_map (λ x. cond (t x) (g x) []) xs
+flat_map-filter g t [] = refl
+flat_map-filter g t (x ∷ xs) = grind (arith, flat_map-filter g t xs)
+
+-- what is found among what is made of those that pass a test
+pub find-among : {X Y : Type 0} (p : Y → Bool) (f : X → Y) (q : X → Bool) (xs : List X)
+    → find p (map f (filter q xs)) ≡ option_map f (find (λ x. q x && p (f x)) xs)
+find-among p f q [] = refl
+find-among p f q (x ∷ xs) = grind (arith, find-among p f q xs)
+
+-- an element passes a test where those that pass add something
+pub any-given : {X : Type 0} (p : X → Bool) (xs : List X)
+    → list_any p xs ≡ is_some (slice_get (flat_map (λ x. cond (p x) (true ∷ []) []) xs) 0)
+any-given p [] = refl
+any-given p (x ∷ xs) = grind (arith, any-given p xs)
+
+-- nothing is given, whether there is something or not
+pub nothing : {X Y : Type 0} (o : Option X) → option_map_or {U = List Y} (λ _. []) o [] ≡ []
+nothing o = grind arith

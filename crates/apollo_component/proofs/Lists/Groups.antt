@@ -1,12 +1,25 @@
 -- The first of each: among joined lists, in the order in which tests take their elements, and of groups by
 -- their keys.
-pub mod Kept
-pub use Kept.*
-use Rattle.apollo_schema_laws.proofs as laws
-use laws.Words.{IsDistinct, not-true, map-map, filter-map, and_parts, map-append, list_any-append}
-use laws.Words.{filter-each, is_some, filter_agree, all-kept, slice_get, found-any, find-first_of_each}
-use laws.Words.{list_any-first_of_each, or_right}
-use Rattle.apollo_schema_laws.proofs.Rearranged.Words.{IsTest}
+use Rattle.std.proofs.Common.{◌≡◌, Bool, true, false, cond, ◌&&◌, List, [], ◌∷◌, ◌++◌, Some, map, filter, find}
+use Rattle.std.proofs.Common.{is_some, map-id, not, refl, slice_get, subst, sym, ap, ◌∙◌, arith, true≢false}
+use Rattle.std.specs.Cmp.{IsEquivalence}
+unfoldable use Rattle.std.specs.List.{IsDistinct}
+use Rattle.std.specs.List.{flat_map, AllByRecursion, list_any}
+use Rattle.std.specs.List.Sorted.{IsPermutation}
+use Rattle.std.proofs.lemmas.Bool.{and_parts, not-true, or_right}
+use Rattle.std.proofs.lemmas.List.{map-append}
+use Rattle.std.proofs.lemmas.List.Elements.{filter-append, filter_agree}
+use Rattle.std.proofs.lemmas.List.Folds.{list_any-append}
+use Rattle.std.proofs.lemmas.Simd.{map-map}
+use Rattle.apollo_component.specs.FirstOfEach.{first_of_each}
+use Rattle.apollo_component.proofs.FirstOfEachLemmas.{find-first_of_each, found-any, list_any-first_of_each}
+use Rattle.apollo_component.proofs.Lists.BySubject.{IsTest}
+use Rattle.apollo_component.proofs.Lists.Cases.{find-first}
+use Rattle.apollo_component.proofs.Lists.Each.{each-filter, each-weaken, filter-each, filter-fails, filter-map}
+use Rattle.apollo_component.proofs.Lists.Ends.{all-kept, filter-all}
+use Rattle.apollo_component.proofs.Lists.Kept.{all-first, each-from_map, each-map, filter-filter, filter-flat_map}
+use Rattle.apollo_component.proofs.Lists.Kept.{groups, own-group, passes}
+use Rattle.apollo_component.proofs.Tabled.{first_of_each-distinct}
 
 -- whether no element that fails comes before one that passes
 abbrev pub leads : List Bool → Bool

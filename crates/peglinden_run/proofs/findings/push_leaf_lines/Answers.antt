@@ -1,7 +1,0 @@
-use Rattle.peglinden_run.specs.Findings.{IsLeafLine}
-use Rattle.peglinden_run.proofs.ReportLemmas.{says-next}
-use Rattle.peglinden_run.proofs.findings.push_leaf_lines.Goals as goal
-
-pub loop-fault-preserved : goal.loop-fault-preserved
-loop-fault-preserved g c = says-next (IsLeafLine (g.S.Sources.files c.args.sources.now)) _ _ _ _ _ _
-    c.loop-fault-test.true c.fault-item.is c.loop-fault.invariant c.in_ok-push_json.ensures

@@ -1,8 +1,0 @@
-use Rattle.peglinden_run.specs.Reports.{IsReport}
-use Rattle.peglinden_run.proofs.ReportLemmas.{says-next}
-use Rattle.peglinden_run.proofs.reports.push_reports.Goals as goal
-
-pub loop-fault-preserved : goal.loop-fault-preserved
-loop-fault-preserved g c = says-next (λ fault. IsReport (g.S.Sources.files c.args.sources.now) fault.0
-    (g.E.Reported.said_about fault.1)) _ _ _ _ _ _ c.loop-fault-test.true c.fault-item.is
-    c.loop-fault.invariant c.in_ok-push_report.ensures

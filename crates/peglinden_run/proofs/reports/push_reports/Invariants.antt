@@ -1,8 +1,0 @@
-use Rattle.std.proofs.Common.{string_bytes, take}
-use Rattle.peglinden_run.specs.Reports.{Adds, IsReport, SaysEach}
-use Rattle.peglinden_run.proofs.reports.push_reports.Given as goal
-
-abbrev pub invariant-loop-fault : goal.invariant-loop-fault
-invariant-loop-fault g l =
-    Adds (SaysEach (λ fault. IsReport (g.S.Sources.files l.sources) fault.0 (g.E.Reported.said_about fault.1))
-    (take l.fault-index l.faults)) (string_bytes l.fn.reports) (string_bytes l.reports)
