@@ -184,6 +184,13 @@ def least(runs):
     return {phase: (max if phase.startswith("memory") else min)(it[phase] for it in runs if phase in it) for phase in sorted(phases)}
 
 
+def apart(peer, times):
+    """The times of a peer, where what it takes to build has no reading in it: gqlparser reads and builds in one call."""
+    if peer == "gqlparser" and "build" in times:
+        return times | {"build": times["build"] - times["read"]}
+    return times
+
+
 def machine():
     """The machine that this runs on, and what else it has to do."""
     said = pathlib.Path("/proc/cpuinfo").read_text()
@@ -204,6 +211,6 @@ def measure(words, folder, count, seconds):
                     except Failed as why:
                         lacks[peer] = str(why)
         sizes = [path.stat().st_size for path in (given.schema, given.documents) if path]
-        times = {peer: least(its) for peer, its in runs.items() if its}
+        times = {peer: apart(peer, least(its)) for peer, its in runs.items() if its}
         said = {"date": date, "machine": where, "input": given.name, "bytes": sum(sizes)}
         yield {**said, "times": times, "lacks": lacks}
