@@ -2,8 +2,8 @@
 use Rattle.std.proofs.Common.{refl}
 use denote.Enum.Bare.{sameb}
 use Rattle.graphql_ast.specs.Bare.{bare_argument, bare_directive, bare_directive_list}
-use Rattle.graphql_ast.specs.declared.argument.ArgumentByNameError.{ArgumentByNameError}
-use Rattle.graphql_ast.specs.contracts.argument.ArgumentByNameError as error
+use Rattle.graphql_ast.specs.declared.directive.ArgumentByNameError.{ArgumentByNameError}
+use Rattle.graphql_ast.specs.contracts.directive.ArgumentByNameError as error
 use Rattle.graphql_ast.specs.contracts.directive.ArgumentPartialEq.TheImpl as argument
 use Rattle.graphql_ast.specs.contracts.directive.DirectivePartialEq.TheImpl as directive
 use Rattle.graphql_ast.specs.contracts.directive.DirectiveListPartialEq.TheImpl as list

@@ -4,7 +4,7 @@ use Rattle.std.specs.Option.{option_copied}
 use Rattle.std.specs.Borrow.{Bor}
 use Rattle.graphql_nodes.specs.NodeView.{NodeView}
 use Rattle.graphql_ast.specs.declared.value.Value.{Value}
-use Rattle.graphql_ast.specs.declared.argument.ArgumentByNameError.{ArgumentByNameError}
+use Rattle.graphql_ast.specs.declared.directive.ArgumentByNameError.{ArgumentByNameError}
 
 -- the result refers to this value, or is this error
 abbrev pub Answers : Result (Option (NodeView Value)) ArgumentByNameError

@@ -14,9 +14,9 @@ use Rattle.graphql_ast.specs.TypeReferences.{is_required}
 use Rattle.graphql_ast.specs.declared.value.Value.{Value}
 use Rattle.graphql_ast.specs.declared.directive.Argument.{Argument}
 use Rattle.graphql_ast.specs.declared.type_system.InputValueDefinition.{InputValueDefinition}
-use Rattle.graphql_ast.specs.declared.argument.ArgumentByNameError.{ArgumentByNameError}
-use Rattle.graphql_ast.specs.declared.argument.ArgumentByNameError.TheVariants.{RequiredArgumentNotSpecified}
-use Rattle.graphql_ast.specs.declared.argument.ArgumentByNameError.TheVariants.{NoSuchArgument}
+use Rattle.graphql_ast.specs.declared.directive.ArgumentByNameError.{ArgumentByNameError}
+use Rattle.graphql_ast.specs.declared.directive.ArgumentByNameError.TheVariants.{RequiredArgumentNotSpecified}
+use Rattle.graphql_ast.specs.declared.directive.ArgumentByNameError.TheVariants.{NoSuchArgument}
 
 -- the first argument definition of the name
 abbrev pub defined_argument : List (NodeView InputValueDefinition) → NameView

@@ -27,9 +27,8 @@ ghost use Rattle.graphql_ast.specs.Declarations.{Declaration, declaration_of, ma
 ghost use Rattle.graphql_ast.specs.declared.definition.Definition.{Definition};
 ghost use Rattle.graphql_nodes.specs.Clones.{IsExact};
 
-use crate::argument::ArgumentByNameError;
 use crate::definition::Definition;
-use crate::directive::{Argument, Directive, DirectiveList};
+use crate::directive::{Argument, ArgumentByNameError, Directive, DirectiveList};
 use crate::document::Document;
 use crate::operation::{FragmentDefinition, OperationDefinition, VariableDefinition};
 use crate::selection::{Field, FragmentSpread, InlineFragment, Selection};

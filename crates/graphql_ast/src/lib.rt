@@ -8,7 +8,6 @@
 #![tactic(auto)]
 
 pub mod added_list;
-pub mod argument;
 pub mod declaration;
 pub mod declaration_ref;
 pub mod definition;
@@ -25,11 +24,10 @@ pub mod type_reference;
 pub mod type_system;
 pub mod value;
 
-pub use crate::argument::ArgumentByNameError;
 pub use crate::declaration::{SchemaDeclaration, TypeDeclaration};
 pub use crate::declaration_ref::{DeclarationRef, SchemaDeclarationRef, TypeDeclarationRef};
 pub use crate::definition::Definition;
-pub use crate::directive::{Argument, Directive, DirectiveList};
+pub use crate::directive::{Argument, ArgumentByNameError, Directive, DirectiveList};
 pub use crate::document::Document;
 pub use crate::operation::{FragmentDefinition, OperationDefinition, VariableDefinition};
 pub use crate::parts::{Part, Parts, PartsRef};

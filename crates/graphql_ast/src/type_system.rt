@@ -3,6 +3,8 @@
 //! What `new` makes has what it can't be without, and is else empty. None but `InputValueDefinition::new`
 //! takes memory.
 ghost use Rattle.std.specs.Prelude.{◌≡◌, [], IfOk, None, false};
+ghost use Rattle.std.specs.Option.{option_copied};
+ghost use Rattle.graphql_ast.specs.ArgumentsByName.{defined_argument};
 ghost use Rattle.graphql_ast.specs.Declarations.{placed};
 ghost use Rattle.graphql_ast.specs.TypeSystem.{directive_definition_of, enum_extension_of, enum_type_of};
 ghost use Rattle.graphql_ast.specs.TypeSystem.{enum_value_of, field_of, input_object_extension_of};
@@ -19,6 +21,7 @@ use crate::value::Value;
 use graphql_nodes::collections::items::Items;
 use graphql_nodes::directive_location::DirectiveLocation;
 use graphql_nodes::name::{Name, NamedType};
+use graphql_nodes::named::first_of_name;
 use graphql_nodes::node::Node;
 use graphql_nodes::node_str::NodeStr;
 use graphql_nodes::operation_type::OperationType;
@@ -41,6 +44,13 @@ impl FieldDefinition {
         ensures { result ≡ field_of None name [] ty no_directives }
     {
         else_empty!(alloc: name, ty; description, directives, arguments)
+    }
+
+    /// The first argument definition that has the name's text, if there is one. It takes no memory.
+    pub fn argument_by_name(&self, name: &Name) -> Option<&Node<InputValueDefinition>>
+        ensures { option_copied result ≡ defined_argument self.now.arguments name.now }
+    {
+        first_of_name(self.arguments.as_slice(), name)
     }
 }
 
@@ -107,6 +117,13 @@ impl DirectiveDefinition {
             repeatable: false,
             locations: Items::new(alloc),
         }
+    }
+
+    /// The first argument definition that has the name's text, if there is one. It takes no memory.
+    pub fn argument_by_name(&self, name: &Name) -> Option<&Node<InputValueDefinition>>
+        ensures { option_copied result ≡ defined_argument self.now.arguments name.now }
+    {
+        first_of_name(self.arguments.as_slice(), name)
     }
 }
 

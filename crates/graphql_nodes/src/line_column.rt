@@ -1,13 +1,8 @@
 //! Lines and columns of offsets in texts. Lines end as the GraphQL specification of October 2021 says,
 //! section 2.1.3.
-//!
-//! (The bench notation puts numbers of lines in its spans, so these calls are for spans of other texts.)
 ghost use Rattle.std.specs.Prelude.{◌≡◌, ◌≤◌, length};
-ghost use Rattle.graphql_nodes.specs.LineColumns.{column_of, line_column_of, line_of, range_of, start_of};
+ghost use Rattle.graphql_nodes.specs.LineColumns.{column_of, line_of};
 ghost use Rattle.graphql_nodes.specs.LineColumns as spec;
-
-use crate::source::{SourceFile, SourceMap, SourceSpan};
-use std::ops::Range;
 
 /// A line number and a column, which both start at 1. A column counts characters (Unicode scalar values).
 #[derive(Clone, Copy, Debug, PartialEq, Eq, Hash)]
@@ -63,42 +58,4 @@ pub(crate) fn counted(text: &[u8], from: usize, start: LineColumn, offset: usize
         }
     }
     LineColumn { line, column }
-}
-
-impl SourceFile {
-    /// The line and column of a byte offset of the text, and none for an offset beyond the end of the text.
-    ///
-    /// A line feed, a carriage return, and a carriage return with a line feed after it are one line
-    /// terminator each (section 2.1.3). An offset between those two is still on the line that they end. An
-    /// offset within a character has the column after that character's.
-    pub fn get_line_column(&self, offset: usize) -> Option<LineColumn>
-        ensures { result ≡ line_column_of self.now.text offset }
-    {
-        let bytes = self.text.as_str().as_bytes();
-        if offset > bytes.len() {
-            return None;
-        }
-        Some(counted(bytes, 0, LineColumn::FIRST, offset))
-    }
-}
-
-impl SourceSpan {
-    /// The line and column where the span starts. There are none if the sources lack its file, or if it
-    /// starts beyond the end of the file's text.
-    pub fn line_column(&self, sources: &SourceMap) -> Option<LineColumn>
-        ensures { result ≡ start_of self.now sources.now }
-    {
-        sources.get(&self.file)?.get_line_column(self.start)
-    }
-
-    /// The lines and columns where the span starts and where it ends. There are none if the sources lack its
-    /// file, or if either is beyond the end of the file's text.
-    pub fn line_column_range(&self, sources: &SourceMap) -> Option<Range<LineColumn>>
-        ensures { result ≡ range_of self.now sources.now }
-    {
-        let file = sources.get(&self.file)?;
-        let start = file.get_line_column(self.start)?;
-        let end = file.get_line_column(self.end)?;
-        Some(start..end)
-    }
 }

@@ -1,5 +1,5 @@
 //! Where something stands, as people and editors read it.
-ghost use Rattle.std.specs.Prelude.{◌≡◌, Some};
+ghost use Rattle.std.specs.Prelude.{Some};
 ghost use Rattle.std.specs.Fmt.{WritesOnOk};
 ghost use Rattle.graphql_nodes.specs.PlaceTexts.{behind_path, place_text, place_without_text};
 
@@ -18,19 +18,6 @@ use std::fmt;
 pub struct Place<'a> {
     pub span: SourceSpan,
     pub sources: &'a SourceMap,
-}
-
-impl SourceSpan {
-    /// The span, to be shown with these sources.
-    pub fn place(self, sources: &SourceMap) -> Place<'_>
-        ensures span { result.span ≡ self }
-        ensures sources { result.sources.now ≡ sources.now }
-    {
-        Place {
-            span: self,
-            sources,
-        }
-    }
 }
 
 /// Where a span starts of whose file there is no text.

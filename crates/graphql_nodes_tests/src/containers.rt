@@ -54,7 +54,8 @@ fn is_table_kept(table: Table<i32, char>) -> Result<bool, AllocError> {
     let mut copy = table.clone()?;
     let is_copied = copy == table;
     let is_removed = (copy.shift_remove(&5), copy.len()) == (Some('c'), 1);
-    let back = Table::from_index_map(table.into_index_map()?)?;
+    let alloc = table.allocator();
+    let back = Table::from_index_map(Box::new(alloc, table.into_index_map()?)?);
     Ok(is_copied && is_removed && back.len() == 2)
 }
 
@@ -163,11 +164,11 @@ fn are_keys(set: &KeySet<i32>) -> bool {
 
 /// Whether the set of 5 and 3 has an equal copy, and is made again of its set. And whether the first key can
 /// be taken out of the copy.
-fn is_set_kept(set: KeySet<i32>) -> Result<bool, AllocError> {
+fn is_set_kept(alloc: Global, set: KeySet<i32>) -> Result<bool, AllocError> {
     let mut copy = set.clone()?;
     let is_copied = copy == set;
     let is_removed = copy.shift_remove(&5) && are(copy.as_slice(), &[3]);
-    let back = KeySet::from_index_set(set.into_index_set()?)?;
+    let back = KeySet::from_index_set(Box::new(alloc, set.into_index_set()?)?);
     Ok(is_copied && is_removed && are(back.as_slice(), &[5, 3]))
 }
 
@@ -175,7 +176,7 @@ fn is_set_kept(set: KeySet<i32>) -> Result<bool, AllocError> {
 fn sets_by_key_and_by_place(rt: HostRuntime) {
     let mut set = KeySet::new(rt.alloc());
     assert!(rt; are_keys_inserted(&mut set) && are_keys(&set));
-    assert!(rt; is_shown(rt.alloc(), &set, "{5, 3}") && is_set_kept(set) == Ok(true));
+    assert!(rt; is_shown(rt.alloc(), &set, "{5, 3}") && is_set_kept(rt.alloc(), set) == Ok(true));
 }
 
 /// The set of these keys.

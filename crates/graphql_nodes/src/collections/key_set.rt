@@ -80,17 +80,15 @@ impl<T: Eq + Hash> KeySet<T> {
         }
     }
 
-    /// The keys of the set, in order. No two are equal. The error is out of memory, and gives the set back.
-    pub fn from_index_set(
-        set: IndexSet<T, HashKeys>,
-    ) -> Result<KeySet<T>, AllocFailed<IndexSet<T, HashKeys>>>
-        ensures keys { IfOk result (λ made. made ≡ set.keys) }
-        ensures unique { IfOk result (λ made. IsDistinct T.eq made) }
-        ensures value_returned { IfErr result (λ y. y.value ≡ set) }
+    /// The keys of the set, in order. No two are equal. The set is kept in its box, and no memory is taken.
+    pub fn from_index_set(set: Box<IndexSet<T, HashKeys>>) -> KeySet<T>
+        ensures keys { result ≡ set.value.keys }
+        ensures unique { IsDistinct T.eq result }
     {
         let _len = set.len();
-        let held = Held::Many(Box::new(*set.allocator(), set)?);
-        Ok(KeySet { held })
+        KeySet {
+            held: Held::Many(set),
+        }
     }
 
     /// How many keys there are.

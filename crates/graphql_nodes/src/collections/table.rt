@@ -92,18 +92,16 @@ impl<K: Eq + Hash, V> Table<K, V> {
         }
     }
 
-    /// The entries of the map, in order. No two keys are equal. The error is out of memory, and gives the map
-    /// back.
-    pub fn from_index_map(
-        map: IndexMap<K, V, HashKeys>,
-    ) -> Result<Table<K, V>, AllocFailed<IndexMap<K, V, HashKeys>>>
-        ensures entries { IfOk result (λ table. table ≡ map.entries) }
-        ensures unique { IfOk result (λ table. HasUniqueKeys K.eq table) }
-        ensures value_returned { IfErr result (λ y. y.value ≡ map) }
+    /// The entries of the map, in order. No two keys are equal. The table keeps the map in its box, and takes
+    /// no memory.
+    pub fn from_index_map(map: Box<IndexMap<K, V, HashKeys>>) -> Table<K, V>
+        ensures entries { result ≡ map.value.entries }
+        ensures unique { HasUniqueKeys K.eq result }
     {
         let _len = map.len();
-        let held = Held::Many(Box::new(*map.allocator(), map)?);
-        Ok(Table { held })
+        Table {
+            held: Held::Many(map),
+        }
     }
 
     /// How many entries there are.
