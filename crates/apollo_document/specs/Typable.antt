@@ -22,7 +22,6 @@ use Rattle.graphql_nodes.specs.SameText.{same_text}
 use Rattle.graphql_nodes.specs.Tables.{lookup_key}
 use Rattle.graphql_nodes.specs.declared.source.SourceSpan.{SourceSpan}
 use Rattle.graphql_ast.specs.TypeReferences.{inner_name}
-use Rattle.graphql_ast.specs.declared.selection.Field as ast_field
 use Rattle.graphql_ast.specs.declared.type_reference.Type.{Named}
 use Rattle.graphql_ast.specs.declared.type_system.FieldDefinition.{FieldDefinition}
 use Rattle.apollo_component.specs.declared.component.Component.{Component}
@@ -113,10 +112,6 @@ abbrev pub typable_field : Option Schema → NameView → NameView → Bool
     → Result (NodeView FieldDefinition) Wrong
 typable_field None ty name bare = Ok (unknown_field name)
 typable_field (Some s) ty name bare = with_subselections s bare (defined_in s ty name)
-
--- the definition of a field of a document that is typable in a type, or what is wrong with it
-abbrev pub field_judged : Option Schema → NameView → ast_field.Field → Result (NodeView FieldDefinition) Wrong
-field_judged s ty f = typable_field s ty f.name (is_bare f.selection_set)
 
 -- a schema has a type of the name; without a schema each name has one
 abbrev pub has_type : Option Schema → NameView → Bool

@@ -1,30 +1,34 @@
 //! Untyped selections made into typed ones: GraphQL specification of October 2021, sections 2.4 to 2.8.
 //!
 //! Input nodes are borrowed. The key of a field is pushed and popped; the whole path is copied for a fault
-//! alone. Arguments and directives are shared with the input.
-ghost use Rattle.std.specs.Prelude.{◌≡◌, ◌++◌, [], IfOk, OnOk};
+//! alone. A type that selections are from is looked up once.
+ghost use Rattle.std.specs.Prelude.{◌≡◌, ◌++◌, [], IfOk, OnOk, Option, is_some};
 ghost use Rattle.std.specs.List.{cons_option, filter_map};
 ghost use Rattle.std.specs.Option.{option_copied};
+ghost use Rattle.graphql_nodes.specs.declared.source.SourceSpan.{SourceSpan as Span};
 ghost use Rattle.apollo_executable.specs.SelectionParts.{response_key_of};
-ghost use Rattle.apollo_document.specs.Elaborated as spec;
 ghost use Rattle.apollo_document.specs.Elaborated.{elaborated, elaborated_selection};
 ghost use Rattle.apollo_document.specs.InParents.{field_kept, fragment_kept, noting_field, noting_fragment};
 ghost use Rattle.apollo_document.specs.InParents.{noting_within};
 ghost use Rattle.apollo_document.specs.Noted.{noting};
-ghost use Rattle.apollo_document.specs.SelectionFaults.{faults_of_selections, faults_of_selection};
+ghost use Rattle.apollo_document.specs.SelectionFaults.{below_or_wrong, faults_of_selections};
+ghost use Rattle.apollo_document.specs.SelectionFaults.{faults_of_selection};
+ghost use Rattle.apollo_document.specs.Typable.{definition_in, if_typable, typable_fragment};
+ghost use Rattle.apollo_document.specs.Within.{faults_if, leaf_in, set_below, set_faults};
 
-use crate::build_error::{Fault, Faults};
+use crate::build_error::{BuildError, Fault, Faults};
 use crate::parent::Parent;
 use crate::selection_path::{ExecutableDefinitionName, SelectionPath};
-use apollo_executable::selection::{
-    Field, FragmentSpread, InlineFragment, Selection, SelectionSet,
-};
+use crate::typed_nodes::{field_over, inline_fragment_over, typed_spread, unknown_field};
+use apollo_executable::selection::{Field, InlineFragment, Selection, SelectionSet};
 use apollo_schema::schema::Schema;
+use apollo_types::extended_type::ExtendedType;
 use graphql_ast::selection as ast;
 use graphql_ast::type_system::FieldDefinition;
 use graphql_nodes::collections::items::Items;
 use graphql_nodes::name::{Name, NamedType};
 use graphql_nodes::node::Node;
+use graphql_nodes::source::SourceSpan;
 use std::alloc::{AllocError, Global};
 
 /// What is typed of a node, if it is typable, where the node stands.
@@ -51,49 +55,6 @@ fn push_kept(
         Some(selection) => selections.push(selection),
         None => Ok(()),
     }
-}
-
-/// The spread, typed.
-fn typed_spread(spread: &ast::FragmentSpread) -> Result<FragmentSpread, AllocError>
-    ensures { IfOk result (λ typed. typed ≡ spec.typed_spread spread.now) }
-{
-    Ok(FragmentSpread {
-        fragment_name: spread.fragment_name.clone()?,
-        directives: spread.directives.clone()?,
-    })
-}
-
-/// The field with this definition and set.
-fn field_over(
-    field: &ast::Field,
-    definition: Node<FieldDefinition>,
-    selection_set: SelectionSet,
-) -> Result<Field, AllocError>
-    ensures { IfOk result (λ typed. typed ≡ spec.field_over field.now definition selection_set) }
-{
-    Ok(Field {
-        definition,
-        alias: field.alias.clone()?,
-        name: field.name.clone()?,
-        arguments: field.arguments.clone()?,
-        directives: field.directives.clone()?,
-        selection_set,
-    })
-}
-
-/// The inline fragment with this set.
-fn inline_fragment_over(
-    fragment: &ast::InlineFragment,
-    selection_set: SelectionSet,
-) -> Result<InlineFragment, AllocError>
-    ensures { IfOk result (λ typed. typed
-        ≡ spec.inline_over fragment.now.type_condition fragment.now.directives selection_set) }
-{
-    Ok(InlineFragment {
-        type_condition: fragment.type_condition.clone()?,
-        directives: fragment.directives.clone()?,
-        selection_set,
-    })
 }
 
 /// Selections on their way to typed ones: where they stand, and what was found wrong so far. Each call leaves
@@ -143,7 +104,6 @@ impl Elaboration {
     }
 
     /// The set of the typable selections from this type, typed. The faults of the others are noted.
-    #[cycle(elaborate)]
     pub fn elaborate_set(
         &mut self,
         schema: Option<&Schema>,
@@ -158,15 +118,30 @@ impl Elaboration {
         ensures path { self.new.path ≡ self.old.path }
     {
         if selections.is_empty() {
-            return Ok(SelectionSet {
-                ty: ty.clone()?,
-                selections: Items::new(self.alloc),
-            });
+            return Ok(SelectionSet::new(self.alloc, ty.clone()?));
         }
-        let parent = Parent::new(schema, ty);
-        let kept = self.elaborate_all(&parent, selections)?;
+        let set = self.elaborate_from(&Parent::new(schema, ty), selections)?;
+        Ok(set)
+    }
+
+    /// The set of the typable selections from this type, which is looked up, typed. The faults of the others
+    /// are noted.
+    #[cycle(elaborate)]
+    fn elaborate_from(
+        &mut self,
+        parent: &Parent,
+        selections: &[ast::Selection],
+    ) -> Result<SelectionSet, AllocError>
+        ensures set { IfOk result (λ set. set
+            ≡ elaborated (option_copied parent.now.schema) parent.now.ty.now selections.now) }
+        ensures faults { OnOk result (self.new
+            ≡ noting (faults_of_selections (option_copied parent.now.schema) parent.now.ty.now self.old.path
+            selections.now) self.old) }
+        ensures path { self.new.path ≡ self.old.path }
+    {
+        let kept = self.elaborate_all(parent, selections)?;
         Ok(SelectionSet {
-            ty: ty.clone()?,
+            ty: parent.ty.clone()?,
             selections: kept,
         })
     }
@@ -246,14 +221,105 @@ impl Elaboration {
         ensures faults { OnOk result (self.new ≡ noting_within parent.now node.now self.old) }
         ensures path { self.new.path ≡ self.old.path }
     {
-        let Some(definition) = self.typable_field(parent, node)? else {
+        let Some(definition) = self.definition_in(parent, &node.name)? else {
             return Ok(None);
         };
-        let child = definition.ty.inner_named_type();
-        let set = self.elaborate_set(parent.schema, child, node.selection_set.as_slice())?;
+        let Some(set) = self.elaborate_below(parent.schema, &definition, node)? else {
+            return Ok(None);
+        };
         let field = field_over(node, definition, set)?;
         let typed = node.same_location(self.alloc, field)?;
         Ok(Some(typed))
+    }
+
+    /// The definition of a field of this name in a type. That a type of the schema has none is noted.
+    fn definition_in(
+        &mut self,
+        parent: &Parent,
+        name: &Name,
+    ) -> Result<Option<Node<FieldDefinition>>, AllocError>
+        ensures defined { IfOk result (λ definition. definition
+            ≡ if_typable (λ d. d)
+            (definition_in (option_copied parent.now.schema) parent.now.ty.now name.now)) }
+        ensures faults { OnOk result ((location : Option Span)
+            → self.new
+            ≡ noting (below_or_wrong (λ _. []) location self.old.path
+            (definition_in (option_copied parent.now.schema) parent.now.ty.now name.now)) self.old) }
+        ensures path { self.new.path ≡ self.old.path }
+    {
+        let Some(schema) = parent.schema else {
+            return Ok(Some(unknown_field(self.alloc, name)?));
+        };
+        let Some((key, ty)) = parent.known else {
+            return Ok(None);
+        };
+        if let Some(component) = schema.field_of(parent.ty, ty, name) {
+            return Ok(Some(component.node.clone()?));
+        }
+        let error = BuildError::UndefinedField {
+            type_name: key.clone()?,
+            field_name: name.clone()?,
+            path: self.path.clone()?,
+        };
+        self.faults.push((name.location(), error))?;
+        Ok(None)
+    }
+
+    /// The set of a field with this definition, typed. There is none if the field has subselections from a
+    /// leaf type, which is noted.
+    #[cycle(elaborate)]
+    fn elaborate_below(
+        &mut self,
+        schema: Option<&Schema>,
+        definition: &Node<FieldDefinition>,
+        node: &Node<ast::Field>,
+    ) -> Result<Option<SelectionSet>, AllocError>
+        ensures set { IfOk result (λ kept. kept
+            ≡ set_below (option_copied schema.entry) definition.now node.now.value.selection_set) }
+        ensures faults { OnOk result (self.new
+            ≡ noting (set_faults (option_copied schema.entry) definition.now node.now.location self.old.path
+            node.now.value.selection_set) self.old) }
+        ensures path { self.new.path ≡ self.old.path }
+    {
+        let child = definition.ty.inner_named_type();
+        let selections = node.selection_set.as_slice();
+        if selections.is_empty() {
+            return Ok(Some(SelectionSet::new(self.alloc, child.clone()?)));
+        }
+        let parent = Parent::new(schema, child);
+        if self.notes_leaf(&parent, node.location())? {
+            return Ok(None);
+        }
+        let set = self.elaborate_from(&parent, selections)?;
+        Ok(Some(set))
+    }
+
+    /// Whether the type of subselections is a leaf type. This is noted.
+    fn notes_leaf(
+        &mut self,
+        parent: &Parent,
+        location: Option<SourceSpan>,
+    ) -> Result<bool, AllocError>
+        ensures leaf { IfOk result (λ is_leaf. is_leaf
+            ≡ is_some (leaf_in (option_copied parent.now.schema) parent.now.ty.now)) }
+        ensures faults { OnOk result (self.new
+            ≡ noting (faults_if (leaf_in (option_copied parent.now.schema) parent.now.ty.now) location
+            self.old.path) self.old) }
+        ensures path { self.new.path ≡ self.old.path }
+    {
+        let error = match parent.known {
+            Some((_, ExtendedType::Scalar(_))) => BuildError::SubselectionOnScalarType {
+                type_name: parent.ty.clone()?,
+                path: self.path.clone()?,
+            },
+            Some((_, ExtendedType::Enum(_))) => BuildError::SubselectionOnEnumType {
+                type_name: parent.ty.clone()?,
+                path: self.path.clone()?,
+            },
+            _ => return Ok(false),
+        };
+        self.faults.push((location, error))?;
+        Ok(true)
     }
 
     /// The inline fragment, typed, if it is typable.
@@ -267,12 +333,49 @@ impl Elaboration {
         ensures faults { OnOk result (self.new ≡ noting_fragment parent.now node.now self.old) }
         ensures path { self.new.path ≡ self.old.path }
     {
-        let Some(child) = self.typable_fragment(parent.schema, &*parent.ty, node)? else {
+        let Some(set) = self.elaborate_condition(parent, node)? else {
             return Ok(None);
         };
-        let set = self.elaborate_set(parent.schema, child, node.selection_set.as_slice())?;
         let inline = inline_fragment_over(node, set)?;
         let typed = node.same_location(self.alloc, inline)?;
         Ok(Some(typed))
+    }
+
+    /// The set of an inline fragment, typed: from the type of its condition, or without one from the same
+    /// type. There is none if the condition is no type, which is noted.
+    #[cycle(elaborate)]
+    fn elaborate_condition(
+        &mut self,
+        parent: &Parent,
+        fragment: &ast::InlineFragment,
+    ) -> Result<Option<SelectionSet>, AllocError>
+        ensures set { IfOk result (λ kept. kept
+            ≡ if_typable (λ t. elaborated (option_copied parent.now.schema) t fragment.now.selection_set)
+            (typable_fragment (option_copied parent.now.schema) parent.now.ty.now
+            fragment.now.type_condition)) }
+        ensures faults { OnOk result ((location : Option Span)
+            → self.new
+            ≡ noting (below_or_wrong (λ t. faults_of_selections (option_copied parent.now.schema) t
+            self.old.path fragment.now.selection_set) location self.old.path
+            (typable_fragment (option_copied parent.now.schema) parent.now.ty.now
+            fragment.now.type_condition)) self.old) }
+        ensures path { self.new.path ≡ self.old.path }
+    {
+        let selections = fragment.selection_set.as_slice();
+        let Some(condition) = &fragment.type_condition else {
+            let set = self.elaborate_from(parent, selections)?;
+            return Ok(Some(set));
+        };
+        let child = Parent::new(parent.schema, condition);
+        if child.has_type() {
+            let set = self.elaborate_from(&child, selections)?;
+            return Ok(Some(set));
+        }
+        let error = BuildError::UndefinedTypeInInlineFragmentTypeCondition {
+            type_name: condition.clone()?,
+            path: self.path.clone()?,
+        };
+        self.faults.push((condition.location(), error))?;
+        Ok(None)
     }
 }

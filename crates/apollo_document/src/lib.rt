@@ -16,8 +16,8 @@ pub mod selection_laws;
 pub mod selection_path;
 mod state;
 mod tables;
-mod typable;
 mod typed_definitions;
+mod typed_nodes;
 
 pub use crate::build_error::{BuildError, Fault, Faults};
 pub use crate::document_builder::ExecutableDocumentBuilder;

@@ -2,6 +2,7 @@
 ghost use Rattle.std.specs.Prelude.{◌≡◌, option_map};
 ghost use Rattle.std.specs.Option.{option_copied};
 ghost use Rattle.apollo_document.specs.Parents.{key_in, type_in};
+ghost use Rattle.apollo_document.specs.Typable.{has_type};
 
 use apollo_schema::schema::Schema;
 use apollo_types::extended_type::ExtendedType;
@@ -35,6 +36,16 @@ impl<'a> Parent<'a> {
                 ty,
                 known: schema.types.get_key_value(ty),
             },
+        }
+    }
+
+    /// Whether the schema has the type. Without a schema each name has one.
+    pub(crate) fn has_type(&self) -> bool
+        ensures { result ≡ has_type (option_copied self.now.schema) self.now.ty.now }
+    {
+        match self.schema {
+            None => true,
+            Some(_) => self.known.is_some(),
         }
     }
 }

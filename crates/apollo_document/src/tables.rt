@@ -13,8 +13,8 @@ ghost use Rattle.apollo_document.specs.Takes.{TakesDefinition};
 
 use crate::build_error::{BuildError, Fault, Faults};
 use crate::elaborating::Elaboration;
+use crate::parent::Parent;
 use crate::selection_path::ExecutableDefinitionName;
-use crate::typable::has_type;
 use crate::typed_definitions::{fragment_over, operation_over, root_type};
 use apollo_executable::document::{ExecutableDocument, FragmentMap};
 use apollo_executable::operation::{Fragment, Operation};
@@ -196,7 +196,7 @@ impl Tables {
             ≡ tables_noting (spec.faults_in_fragment (option_copied schema.entry) node.now) self.old) }
     {
         let ty = &node.type_condition;
-        if !has_type(schema, ty) {
+        if !Parent::new(schema, ty).has_type() {
             let error = BuildError::UndefinedTypeInNamedFragmentTypeCondition {
                 type_name: ty.clone()?,
                 fragment_name: node.name.clone()?,

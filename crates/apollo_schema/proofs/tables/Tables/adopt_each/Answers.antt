@@ -1,4 +1,4 @@
-use Rattle.apollo_meaning.proofs.Prelude.{get_or, List, [], ◌∷◌, ◌++◌, sym, subst, arith, take_all, Definition}
+use Rattle.apollo_meaning.proofs.Prelude.{List, [], ◌∷◌, ◌++◌, sym, subst, arith, take_all, Definition}
 use Rattle.apollo_meaning.proofs.Prelude.{ListItem}
 use Rattle.apollo_folding.specs.Adopting.{adopted_for, adopted_for_each}
 use Rattle.apollo_folding.proofs.RefusalLemmas.{RefusedAs-through}

@@ -1,7 +1,6 @@
-use Rattle.apollo_meaning.proofs.Prelude.{◌≡◌, false, Some, None, List, [], ◌∷◌, ◌++◌, OnOk, IfErr, sym, ap}
+use Rattle.apollo_meaning.proofs.Prelude.{◌≡◌, false, None, List, [], ◌∷◌, ◌++◌, OnOk, IfErr, sym, ap}
 use Rattle.apollo_meaning.proofs.Prelude.{subst, ◌∙◌, append-nil, option_map, ListItem, Defined, item_of}
 use Rattle.apollo_meaning.proofs.Prelude.{extended_part, TypePart}
-use Rattle.apollo_folding.specs.Adopting.{adopted_for}
 use Rattle.apollo_folding.specs.DeclaredParts.{part_seen}
 use Rattle.apollo_folding.specs.Refusals.{RefusedAs}
 use Rattle.apollo_folding.proofs.CompletionLemmas.{adopted-alone, adopted-nothing}

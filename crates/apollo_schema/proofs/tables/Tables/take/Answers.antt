@@ -1,4 +1,4 @@
-use Rattle.apollo_meaning.proofs.Prelude.{◌≡◌, Bool, get_or, take, List, [], ◌∷◌, ◌++◌, length, refl, sym, ap}
+use Rattle.apollo_meaning.proofs.Prelude.{◌≡◌, Bool, List, [], ◌∷◌, ◌++◌, length, refl, sym, ap}
 use Rattle.apollo_meaning.proofs.Prelude.{subst, ◌∙◌, arith, take_all, flat_map, Definition, ListItem, added}
 use Rattle.apollo_meaning.proofs.Prelude.{added_item, added_items, folded}
 use Rattle.apollo_schema.specs.Stands.{Stands}
