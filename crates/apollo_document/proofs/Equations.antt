@@ -19,8 +19,6 @@ use Rattle.graphql_ast.specs.declared.type_system.FieldDefinition.{FieldDefiniti
 use Rattle.apollo_schema.specs.declared.schema.Schema.{Schema}
 use Rattle.apollo_executable.specs.SelectionParts.{response_key_of}
 use Rattle.apollo_executable.specs.declared.selection.Selection.{Selection}
-use Rattle.apollo_executable.specs.declared.selection.Field.{Field}
-use Rattle.apollo_executable.specs.declared.selection.InlineFragment.{InlineFragment}
 use Rattle.apollo_executable.specs.declared.selection.SelectionSet.{SelectionSet}
 use Rattle.apollo_document.specs.Typable.{Fault, Wrong, child_of, defined_in, definition_in, is_bare}
 use Rattle.apollo_document.specs.Typable.{if_typable, typable_field, typable_fragment, unless_leaf}
@@ -174,11 +172,10 @@ module _ (s : Option Schema) where
           f.name f.arguments f.directives (typed_in f.selection_set)) (with_leaf s f.selection_set d) none
           ∙ judged
 
-      pub field_made : (g : ast_field.Field) (set : SelectionSet) (made : Field) → g ≡ f
-          → Some set ≡ set_below s d f.selection_set → made ≡ field_over g d set
-          → Some made ≡ elaborated_field s ty f
-      field_made g set made same typed m = ap Some m ∙ (λ i. Some (field_over (same i) d set))
-          ∙ made_unless (field_over f) (λ d. elaborated s (child_of d) f.selection_set)
+      pub field_made : (set : SelectionSet) → Some set ≡ set_below s d f.selection_set
+          → Some (field_over f d set) ≡ elaborated_field s ty f
+      field_made set typed =
+          made_unless (field_over f) (λ d. elaborated s (child_of d) f.selection_set)
           (is_bare f.selection_set) d (leaf_in s (child_of d)) set typed ∙ judged
 
     -- what is noted of a field that is defined, and then of its subselections
@@ -196,13 +193,12 @@ module _ (s : Option Schema) where
         (λ d. faults_of_selections s (child_of d) e.path below) n.location e.path r) e)
         (sym (defined_judged s ty n.value d is))
 
-    pub fragment_made : (f g : ast_inline.InlineFragment) (set : SelectionSet) (made : InlineFragment)
-        → g ≡ f → Some set ≡ if_typable (λ t. elaborated s t f.selection_set)
-        (typable_fragment s ty f.type_condition) → made ≡ inline_over g.type_condition g.directives set
-        → Some made ≡ elaborated_fragment s ty f
-    fragment_made f g set made same typed m =
-        ap Some m ∙ (λ i. Some (inline_over (same i).type_condition (same i).directives set))
-        ∙ made_over (inline_over f.type_condition f.directives) (λ t. elaborated s t f.selection_set)
+    pub fragment_made : (f : ast_inline.InlineFragment) (set : SelectionSet)
+        → Some set ≡ if_typable (λ t. elaborated s t f.selection_set)
+        (typable_fragment s ty f.type_condition)
+        → Some (inline_over f.type_condition f.directives set) ≡ elaborated_fragment s ty f
+    fragment_made f set typed =
+        made_over (inline_over f.type_condition f.directives) (λ t. elaborated s t f.selection_set)
         (typable_fragment s ty f.type_condition) set typed ∙ sym (elaborated-fragment f)
 
 -- a list without what was pushed last

@@ -190,8 +190,8 @@ impl Elaboration {
                 Ok(field.map(Selection::Field))
             }
             ast::Selection::FragmentSpread(node) => {
-                let spread = typed_spread(node)?;
-                Ok(Some(Selection::FragmentSpread(node.same_location(self.alloc, spread)?)))
+                let spread = typed_spread(self.alloc, node)?;
+                Ok(Some(Selection::FragmentSpread(spread)))
             }
             ast::Selection::InlineFragment(node) => {
                 let inline = self.elaborate_fragment(parent, node)?;
@@ -227,9 +227,8 @@ impl Elaboration {
         let Some(set) = self.elaborate_below(parent.schema, &definition, node)? else {
             return Ok(None);
         };
-        let field = field_over(node, definition, set)?;
-        let typed = node.same_location(self.alloc, field)?;
-        Ok(Some(typed))
+        let field = field_over(self.alloc, node, definition, set)?;
+        Ok(Some(field))
     }
 
     /// The definition of a field of this name in a type. That a type of the schema has none is noted.
@@ -336,9 +335,8 @@ impl Elaboration {
         let Some(set) = self.elaborate_condition(parent, node)? else {
             return Ok(None);
         };
-        let inline = inline_fragment_over(node, set)?;
-        let typed = node.same_location(self.alloc, inline)?;
-        Ok(Some(typed))
+        let inline = inline_fragment_over(self.alloc, node, set)?;
+        Ok(Some(inline))
     }
 
     /// The set of an inline fragment, typed: from the type of its condition, or without one from the same

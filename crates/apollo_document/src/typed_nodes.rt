@@ -2,6 +2,7 @@
 //! with the input. GraphQL specification of October 2021, sections 2.5 to 2.8.
 ghost use Rattle.std.specs.Prelude.{◌≡◌, IfOk};
 ghost use Rattle.apollo_document.specs.Elaborated as spec;
+ghost use Rattle.apollo_document.specs.Stripped.{in_place_of};
 ghost use Rattle.apollo_document.specs.Typable.{unknown_field};
 
 use apollo_executable::selection::{Field, FragmentSpread, InlineFragment, SelectionSet};
@@ -28,45 +29,55 @@ pub(crate) fn unknown_field(alloc: Global, name: &Name) -> Result<Node<FieldDefi
     Node::new(alloc, definition)
 }
 
-/// The spread, typed.
-pub(crate) fn typed_spread(spread: &ast::FragmentSpread) -> Result<FragmentSpread, AllocError>
-    ensures { IfOk result (λ typed. typed ≡ spec.typed_spread spread.now) }
+/// The spread, typed, where the node stands.
+pub(crate) fn typed_spread(
+    alloc: Global,
+    node: &Node<ast::FragmentSpread>,
+) -> Result<Node<FragmentSpread>, AllocError>
+    ensures { IfOk result (λ typed. typed ≡ in_place_of node.now (spec.typed_spread node.now.value)) }
 {
-    Ok(FragmentSpread {
-        fragment_name: spread.fragment_name.clone()?,
-        directives: spread.directives.clone()?,
-    })
+    let spread = FragmentSpread {
+        fragment_name: node.fragment_name.clone()?,
+        directives: node.directives.clone()?,
+    };
+    node.same_location(alloc, spread)
 }
 
-/// The field with this definition and set.
+/// The field with this definition and set, where the node stands.
 pub(crate) fn field_over(
-    field: &ast::Field,
+    alloc: Global,
+    node: &Node<ast::Field>,
     definition: Node<FieldDefinition>,
     selection_set: SelectionSet,
-) -> Result<Field, AllocError>
-    ensures { IfOk result (λ typed. typed ≡ spec.field_over field.now definition selection_set) }
+) -> Result<Node<Field>, AllocError>
+    ensures { IfOk result (λ typed. typed
+        ≡ in_place_of node.now (spec.field_over node.now.value definition selection_set)) }
 {
-    Ok(Field {
+    let field = Field {
         definition,
-        alias: field.alias.clone()?,
-        name: field.name.clone()?,
-        arguments: field.arguments.clone()?,
-        directives: field.directives.clone()?,
+        alias: node.alias.clone()?,
+        name: node.name.clone()?,
+        arguments: node.arguments.clone()?,
+        directives: node.directives.clone()?,
         selection_set,
-    })
+    };
+    node.same_location(alloc, field)
 }
 
-/// The inline fragment with this set.
+/// The inline fragment with this set, where the node stands.
 pub(crate) fn inline_fragment_over(
-    fragment: &ast::InlineFragment,
+    alloc: Global,
+    node: &Node<ast::InlineFragment>,
     selection_set: SelectionSet,
-) -> Result<InlineFragment, AllocError>
+) -> Result<Node<InlineFragment>, AllocError>
     ensures { IfOk result (λ typed. typed
-        ≡ spec.inline_over fragment.now.type_condition fragment.now.directives selection_set) }
+        ≡ in_place_of node.now
+        (spec.inline_over node.now.value.type_condition node.now.value.directives selection_set)) }
 {
-    Ok(InlineFragment {
-        type_condition: fragment.type_condition.clone()?,
-        directives: fragment.directives.clone()?,
+    let inline = InlineFragment {
+        type_condition: node.type_condition.clone()?,
+        directives: node.directives.clone()?,
         selection_set,
-    })
+    };
+    node.same_location(alloc, inline)
 }

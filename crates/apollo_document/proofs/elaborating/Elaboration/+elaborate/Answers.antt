@@ -46,10 +46,9 @@ pub elaborate_fragment-returns-clause-typed : goal.elaborate_fragment-returns-cl
 elaborate_fragment-returns-clause-typed t c =
     let s = option_copied c.args.parent.now.schema in
     let n = c.args.node.now in
-    let found = rw c.deref.ensures at (sym c.in-Some.is ∙ c.in_ok-set.ensures.set) in
-    ap Some c.in_ok-typed.ensures ∙ ap (option_map (in_place_of n))
-    (fragment_made s c.args.parent.now.ty.now n.value c.deref-2.result.now c.in-Some.set
-    c.in_ok-inline.inline c.deref-2.ensures found c.in_ok-inline.ensures)
+    ap Some c.in_ok-inline.ensures ∙ ap (option_map (in_place_of n))
+    (fragment_made s c.args.parent.now.ty.now n.value c.in-Some.set
+    (rw c.deref.ensures at (sym c.in-Some.is ∙ c.in_ok-set.ensures.set)))
 
 pub elaborate_fragment-returns-clause-faults : goal.elaborate_fragment-returns-clause-faults
 elaborate_fragment-returns-clause-faults t c =
@@ -128,9 +127,8 @@ elaborate_within-returns-clause-typed t c =
     let d = c.in-Some.definition in
     let is : Some d ≡ if_typable (λ (d : NodeView FieldDefinition). d) (definition_in s ty n.value.name) =
     rw c.deref.ensures at (sym c.in-Some.is ∙ c.in_ok-definition.ensures.defined) in
-    ap Some c.in_ok-typed.ensures ∙ ap (option_map (in_place_of n))
-    (field_made s ty n.value d is c.deref-2.result.now c.in-Some-2.set c.in_ok-field.field c.deref-2.ensures
-    (sym c.in-Some-2.is ∙ c.in_ok-set.ensures.set) c.in_ok-field.ensures)
+    ap Some c.in_ok-field.ensures ∙ ap (option_map (in_place_of n))
+    (field_made s ty n.value d is c.in-Some-2.set (sym c.in-Some-2.is ∙ c.in_ok-set.ensures.set))
 
 pub elaborate_within-returns-clause-faults : goal.elaborate_within-returns-clause-faults
 elaborate_within-returns-clause-faults t c =
