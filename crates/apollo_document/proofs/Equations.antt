@@ -179,7 +179,8 @@ module _ (s : Option Schema) where
           (is_bare f.selection_set) d (leaf_in s (child_of d)) set typed ∙ judged
 
     -- what is noted of a field that is defined, and then of its subselections
-    pub noted_within : (n : NodeView ast_field.Field) (d : NodeView FieldDefinition) (e mid last : Elaboration)
+    pub noted_within : (n : NodeView ast_field.Field) (d : NodeView FieldDefinition)
+        (e mid last : Elaboration)
         → Some d ≡ if_typable (λ d. d) (definition_in s ty n.value.name)
         → mid ≡ noting (below_or_wrong (λ _. []) n.location e.path (definition_in s ty n.value.name)) e
         → last ≡ noting (set_faults s d n.location mid.path n.value.selection_set) mid
