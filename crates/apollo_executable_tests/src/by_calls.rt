@@ -6,7 +6,7 @@ use apollo_executable::{
     ExecutableDocument, Field, Fragment, FragmentSpread, InlineFragment, Operation, Selection,
     SelectionSet,
 };
-use graphql_ast::argument::ArgumentByNameError;
+use graphql_ast::directive::ArgumentByNameError;
 use likeness::is_copied;
 use std::alloc::{AllocError, Global};
 use std::test::Fail;

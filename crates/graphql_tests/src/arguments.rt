@@ -1,8 +1,7 @@
 //! Arguments by their names.
 
 use crate::values::int;
-use graphql_ast::argument::ArgumentByNameError;
-use graphql_ast::directive::Argument;
+use graphql_ast::directive::{Argument, ArgumentByNameError};
 use graphql_ast::type_reference::Type;
 use graphql_ast::type_system::{DirectiveDefinition, FieldDefinition, InputValueDefinition};
 use graphql_ast::value::Value;
