@@ -12,7 +12,6 @@ use crate::listed::Listed;
 use graphql_ast::declaration::{SchemaDeclaration, TypeDeclaration};
 use graphql_ast::definition::Definition;
 use graphql_ast::parts::Parts;
-use graphql_nodes::collections::elements::Elements;
 use graphql_nodes::name::Name;
 use graphql_nodes::node::Node;
 use graphql_nodes::node_str::NodeStr;
@@ -63,6 +62,21 @@ impl PartsByOrigin {
         Ok(())
     }
 
+    /// Makes room in the definition for so many parts, if the first of them stands there: what is folded into
+    /// a type stands after what its definition has. The error is out of memory.
+    fn make_room<T: Listed>(
+        &mut self,
+        first: ComponentOrigin,
+        count: usize,
+    ) -> Result<(), AllocError>
+        ensures { self.new ≡ self.old }
+    {
+        match first {
+            ComponentOrigin::Definition => T::make_room(&mut self.definition, count),
+            ComponentOrigin::Extension(_) => Ok(()),
+        }
+    }
+
     /// Adds each of these components, in order, as [`add`](PartsByOrigin::add) does. The error is out of
     /// memory: drop the parts then.
     pub fn add_components<T: Drop>(
@@ -75,26 +89,9 @@ impl PartsByOrigin {
         ensures { OnOk result ((cs : List SourcedPart) → self.old ≡ by_origin cs
             → self.new ≡ by_origin (cs ++ map (sourced ⟦<Node<T> as Listed>⟧.part) components.now)) }
     {
-        <Node<T>>::make_room(&mut self.definition, components.len())?;
-        for component in components {
-            self.add(alloc, component.origin, component.node.clone()?)?;
+        if let Some(first) = components.first() {
+            self.make_room::<Node<T>>(first.origin, components.len())?;
         }
-        Ok(())
-    }
-
-    /// Adds each of the components that are left of a table's values, in order, as
-    /// [`add`](PartsByOrigin::add) does. The error is out of memory: drop the parts then.
-    pub fn add_named_components<T: Drop>(
-        &mut self,
-        alloc: Global,
-        components: Elements<'_, Component<T>>,
-    ) -> Result<(), AllocError>
-    where
-        Node<T>: Listed,
-        ensures { OnOk result ((cs : List SourcedPart) → self.old ≡ by_origin cs
-            → self.new ≡ by_origin (cs ++ map (sourced ⟦<Node<T> as Listed>⟧.part) components.entry)) }
-    {
-        <Node<T>>::make_room(&mut self.definition, components.len())?;
         for component in components {
             self.add(alloc, component.origin, component.node.clone()?)?;
         }
@@ -107,7 +104,9 @@ impl PartsByOrigin {
         ensures { OnOk result ((cs : List SourcedPart) → self.old ≡ by_origin cs
             → self.new ≡ by_origin (cs ++ map sourced_name names.now)) }
     {
-        Name::make_room(&mut self.definition, names.len())?;
+        if let Some(first) = names.first() {
+            self.make_room::<Name>(first.origin, names.len())?;
+        }
         for name in names {
             self.add(alloc, name.origin, name.name.clone()?)?;
         }

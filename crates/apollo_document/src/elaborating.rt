@@ -2,10 +2,9 @@
 //!
 //! Input nodes are borrowed. The key of a field is pushed and popped; the whole path is copied for a fault
 //! alone. A type that selections are from is looked up once.
-ghost use Rattle.std.specs.Prelude.{◌≡◌, ◌++◌, [], IfOk, OnOk, Option, is_some};
+ghost use Rattle.std.specs.Prelude.{◌≡◌, ◌++◌, [], IfOk, OnOk, is_some};
 ghost use Rattle.std.specs.List.{cons_option, filter_map};
 ghost use Rattle.std.specs.Option.{option_copied};
-ghost use Rattle.graphql_nodes.specs.declared.source.SourceSpan.{SourceSpan as Span};
 ghost use Rattle.apollo_executable.specs.SelectionParts.{response_key_of};
 ghost use Rattle.apollo_document.specs.Elaborated.{elaborated, elaborated_selection};
 ghost use Rattle.apollo_document.specs.InParents.{field_kept, fragment_kept, noting_field, noting_fragment};
@@ -221,31 +220,32 @@ impl Elaboration {
         ensures faults { OnOk result (self.new ≡ noting_within parent.now node.now self.old) }
         ensures path { self.new.path ≡ self.old.path }
     {
-        let Some(definition) = self.definition_in(parent, &node.name)? else {
+        let Some(definition) = self.definition_in(parent, node)? else {
             return Ok(None);
         };
-        let Some(set) = self.elaborate_below(parent.schema, &definition, node)? else {
+        let Some(set) = self.elaborate_subselections(parent.schema, &definition, node)? else {
             return Ok(None);
         };
         let field = field_over(self.alloc, node, definition, set)?;
         Ok(Some(field))
     }
 
-    /// The definition of a field of this name in a type. That a type of the schema has none is noted.
+    /// The definition of a field in a type. That a type of the schema has none of its name is noted.
     fn definition_in(
         &mut self,
         parent: &Parent,
-        name: &Name,
+        node: &Node<ast::Field>,
     ) -> Result<Option<Node<FieldDefinition>>, AllocError>
         ensures defined { IfOk result (λ definition. definition
             ≡ if_typable (λ d. d)
-            (definition_in (option_copied parent.now.schema) parent.now.ty.now name.now)) }
-        ensures faults { OnOk result ((location : Option Span)
-            → self.new
-            ≡ noting (below_or_wrong (λ _. []) location self.old.path
-            (definition_in (option_copied parent.now.schema) parent.now.ty.now name.now)) self.old) }
+            (definition_in (option_copied parent.now.schema) parent.now.ty.now node.now.value.name)) }
+        ensures faults { OnOk result (self.new
+            ≡ noting (below_or_wrong (λ _. []) node.now.location self.old.path
+            (definition_in (option_copied parent.now.schema) parent.now.ty.now node.now.value.name))
+            self.old) }
         ensures path { self.new.path ≡ self.old.path }
     {
+        let name = &node.name;
         let Some(schema) = parent.schema else {
             return Ok(Some(unknown_field(self.alloc, name)?));
         };
@@ -267,7 +267,7 @@ impl Elaboration {
     /// The set of a field with this definition, typed. There is none if the field has subselections from a
     /// leaf type, which is noted.
     #[cycle(elaborate)]
-    fn elaborate_below(
+    fn elaborate_subselections(
         &mut self,
         schema: Option<&Schema>,
         definition: &Node<FieldDefinition>,
@@ -332,7 +332,7 @@ impl Elaboration {
         ensures faults { OnOk result (self.new ≡ noting_fragment parent.now node.now self.old) }
         ensures path { self.new.path ≡ self.old.path }
     {
-        let Some(set) = self.elaborate_condition(parent, node)? else {
+        let Some(set) = self.elaborate_fragment_set(parent, node)? else {
             return Ok(None);
         };
         let inline = inline_fragment_over(self.alloc, node, set)?;
@@ -342,23 +342,23 @@ impl Elaboration {
     /// The set of an inline fragment, typed: from the type of its condition, or without one from the same
     /// type. There is none if the condition is no type, which is noted.
     #[cycle(elaborate)]
-    fn elaborate_condition(
+    fn elaborate_fragment_set(
         &mut self,
         parent: &Parent,
-        fragment: &ast::InlineFragment,
+        node: &Node<ast::InlineFragment>,
     ) -> Result<Option<SelectionSet>, AllocError>
         ensures set { IfOk result (λ kept. kept
-            ≡ if_typable (λ t. elaborated (option_copied parent.now.schema) t fragment.now.selection_set)
+            ≡ if_typable (λ t. elaborated (option_copied parent.now.schema) t node.now.value.selection_set)
             (typable_fragment (option_copied parent.now.schema) parent.now.ty.now
-            fragment.now.type_condition)) }
-        ensures faults { OnOk result ((location : Option Span)
-            → self.new
+            node.now.value.type_condition)) }
+        ensures faults { OnOk result (self.new
             ≡ noting (below_or_wrong (λ t. faults_of_selections (option_copied parent.now.schema) t
-            self.old.path fragment.now.selection_set) location self.old.path
+            self.old.path node.now.value.selection_set) node.now.location self.old.path
             (typable_fragment (option_copied parent.now.schema) parent.now.ty.now
-            fragment.now.type_condition)) self.old) }
+            node.now.value.type_condition)) self.old) }
         ensures path { self.new.path ≡ self.old.path }
     {
+        let fragment: &ast::InlineFragment = node;
         let selections = fragment.selection_set.as_slice();
         let Some(condition) = &fragment.type_condition else {
             let set = self.elaborate_from(parent, selections)?;

@@ -9,10 +9,8 @@
 
 pub mod adoption;
 pub mod builder_error;
-pub mod directive_definition;
 pub mod extension;
+mod faults;
 pub mod fold;
-pub mod from_ast;
-pub mod orphans;
-pub mod redefinition;
+mod from_ast;
 pub mod waiting;

@@ -1,5 +1,7 @@
 //! What a build answers where it has no schema without faults: GraphQL specification of October 2021, section
 //! 3.
+ghost use Rattle.std.specs.Prelude.{◌≡◌};
+ghost use Rattle.apollo_schema.specs.BuildAnswers.{failure_of};
 
 use crate::schema::Schema;
 use apollo_folding::builder_error::BuilderError;
@@ -62,4 +64,15 @@ pub enum BuildFailure {
     /// A call of the builder was refused before, or of the one that it was cloned from.
     #[error("{}", BuilderError::Failed)]
     Failed,
+}
+
+/// A refusal, as that of a build.
+pub(crate) fn refusal(error: BuilderError) -> BuildFailure
+    ensures { result ≡ failure_of error }
+{
+    match error {
+        BuilderError::Memory => BuildFailure::Memory,
+        BuilderError::ExtensionIds => BuildFailure::ExtensionIds,
+        BuilderError::Failed => BuildFailure::Failed,
+    }
 }

@@ -1,10 +1,11 @@
 //! Schemas: GraphQL specification of October 2021, sections 3.3 to 3.8, 4.1 and 4.2.
 ghost use Rattle.std.specs.Prelude.{◌≡◌, false, [], None, Some, IfOk, IfErr, OnErr, option_map};
-ghost use Rattle.std.specs.Option.{option_copied};
+ghost use Rattle.std.specs.Option.{option_copied, unwrap_or};
 ghost use Rattle.apollo_types.specs.TypeKinds.{as_scalar, as_object, as_interface, as_union, as_enum};
 ghost use Rattle.apollo_types.specs.TypeKinds.{as_input_object, is_input_type, is_output_type};
 ghost use Rattle.apollo_meaning.specs.BuiltInTable.{built_in_definitions};
 ghost use Rattle.apollo_meaning.specs.Items.ListItems.{added};
+ghost use Rattle.apollo_meaning.specs.Schema.Definition.{no_schema};
 ghost use Rattle.apollo_schema.specs.Implementers.{implementers_map};
 ghost use Rattle.apollo_schema.specs.Lookups.{type_at, node_if, refers_to, is_listed, declares, is_subtype};
 ghost use Rattle.apollo_schema.specs.Lookups.{declared_field, is_query_root, meta_field, field_of_type};
@@ -52,6 +53,19 @@ pub struct Schema {
     pub types: Table<NamedType, ExtendedType>,
     #[derive_where(skip)]
     meta_fields: MetaFields,
+}
+
+/// The definition of a schema, or the one of a schema that has none.
+pub(crate) fn definition_or_none(
+    alloc: Global,
+    definition: Option<Node<SchemaDefinition>>,
+) -> Result<Node<SchemaDefinition>, AllocError>
+    ensures { IfOk result (λ node. node ≡ unwrap_or definition no_schema) }
+{
+    match definition {
+        Some(node) => Ok(node),
+        None => Node::new(alloc, SchemaDefinition::new(alloc)),
+    }
 }
 
 impl Schema {

@@ -1,30 +1,40 @@
-//! What a builder holds.
-ghost use Rattle.std.specs.Prelude.{◌≡◌, ◌≢◌, false, ◌+◌, ◌^◌, ◌≤◌, [], ◌∷◌, length, OnOk, OnErr};
-ghost use Rattle.std.specs.Prelude.{IfOk, IfErr, List, ℕ};
-ghost use Rattle.graphql_nodes.specs.Tables.{insert_entry};
-ghost use Rattle.graphql_nodes.specs.SameText.{same_text};
+//! What a builder holds, and the end of its list: what that leaves to adopt, to imply and to refuse, and the
+//! schema.
+ghost use Rattle.std.specs.Prelude.{◌≡◌, ◌≢◌, false, ◌+◌, ◌^◌, ◌≤◌, [], ◌∷◌, length, OnOk, OnErr, IfOk};
+ghost use Rattle.std.specs.Prelude.{IfErr, List, ℕ, ◌++◌, Err};
 ghost use Rattle.graphql_ast.specs.Definitions.{definition_location};
 ghost use Rattle.graphql_ast.specs.DefinitionTexts.{definition_text};
 ghost use Rattle.graphql_ast.specs.declared.declaration_ref.DeclarationRef.TheVariants as seen;
-ghost use Rattle.apollo_component.specs.Extensions.{next_number};
-ghost use Rattle.apollo_meaning.specs.declared.build_error.BuildError.TheVariants as errors;
+ghost use Rattle.apollo_component.specs.Extensions.{next_number, source_at};
 ghost use Rattle.apollo_meaning.specs.Items.Parts.{schema_definition_part, schema_extension_part};
 ghost use Rattle.apollo_meaning.specs.Items.ListItems.{Extended, ListItem, SchemaDefined, SchemaExtended};
-ghost use Rattle.apollo_meaning.specs.Items.ListItems.{added, added_item, added_items, item_of};
+ghost use Rattle.apollo_meaning.specs.Items.ListItems.{added, added_item, added_items, item_of, schema_item};
 ghost use Rattle.apollo_meaning.specs.BuiltInTable.{built_in_definitions};
 ghost use Rattle.apollo_meaning.specs.Completion.OrphanNames.{orphan_names};
+ghost use Rattle.apollo_meaning.specs.Completion.Adoption.{with_adopted};
+ghost use Rattle.apollo_meaning.specs.Completion.ImpliedSchema.{implied_schema, completed};
+ghost use Rattle.apollo_meaning.specs.Schema.Whole.{folds};
+ghost use Rattle.apollo_meaning.specs.Faults.ListFaults.{faults_of};
+ghost use Rattle.apollo_meaning.specs.Order.SpentIds.{SpendsIds};
+ghost use Rattle.apollo_meaning.specs.declared.build_error.BuildError.TheVariants as errors;
 ghost use Rattle.apollo_folding.specs.DeclaredParts.{item_seen, part_seen, definition_seen};
 ghost use Rattle.apollo_folding.specs.Noting.{noting};
 ghost use Rattle.apollo_folding.specs.Refusals.{RefusedAs};
+ghost use Rattle.apollo_folding.specs.Adopting.{adopted_for, adopted_for_each};
 ghost use Rattle.apollo_schema.specs.NamesLeft.{names_left};
-ghost use Rattle.apollo_schema.specs.Stands.{Stands};
-ghost use Rattle.apollo_schema.specs.Takes.{Takes, SpentBy, with_schema};
+ghost use Rattle.apollo_schema.specs.Stands.{Stands, Ends, Completes};
+ghost use Rattle.apollo_schema.specs.Takes.{Takes, SpentBy, with_schema, Becomes, SpentOn, ForLists};
+ghost use Rattle.apollo_schema.specs.Takes.{ForCompleted};
+ghost use Rattle.apollo_schema.specs.MeantSchema.{MeansSchema, IsPartOf};
+ghost use Rattle.apollo_schema.specs.BuildAnswers.{IfFaults, HasBuilt, WasRefused};
 
-mod completion;
-
+use crate::build_failure::{BuildFailure, WithErrors, refusal};
 use crate::orphan_names::OrphanNames;
+use crate::schema::{Schema, definition_or_none};
 use apollo_component::extension::ExtensionSource;
+use apollo_folding::adoption::{adopted_from, first_extensions, implied_definition};
 use apollo_folding::builder_error::BuilderError;
+use apollo_folding::extension::extension_of;
 use apollo_folding::fold::Fold;
 use apollo_folding::waiting::{add_waiting, take_waiting};
 use apollo_meaning::build_error::BuildError;
@@ -41,6 +51,7 @@ use graphql_nodes::collections::static_text::StaticText;
 use graphql_nodes::collections::table::Table;
 use graphql_nodes::name::Name;
 use graphql_nodes::node::Node;
+use graphql_nodes::source::SourceMap;
 use graphql_nodes::take_apart;
 use std::alloc::{AllocError, Global};
 use std::mem;
@@ -60,18 +71,6 @@ impl Drop for Tables {
     fn drop(self) {
         take_apart!(self: schema_definition, schema_extensions, types, directive_definitions, waiting, fold);
     }
-}
-
-/// Puts a type under a name. The error is out of memory.
-fn put(
-    types: &mut Table<Name, ExtendedType>,
-    name: &Name,
-    ty: ExtendedType,
-) -> Result<(), AllocError>
-    ensures put { OnOk result (types.new ≡ insert_entry same_text types.old name.now ty) }
-{
-    types.insert(name.clone()?, ty)?;
-    Ok(())
 }
 
 /// Puts a copy of a value in the place of another.
@@ -139,7 +138,7 @@ impl Tables {
         }
         let extensions = take_waiting(self.fold.alloc, &mut self.waiting, definition.name);
         let ty = self.fold.begin_type(definition, extensions.as_slice())?;
-        put(&mut self.types, definition.name, ty)?;
+        self.types.insert(definition.name.clone()?, ty)?;
         Ok(())
     }
 
@@ -301,6 +300,184 @@ impl Tables {
         )?;
         copy_into(&mut self.waiting, &original.waiting)?;
         Ok(())
+    }
+
+    /// Takes the empty definition by which this extension of a type is adopted.
+    fn adopt_one(&mut self, extension: &Definition) -> Result<(), BuilderError>
+        ensures stands { OnOk result (Takes self.old (adopted_for (extension.now ∷ [])) self.new) }
+        ensures refused { IfErr result (λ error.
+            RefusedAs error (SpentBy self.old (adopted_for (extension.now ∷ [])))) }
+    {
+        let Some(said) = extension_of(extension) else {
+            return Ok(());
+        };
+        self.define(&adopted_from(&said), false)
+    }
+
+    /// Takes the empty definitions by which these extensions of types are adopted, in order.
+    fn adopt_each(&mut self, firsts: &[Definition]) -> Result<(), BuilderError>
+        ensures stands { OnOk result (Takes self.old (adopted_for_each firsts.now) self.new) }
+        ensures refused { IfErr result (λ error.
+            RefusedAs error (SpentBy self.old (adopted_for_each firsts.now))) }
+    {
+        for extension in firsts {
+            self.adopt_one(extension)?;
+        }
+        Ok(())
+    }
+
+    /// Takes an empty definition for each name that is extended only, where such names are adopted.
+    fn adopt(&mut self, adopts: bool) -> Result<(), BuilderError>
+        ensures stands { OnOk result (Becomes self.old (with_adopted adopts) self.new) }
+        ensures refused { IfErr result (λ error. RefusedAs error (SpentOn self.old (with_adopted adopts))) }
+    {
+        if !adopts {
+            return Ok(());
+        }
+        let firsts = first_extensions(self.fold.alloc, &self.waiting)?;
+        self.adopt_each(firsts.as_slice())?;
+        Ok(())
+    }
+
+    /// The schema definition that is implied where none stands.
+    fn implied_schema(
+        &self,
+        adopts: bool,
+    ) -> Result<Option<Node<ast::SchemaDefinition>>, AllocError>
+        ensures { IfOk result (λ implied. (start : ℕ) (xs : List ListItem) → Stands start xs self.now
+            → schema_item implied ≡ implied_schema adopts xs) }
+    {
+        if self.schema_definition.is_some() {
+            return Ok(None);
+        }
+        let implied = implied_definition(
+            self.fold.alloc,
+            self.schema_extensions.as_slice(),
+            &self.types,
+            adopts,
+        )?;
+        Ok(implied)
+    }
+
+    /// Ends a list: what still waits is at fault, and a schema definition may be implied.
+    fn end(&mut self, adopts: bool) -> Result<(), BuilderError>
+        ensures ends { OnOk result ((start : ℕ) (xs : List ListItem) → Stands start xs self.old
+            → Ends start (implied_schema adopts xs) xs self.new) }
+        ensures refused { IfErr result (λ error.
+            RefusedAs error (SpentOn self.old (λ xs. xs ++ implied_schema adopts xs))) }
+    {
+        let implied = self.implied_schema(adopts)?;
+        self.fold.note_orphans(&self.waiting)?;
+        let Some(node) = implied else {
+            self.fold
+                .note_schema_orphans(self.schema_extensions.as_slice())?;
+            return Ok(());
+        };
+        self.put_schema(&node)?;
+        Ok(())
+    }
+
+    /// Completes a list: types are adopted, and it ends.
+    fn complete(&mut self, adopts: bool) -> Result<(), BuilderError>
+        ensures completes { OnOk result ((start : ℕ) (xs : List ListItem) → Stands start xs self.old
+            → Completes start adopts xs self.new) }
+        ensures refused { IfErr result (λ error. RefusedAs error (SpentOn self.old (completed adopts))) }
+    {
+        self.adopt(adopts)?;
+        self.end(adopts)?;
+        Ok(())
+    }
+
+    /// What was built, with these source files, and the source: the schema where nothing was found, or else
+    /// what could be built beside the faults. The error is out of memory, and puts the source back at this
+    /// number.
+    fn into_schema(
+        self,
+        sources: SourceMap,
+        before: u64,
+    ) -> (Result<Schema, BuildFailure>, ExtensionSource)
+        ensures built { IfOk result.0 (λ schema.
+            ForCompleted self (λ start adopts xs. MeansSchema start adopts xs schema)) }
+        ensures faultless { OnOk result.0 (ForCompleted self (λ start adopts xs. faults_of adopts xs ≡ [])) }
+        ensures faults { IfErr result.0 (λ failure.
+            IfFaults failure (λ partial faults.
+            ForCompleted self (λ start adopts xs. IsPartOf start adopts xs sources partial faults))) }
+        ensures sources { IfOk result.0 (λ schema. schema.sources ≡ sources) }
+        ensures failed { result.0 ≢ Err BuildFailure.Failed }
+        ensures unspent { result.0 ≢ Err BuildFailure.ExtensionIds }
+        ensures source { HasBuilt result.0 → result.1 ≡ self.fold.ids }
+        ensures rolled_back { WasRefused result.0 → result.1 ≡ source_at before }
+    {
+        let Tables {
+            schema_definition,
+            schema_extensions: _,
+            types,
+            directive_definitions,
+            waiting: _,
+            fold,
+        } = self;
+        let Fold {
+            alloc,
+            keys: _,
+            ids,
+            faults,
+        } = fold;
+        let Ok(schema_definition) = definition_or_none(alloc, schema_definition) else {
+            return (
+                Err(BuildFailure::Memory),
+                ExtensionSource::starting_at(before),
+            );
+        };
+        let Ok(schema) = Schema::from_parts(
+            alloc,
+            sources,
+            schema_definition,
+            directive_definitions,
+            types,
+        ) else {
+            return (
+                Err(BuildFailure::Memory),
+                ExtensionSource::starting_at(before),
+            );
+        };
+        if faults.is_empty() {
+            return (Ok(schema), ids);
+        }
+        let found = WithErrors {
+            partial: schema,
+            errors: faults.into_vec(),
+        };
+        (Err(BuildFailure::Faults(found)), ids)
+    }
+
+    /// Completes the list, and answers what was built, with these source files, and the source. After a
+    /// refusal that is the one from before the call.
+    pub fn finish(
+        self,
+        sources: SourceMap,
+        adopts: bool,
+    ) -> (Result<Schema, BuildFailure>, ExtensionSource)
+        ensures built { IfOk result.0 (λ schema.
+            ForLists self (λ start xs. MeansSchema start adopts xs schema)) }
+        ensures faultless { OnOk result.0 (ForLists self (λ start xs. faults_of adopts xs ≡ [])) }
+        ensures faults { IfErr result.0 (λ failure.
+            IfFaults failure (λ partial faults.
+            ForLists self (λ start xs. IsPartOf start adopts xs sources partial faults))) }
+        ensures sources { IfOk result.0 (λ schema. schema.sources ≡ sources) }
+        ensures failed { result.0 ≢ Err BuildFailure.Failed }
+        ensures spent { result.0 ≡ Err BuildFailure.ExtensionIds
+            → ForLists self (λ start xs. SpendsIds start adopts xs) }
+        ensures source { HasBuilt result.0
+            → ForLists self (λ start xs. result.1 ≡ source_at (start + folds adopts xs)) }
+        ensures rolled_back { WasRefused result.0 → result.1 ≡ self.fold.ids }
+        ensures not_below { ForLists self (λ start xs. start ≤ next_number result.1) }
+    {
+        let before = self.next_number();
+        let mut tables = self;
+        match tables.complete(adopts) {
+            Ok(()) => tables.into_schema(sources, before),
+            Err(error) => (Err(refusal(error)), ExtensionSource::starting_at(before)),
+        }
     }
 }
 

@@ -70,9 +70,9 @@ impl<'a> Rest<'a> {
         match self {
             Rest::Nothing => {}
             Rest::Names(names) => parts.add_names(alloc, names.as_slice())?,
-            Rest::Fields(fields) => parts.add_named_components(alloc, fields)?,
-            Rest::EnumValues(values) => parts.add_named_components(alloc, values)?,
-            Rest::InputFields(fields) => parts.add_named_components(alloc, fields)?,
+            Rest::Fields(fields) => parts.add_components(alloc, fields.as_slice())?,
+            Rest::EnumValues(values) => parts.add_components(alloc, values.as_slice())?,
+            Rest::InputFields(fields) => parts.add_components(alloc, fields.as_slice())?,
             Rest::Roots(roots) => add_roots(alloc, roots, parts)?,
         }
         Ok(())

@@ -5,7 +5,6 @@ mod bench;
 mod command;
 mod failure;
 pub mod memory;
-mod phases;
+pub mod phases;
 mod report;
 pub mod running;
-pub mod stopwatch;

@@ -1,8 +1,8 @@
 //! Runs of `gqlbench` over systems whose answers are known.
 
 use gqlbench_run::memory::ProcessStatus;
+use gqlbench_run::phases::summary;
 use gqlbench_run::running::run;
-use gqlbench_run::stopwatch::summary;
 use program_io::status::Status;
 use program_tests::failing::FailingWriter;
 use std::alloc::Global;

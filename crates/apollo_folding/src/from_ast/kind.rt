@@ -1,25 +1,26 @@
 //! Kinds of types, from what definitions and extensions say.
-ghost use Rattle.std.specs.Prelude.{◌≡◌, List, [], ◌∷◌, IfOk, IfErr, OnOk};
+ghost use Rattle.std.specs.Prelude.{◌≡◌, [], ◌∷◌, OnOk, IfOk, List, IfErr};
 ghost use Rattle.std.specs.Option.{option_copied};
 ghost use Rattle.graphql_nodes.specs.NodeView.{NodeView};
 ghost use Rattle.graphql_nodes.specs.declared.type_kind.TypeKind.{TypeKind};
 ghost use Rattle.apollo_component.specs.declared.extension.ComponentOrigin.TheVariants as origins;
 ghost use Rattle.apollo_types.specs.declared.extended_type.ExtendedType.{ExtendedType};
+ghost use Rattle.apollo_meaning.specs.Faults.TypeFaults.{part_faults};
 ghost use Rattle.apollo_meaning.specs.Items.Parts.{TypePart};
 ghost use Rattle.apollo_meaning.specs.Types.Components.{Sourced};
 ghost use Rattle.apollo_meaning.specs.Types.Meaning.{type_from};
-ghost use Rattle.apollo_meaning.specs.Faults.TypeFaults.{part_faults};
-ghost use Rattle.apollo_folding.specs.DeclaredParts.{part_as};
-ghost use Rattle.apollo_folding.specs.Joins.{Extends, FindsJoining, JoinsOne, FindsOne};
-ghost use Rattle.apollo_folding.specs.KindParts.{IsOf};
 ghost use Rattle.apollo_folding.specs.Noting.{noting};
+ghost use Rattle.apollo_folding.specs.Joins.{Extends, FindsJoining, JoinsOne, FindsOne};
+ghost use Rattle.apollo_folding.specs.DeclaredParts.{part_as};
 ghost use Rattle.apollo_folding.specs.Refusals.{RefusedAs, SpentWith, after};
+ghost use Rattle.apollo_folding.specs.KindParts.{IsOf};
 
 use crate::builder_error::BuilderError;
 use crate::fold::Fold;
 use crate::from_ast::folding::Part;
 use apollo_component::extension::ComponentOrigin;
 use apollo_meaning::build_error::Fault;
+use apollo_types::extended_type::ExtendedType;
 use graphql_ast::declaration_ref::TypeDeclarationRef;
 use graphql_nodes::collections::items::Items;
 use graphql_nodes::node::Node;
@@ -68,52 +69,50 @@ pub trait Kind: Clone + Drop {
         → wrapped node ≡ type_from head done → IsOf kind head.kind wrapped made head done node };
 }
 
-impl Fold {
-    /// The type of a definition of this kind alone, at the definition's location. Components that are there
-    /// already are left out, and their faults added at the end. The error is out of memory.
-    pub(crate) fn type_of_definition<K: Kind>(
-        &mut self,
-        head: &TypeDeclarationRef<'_>,
-    ) -> Result<Node<K>, AllocError>
-        ensures made { IfOk result (λ ty. let d = part_as K.kind head.now in
-            ty ≡ record { value = K.made d ((origins.Definition, d) ∷ []); location = d.location }) }
-        ensures faults { OnOk result (self.new ≡ noting (part_faults [] (part_as K.kind head.now)) self.old) }
-        ensures rest { self.new ≡ record self.old { faults = self.new.faults } }
-    {
-        let mut ty = K::bare(self, head)?;
-        let part = Part {
-            of: head,
-            origin: ComponentOrigin::Definition,
-        };
-        ty.fold(&part, &mut self.faults)?;
-        Node::new_opt_location(self.alloc, ty, head.location)
-    }
+/// The type of a definition of this kind alone, at the definition's location. Components that are there
+/// already are left out, and their faults added at the end. The error is out of memory.
+pub(crate) fn type_of_definition<K: Kind>(
+    fold: &mut Fold,
+    head: &TypeDeclarationRef<'_>,
+) -> Result<Node<K>, AllocError>
+    ensures made { IfOk result (λ ty. let d = part_as K.kind head.now in
+        ty ≡ record { value = K.made d ((origins.Definition, d) ∷ []); location = d.location }) }
+    ensures faults { OnOk result (fold.new ≡ noting (part_faults [] (part_as K.kind head.now)) fold.old) }
+    ensures rest { fold.new ≡ record fold.old { faults = fold.new.faults } }
+{
+    let mut ty = K::bare(fold, head)?;
+    let part = Part {
+        of: head,
+        origin: ComponentOrigin::Definition,
+    };
+    ty.fold(&part, &mut fold.faults)?;
+    Node::new_opt_location(fold.alloc, ty, head.location)
+}
 
-    /// Folds an extension, read as one of this kind, into a type of it, under the source's next identity.
-    /// Components that are there already are left out, and their faults added at the end.
-    ///
-    /// `Memory` is out of memory, and `ExtensionIds` that the source has no number left.
-    pub(crate) fn extend_node<K: Kind>(
-        &mut self,
-        node: &mut Node<K>,
-        extension: &TypeDeclarationRef<'_>,
-    ) -> Result<(), BuilderError>
-        ensures folded { let part = part_as K.kind extension.now in
-            OnOk result (Extends (K.wrapped node.old) self.old.ids (part ∷ []) (K.wrapped node.new)) }
-        ensures faults { let part = part_as K.kind extension.now in
-            OnOk result
-            (FindsJoining (K.wrapped node.old) (part ∷ []) self.old.faults self.new.faults) }
-        ensures next { OnOk result (self.new.ids ≡ after self.old.ids 1) }
-        ensures rest { self.new ≡ record self.old { ids = self.new.ids; faults = self.new.faults } }
-        ensures refused { IfErr result (λ error. RefusedAs error (SpentWith self.old.ids 1)) }
-    {
-        let id = self.ids.draw(extension.location)?;
-        let ty = node.make_mut()?;
-        let part = Part {
-            of: extension,
-            origin: ComponentOrigin::Extension(id),
-        };
-        ty.fold(&part, &mut self.faults)?;
-        Ok(())
-    }
+/// Folds an extension, read as one of this kind, into a type of it, under the source's next identity.
+/// Components that are there already are left out, and their faults added at the end.
+///
+/// `Memory` is out of memory, and `ExtensionIds` that the source has no number left.
+pub(crate) fn extend_node<K: Kind>(
+    fold: &mut Fold,
+    node: &mut Node<K>,
+    extension: &TypeDeclarationRef<'_>,
+) -> Result<(), BuilderError>
+    ensures folded { let part = part_as K.kind extension.now in
+        OnOk result (Extends (K.wrapped node.old) fold.old.ids (part ∷ []) (K.wrapped node.new)) }
+    ensures faults { let part = part_as K.kind extension.now in
+        OnOk result
+        (FindsJoining (K.wrapped node.old) (part ∷ []) fold.old.faults fold.new.faults) }
+    ensures next { OnOk result (fold.new.ids ≡ after fold.old.ids 1) }
+    ensures rest { fold.new ≡ record fold.old { ids = fold.new.ids; faults = fold.new.faults } }
+    ensures refused { IfErr result (λ error. RefusedAs error (SpentWith fold.old.ids 1)) }
+{
+    let id = fold.ids.draw(extension.location)?;
+    let ty = node.make_mut()?;
+    let part = Part {
+        of: extension,
+        origin: ComponentOrigin::Extension(id),
+    };
+    ty.fold(&part, &mut fold.faults)?;
+    Ok(())
 }

@@ -1,33 +1,21 @@
 //! The definition of the schema from its definitions and extensions.
-ghost use Rattle.apollo_folding.specs.Joins.{JoinsSchemaPart, FindsRoots, Joins, Finds};
-ghost use Rattle.std.specs.Prelude.{◌≡◌, ◌≤◌, List, [], ◌∷◌, ◌++◌, length, map, None, Some, IfOk, IfErr};
-ghost use Rattle.std.specs.Prelude.{OnOk};
+ghost use Rattle.std.specs.Prelude.{◌≡◌, [], OnOk, IfOk, map, ◌++◌, List, None, Some};
 ghost use Rattle.std.specs.Option.{option_or};
-ghost use Rattle.apollo_component.specs.Extensions.{next_number};
-ghost use Rattle.apollo_component.specs.declared.extension.ComponentOrigin.TheVariants as origins;
 ghost use Rattle.apollo_types.specs.SchemaRoots.{root_of};
+ghost use Rattle.apollo_types.specs.declared.schema_definition.SchemaDefinition.{};
 ghost use Rattle.apollo_types.specs.declared.schema_definition.SchemaDefinition.{SchemaDefinition as AnyDefinition};
-ghost use Rattle.apollo_meaning.specs.Items.Parts.{schema_definition_part, schema_extension_part};
 ghost use Rattle.apollo_meaning.specs.Types.Components.{component_name};
-ghost use Rattle.apollo_meaning.specs.Schema.Definition.{schema_from};
-ghost use Rattle.apollo_meaning.specs.Faults.RootFaults.{schema_faults};
+ghost use Rattle.apollo_folding.specs.Joins.{JoinsSchemaPart, FindsRoots};
 ghost use Rattle.apollo_folding.specs.RootTables.{NamedRoot, root_with_origin, with_roots, put_root};
 ghost use Rattle.apollo_folding.specs.RootTables.{dropped_root, held_fault, held_faults};
-ghost use Rattle.apollo_meaning.specs.Steps.Joining.{schema_numbered, schema_begun, schema_begun_faults};
-ghost use Rattle.apollo_meaning.specs.Steps.Joining.{schema_joining_faults};
-ghost use Rattle.apollo_folding.specs.Noting.{having_folded, noting};
-ghost use Rattle.apollo_folding.specs.Refusals.{RefusedAs, SpentWith, after};
 
-use crate::builder_error::BuilderError;
-use crate::fold::Fold;
 use crate::from_ast::folding::fold_directives;
 use apollo_component::component::ComponentName;
-use apollo_component::extension::{ComponentOrigin, ExtensionId};
+use apollo_component::extension::ComponentOrigin;
 use apollo_meaning::build_error::{BuildError, Fault};
 use apollo_types::schema_definition::SchemaDefinition;
 use graphql_ast::directive::Directive;
 use graphql_ast::type_system as ast;
-use graphql_ast::type_system::SchemaExtension;
 use graphql_nodes::collections::items::Items;
 use graphql_nodes::collections::static_text::StaticText;
 use graphql_nodes::name::NamedType;
@@ -111,7 +99,10 @@ fn fold_roots(
 }
 
 /// The schema definition of a definition without its components.
-fn bare(alloc: Global, definition: &ast::SchemaDefinition) -> Result<SchemaDefinition, AllocError>
+pub(crate) fn bare(
+    alloc: Global,
+    definition: &ast::SchemaDefinition,
+) -> Result<SchemaDefinition, AllocError>
     ensures { IfOk result (λ made. made
         ≡ record {
           description = definition.now.description;
@@ -126,134 +117,19 @@ fn bare(alloc: Global, definition: &ast::SchemaDefinition) -> Result<SchemaDefin
     Ok(made)
 }
 
-impl Fold {
-    /// Folds the components of a definition or extension in.
-    fn fold_schema(
-        &mut self,
-        definition: &mut SchemaDefinition,
-        directives: &[Node<Directive>],
-        roots: &[Node<(OperationType, NamedType)>],
-        origin: ComponentOrigin,
-    ) -> Result<(), AllocError>
-        ensures folded { OnOk result
-            (JoinsSchemaPart definition.old origin directives.now roots.now definition.new) }
-        ensures faults { OnOk result (FindsRoots definition.old roots.now self.old.faults self.new.faults) }
-        ensures rest { self.new ≡ record self.old { faults = self.new.faults } }
-    {
-        fold_directives(&mut definition.directives, directives, origin)?;
-        fold_roots(definition, roots, origin, &mut self.faults)?;
-        Ok(())
-    }
-
-    /// The schema definition of a definition alone.
-    fn schema_from_ast(
-        &mut self,
-        node: &Node<ast::SchemaDefinition>,
-    ) -> Result<Node<SchemaDefinition>, AllocError>
-        ensures made { IfOk result (λ made. let head = schema_definition_part node.now in
-            made ≡ schema_from head ((origins.Definition, head) ∷ [])) }
-        ensures faults { OnOk result (self.new
-            ≡ noting (schema_faults [] (schema_definition_part node.now)) self.old) }
-        ensures rest { self.new ≡ record self.old { faults = self.new.faults } }
-    {
-        let mut definition = bare(self.alloc, node)?;
-        self.fold_schema(
-            &mut definition,
-            node.directives.as_slice(),
-            node.root_operations.as_slice(),
-            ComponentOrigin::Definition,
-        )?;
-        let made = node.same_location(self.alloc, definition)?;
-        Ok(made)
-    }
-
-    /// Folds an extension of the schema in under the source's next identity (section 3.3.2). A root whose
-    /// operation has one is left out, and its fault added at the end.
-    ///
-    /// `Memory` is out of memory. `ExtensionIds` comes only where the source has no number left.
-    pub fn extend_schema(
-        &mut self,
-        node: &mut Node<SchemaDefinition>,
-        extension: &Node<SchemaExtension>,
-    ) -> Result<(), BuilderError>
-        ensures folded { OnOk result
-            (Joins schema_from node.old (λ _.
-            schema_numbered (next_number self.old.ids) (schema_extension_part extension.now ∷ []))
-            node.new) }
-        ensures faults { OnOk result
-            (Finds schema_from node.old (λ _ parts.
-            schema_faults parts (schema_extension_part extension.now)) self.old.faults self.new.faults) }
-        ensures next { OnOk result (self.new
-            ≡ record self.old { ids = after self.old.ids 1; faults = self.new.faults }) }
-        ensures grows { next_number self.old.ids ≤ next_number self.new.ids }
-        ensures rest { self.new ≡ record self.old { ids = self.new.ids; faults = self.new.faults } }
-        ensures refused { IfErr result (λ error. RefusedAs error (SpentWith self.old.ids 1)) }
-    {
-        let id = ExtensionId::new(&mut self.ids, extension)?;
-        self.fold_schema(
-            node.make_mut()?,
-            extension.directives.as_slice(),
-            extension.root_operations.as_slice(),
-            ComponentOrigin::Extension(id),
-        )?;
-        Ok(())
-    }
-
-    /// Folds extensions in, in order.
-    fn extend_schema_by_all(
-        &mut self,
-        node: &mut Node<SchemaDefinition>,
-        extensions: &[Node<SchemaExtension>],
-    ) -> Result<(), BuilderError>
-        ensures folded { OnOk result
-            (Joins schema_from node.old (λ _.
-            schema_numbered (next_number self.old.ids) (map schema_extension_part extensions.now))
-            node.new) }
-        ensures faults { OnOk result
-            (Finds schema_from node.old (λ _ parts.
-            schema_joining_faults parts (map schema_extension_part extensions.now)) self.old.faults
-            self.new.faults) }
-        ensures next { OnOk result (self.new
-            ≡ record self.old {
-              ids = after self.old.ids (length extensions.now);
-              faults = self.new.faults;
-            }) }
-        ensures grows { next_number self.old.ids ≤ next_number self.new.ids }
-        ensures rest { self.new ≡ record self.old { ids = self.new.ids; faults = self.new.faults } }
-        ensures refused { IfErr result (λ error.
-            RefusedAs error (SpentWith self.old.ids (length extensions.now))) }
-    {
-        for extension in extensions {
-            self.extend_schema(node, extension)?;
-        }
-        Ok(())
-    }
-
-    /// The schema definition of a definition with these extensions folded in, in order, as
-    /// [`extend_schema`](Fold::extend_schema) does, at the location of the definition. The faults of the
-    /// definition are added at the end, and then those of the extensions.
-    ///
-    /// `Memory` is out of memory. `ExtensionIds` comes only where the source has fewer numbers left than
-    /// there are extensions.
-    pub fn begin_schema(
-        &mut self,
-        node: &Node<ast::SchemaDefinition>,
-        extensions: &[Node<SchemaExtension>],
-    ) -> Result<Node<SchemaDefinition>, BuilderError>
-        ensures made { IfOk result (λ made. made
-            ≡ schema_begun (next_number self.old.ids) (schema_definition_part node.now)
-            (map schema_extension_part extensions.now)) }
-        ensures folded { OnOk result (self.new
-            ≡ having_folded (length extensions.now)
-            (schema_begun_faults (schema_definition_part node.now)
-            (map schema_extension_part extensions.now)) self.old) }
-        ensures grows { next_number self.old.ids ≤ next_number self.new.ids }
-        ensures rest { self.new ≡ record self.old { ids = self.new.ids; faults = self.new.faults } }
-        ensures refused { IfErr result (λ error.
-            RefusedAs error (SpentWith self.old.ids (length extensions.now))) }
-    {
-        let mut definition = self.schema_from_ast(node)?;
-        self.extend_schema_by_all(&mut definition, extensions)?;
-        Ok(definition)
-    }
+/// Folds the components of a definition or extension in.
+pub(crate) fn fold_schema(
+    definition: &mut SchemaDefinition,
+    directives: &[Node<Directive>],
+    roots: &[Node<(OperationType, NamedType)>],
+    origin: ComponentOrigin,
+    faults: &mut Items<Fault>,
+) -> Result<(), AllocError>
+    ensures folded { OnOk result
+        (JoinsSchemaPart definition.old origin directives.now roots.now definition.new) }
+    ensures faults { OnOk result (FindsRoots definition.old roots.now faults.old faults.new) }
+{
+    fold_directives(&mut definition.directives, directives, origin)?;
+    fold_roots(definition, roots, origin, faults)?;
+    Ok(())
 }

@@ -39,7 +39,7 @@ elaborate_fragment-returns-in_default-clause-faults t c =
     let s = option_copied c.args.parent.now.schema in
     let e = c.args.self.now in
     let n = c.args.node.now in
-    rw c.deref.ensures at (c.in_ok-set.ensures.faults n.location) ∙ ap (λ (l : List Fault). noting l e)
+    c.in_ok-set.ensures.faults ∙ ap (λ (l : List Fault). noting l e)
     (sym (faults-fragment s c.args.parent.now.ty.now n.location e.path n.value))
 
 pub elaborate_fragment-returns-clause-typed : goal.elaborate_fragment-returns-clause-typed
@@ -48,14 +48,14 @@ elaborate_fragment-returns-clause-typed t c =
     let n = c.args.node.now in
     ap Some c.in_ok-inline.ensures ∙ ap (option_map (in_place_of n))
     (fragment_made s c.args.parent.now.ty.now n.value c.in-Some.set
-    (rw c.deref.ensures at (sym c.in-Some.is ∙ c.in_ok-set.ensures.set)))
+    (sym c.in-Some.is ∙ c.in_ok-set.ensures.set))
 
 pub elaborate_fragment-returns-clause-faults : goal.elaborate_fragment-returns-clause-faults
 elaborate_fragment-returns-clause-faults t c =
     let s = option_copied c.args.parent.now.schema in
     let e = c.args.self.now in
     let n = c.args.node.now in
-    rw c.deref.ensures at (c.in_ok-set.ensures.faults n.location) ∙ ap (λ (l : List Fault). noting l e)
+    c.in_ok-set.ensures.faults ∙ ap (λ (l : List Fault). noting l e)
     (sym (faults-fragment s c.args.parent.now.ty.now n.location e.path n.value))
 
 pub elaborate_all-loop-selection-preserved : goal.elaborate_all-loop-selection-preserved
@@ -88,10 +88,8 @@ elaborate_within-returns-in_default-clause-faults t c =
     let n = c.args.node.now in
     let below : NodeView FieldDefinition → List Fault =
     λ d. faults_of_selections s (child_of d) e.path n.value.selection_set in
-    let none : None ≡ if_typable (λ (d : NodeView FieldDefinition). d) (definition_in s ty n.value.name) =
-    rw c.deref.ensures at (sym c.in_default.is ∙ c.in_ok-definition.ensures.defined) in
-    rw c.deref.ensures at (c.in_ok-definition.ensures.faults n.location)
-    ∙ ap (λ (l : List Fault). noting l e)
+    let none = sym c.in_default.is ∙ c.in_ok-definition.ensures.defined in
+    c.in_ok-definition.ensures.faults ∙ ap (λ (l : List Fault). noting l e)
     (none_found n.location e.path below (definition_in s ty n.value.name) none
     ∙ ap (below_or_wrong below n.location e.path) (sym (undefined_judged s ty n.value none)))
 
@@ -102,8 +100,7 @@ elaborate_within-returns-in_default-2-clause-typed t c =
     let ty = c.args.parent.now.ty.now in
     let n = c.args.node.now in
     let d = c.in-Some.definition in
-    let is : Some d ≡ if_typable (λ (d : NodeView FieldDefinition). d) (definition_in s ty n.value.name) =
-    rw c.deref.ensures at (sym c.in-Some.is ∙ c.in_ok-definition.ensures.defined) in
+    let is = sym c.in-Some.is ∙ c.in_ok-definition.ensures.defined in
     ap (option_map (in_place_of n))
     (field_over_leaf s ty n.value d is (sym c.in_default-2.is ∙ c.in_ok-set.ensures.set))
 
@@ -114,10 +111,8 @@ elaborate_within-returns-in_default-2-clause-faults t c =
     let ty = c.args.parent.now.ty.now in
     let n = c.args.node.now in
     let d = c.in-Some.definition in
-    let is : Some d ≡ if_typable (λ (d : NodeView FieldDefinition). d) (definition_in s ty n.value.name) =
-    rw c.deref.ensures at (sym c.in-Some.is ∙ c.in_ok-definition.ensures.defined) in
-    noted_within s ty n d c.args.self.now _ _ is
-    (rw c.deref.ensures at (c.in_ok-definition.ensures.faults n.location)) c.in_ok-set.ensures.faults
+    let is = sym c.in-Some.is ∙ c.in_ok-definition.ensures.defined in
+    noted_within s ty n d c.args.self.now _ _ is c.in_ok-definition.ensures.faults c.in_ok-set.ensures.faults
 
 pub elaborate_within-returns-clause-typed : goal.elaborate_within-returns-clause-typed
 elaborate_within-returns-clause-typed t c =
@@ -125,8 +120,7 @@ elaborate_within-returns-clause-typed t c =
     let ty = c.args.parent.now.ty.now in
     let n = c.args.node.now in
     let d = c.in-Some.definition in
-    let is : Some d ≡ if_typable (λ (d : NodeView FieldDefinition). d) (definition_in s ty n.value.name) =
-    rw c.deref.ensures at (sym c.in-Some.is ∙ c.in_ok-definition.ensures.defined) in
+    let is = sym c.in-Some.is ∙ c.in_ok-definition.ensures.defined in
     ap Some c.in_ok-field.ensures ∙ ap (option_map (in_place_of n))
     (field_made s ty n.value d is c.in-Some-2.set (sym c.in-Some-2.is ∙ c.in_ok-set.ensures.set))
 
@@ -136,7 +130,5 @@ elaborate_within-returns-clause-faults t c =
     let ty = c.args.parent.now.ty.now in
     let n = c.args.node.now in
     let d = c.in-Some.definition in
-    let is : Some d ≡ if_typable (λ (d : NodeView FieldDefinition). d) (definition_in s ty n.value.name) =
-    rw c.deref.ensures at (sym c.in-Some.is ∙ c.in_ok-definition.ensures.defined) in
-    noted_within s ty n d c.args.self.now _ _ is
-    (rw c.deref.ensures at (c.in_ok-definition.ensures.faults n.location)) c.in_ok-set.ensures.faults
+    let is = sym c.in-Some.is ∙ c.in_ok-definition.ensures.defined in
+    noted_within s ty n d c.args.self.now _ _ is c.in_ok-definition.ensures.faults c.in_ok-set.ensures.faults

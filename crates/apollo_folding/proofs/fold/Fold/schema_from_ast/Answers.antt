@@ -29,4 +29,4 @@ returns-clause-faults c =
     let head = schema_definition_part c.args.node.now in
     let roots : head.parts.roots ≡ c.as_slice-2.result.now = cc in
     let found = c.in_ok-fold_schema.ensures.faults head head [] roots (bare_definition c) in
-    c.in_ok-fold_schema.ensures.rest ∙ (λ i. record c.args.self.now { faults = found i })
+    λ i. record c.args.self.now { faults = found i }

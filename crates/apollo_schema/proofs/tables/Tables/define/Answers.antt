@@ -1,5 +1,5 @@
 use Rattle.apollo_meaning.proofs.Prelude.{is_some, refl, sym, ap, ◌∙◌, filter_map, TypePart, extended_part}
-use Rattle.apollo_meaning.proofs.Prelude.{extended_parts, items_of}
+use Rattle.apollo_meaning.proofs.Prelude.{extended_parts, items_of, insert_entry, same_text, rules, ◌≡◌}
 use Rattle.std.specs.Option.{option_copied}
 use Rattle.apollo_folding.specs.DeclaredParts.{part_seen}
 use Rattle.apollo_schema.proofs.Stands.StandsLemmas.{Stands-again, Stands-new, new-spent}
@@ -24,8 +24,11 @@ returns-in_err-ty-clause-refused c =
 pub returns-clause-stands : goal.returns-clause-stands
 returns-clause-stands c = λ start xs was.
     let p : TypePart = record (part_seen c.args.definition.now) { ignorable = c.args.ignores } in
+    let name : c.in_ok-clone.field-0 ≡ p.name = search rules in
+    let put = c.in_ok-insert.ensures.entries
+    ∙ ap (λ k. insert_entry same_text c.args.self.now.types k c.in_ok-ty.ty) name in
     Stands-new was p _ c.in_ok-ty.ty (extended_parts c.as_slice.result.now) (ap is_some (sym c.get.ensures
     ∙ ap option_copied c.in_default.is)) (ap (filter_map extended_part) (ap items_of c.as_slice.ensures
     ∙ c.take_waiting-extensions.ensures.taken)) (c.in_ok-ty.ensures.made c.args.ignores) refl refl
-    c.in_ok-put.ensures.put refl c.take_waiting-extensions.ensures.names (c.in_ok-ty.ensures.faults
+    put refl c.take_waiting-extensions.ensures.names (c.in_ok-ty.ensures.faults
     c.args.ignores) c.take_waiting-extensions.ensures.left c.in_ok-ty.ensures.next

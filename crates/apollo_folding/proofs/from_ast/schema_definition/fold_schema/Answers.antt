@@ -3,7 +3,7 @@ use Rattle.apollo_meaning.proofs.Prelude.{SourcedSchema}
 use Rattle.apollo_meaning.specs.Schema.Definition.{schema_directives_of, roots_of}
 use Rattle.apollo_folding.specs.RootTables.{root_with_origin, with_roots, held_faults}
 use Rattle.apollo_folding.proofs.RootLemmas.{schema-push, held-schema_faults}
-use Rattle.apollo_folding.proofs.fold.Fold.fold_schema.Goals as goal
+use Rattle.apollo_folding.proofs.from_ast.schema_definition.fold_schema.Goals as goal
 
 pub returns-clause-folded : goal.returns-clause-folded
 returns-clause-folded c = λ head part done directives roots was.
@@ -23,7 +23,7 @@ pub returns-clause-faults : goal.returns-clause-faults
 returns-clause-faults c = λ head part done roots was.
     let o = c.args.origin in
     let base : SchemaDefinition = record c.args.definition.now { directives = c.fold_directives.new.list } in
-    let before = c.args.self.now.faults in
+    let before = c.args.faults.now in
     c.in_ok-fold_roots.ensures.faults base (flat_map roots_of done)
     (λ i. record (was i) { description = base.description; directives = base.directives })
     ∙ ap (λ l. before ++ held_faults (flat_map roots_of done) o l) (sym roots)
