@@ -7,6 +7,7 @@ import re
 import shutil
 import subprocess
 import sys
+import time
 from typing import NamedTuple
 
 from peg import TOP, Usage, programs
@@ -198,19 +199,23 @@ def machine():
     return f"{os.cpu_count()} × {model[1] if model else 'processor'}, load {os.getloadavg()[0]:.1f}"
 
 
-def measure(words, folder, count, seconds):
+def measure(words, folder, count, seconds, limit):
     """What each input takes by each peer, as it is measured: an object for each input."""
     its_peers, date, where = peers(folder), datetime.date.today().isoformat(), machine()
     for given in inputs(words, folder):
-        runs, lacks = {peer: [] for peer in its_peers}, {}
+        runs, lacks, spent = {peer: [] for peer in its_peers}, {}, dict.fromkeys(its_peers, 0.0)
         for _ in range(count):
             for peer, measured in its_peers.items():
-                if peer not in lacks:
-                    try:
-                        runs[peer].append(measured(given, seconds))
-                    except Failed as why:
-                        lacks[peer] = str(why)
+                if peer in lacks or spent[peer] > limit:
+                    continue
+                began = time.monotonic()
+                try:
+                    runs[peer].append(measured(given, seconds))
+                except Failed as why:
+                    lacks[peer] = str(why)
+                spent[peer] += time.monotonic() - began
         sizes = [path.stat().st_size for path in (given.schema, given.documents) if path]
         times = {peer: apart(peer, least(its)) for peer, its in runs.items() if its}
+        counts = {peer: len(its) for peer, its in runs.items() if its}
         said = {"date": date, "machine": where, "input": given.name, "bytes": sum(sizes)}
-        yield {**said, "times": times, "lacks": lacks}
+        yield {**said, "times": times, "runs": counts, "lacks": lacks}
