@@ -2,7 +2,7 @@
 //!
 //! Input nodes are borrowed. The key of a field is pushed and popped; the whole path is copied for a fault
 //! alone. A type that selections are from is looked up once.
-ghost use Rattle.std.specs.Prelude.{◌≡◌, ◌++◌, [], IfOk, OnOk, is_some};
+ghost use Rattle.std.specs.Prelude.{◌≡◌, ◌++◌, [], IfOk, OnOk, Some, is_some};
 ghost use Rattle.std.specs.List.{cons_option, filter_map};
 ghost use Rattle.std.specs.Option.{option_copied};
 ghost use Rattle.apollo_executable.specs.SelectionParts.{response_key_of};
@@ -12,7 +12,7 @@ ghost use Rattle.apollo_document.specs.InParents.{noting_within};
 ghost use Rattle.apollo_document.specs.Noted.{noting};
 ghost use Rattle.apollo_document.specs.SelectionFaults.{below_or_wrong, faults_of_selections};
 ghost use Rattle.apollo_document.specs.SelectionFaults.{faults_of_selection};
-ghost use Rattle.apollo_document.specs.Typable.{definition_in, if_typable, typable_fragment};
+ghost use Rattle.apollo_document.specs.Typable.{definition_in, if_typable, typable_fragment, undefined};
 ghost use Rattle.apollo_document.specs.Within.{faults_if, leaf_in, set_below, set_faults};
 
 use crate::build_error::{BuildError, Fault, Faults};
@@ -255,13 +255,25 @@ impl Elaboration {
         if let Some(component) = schema.field_of(parent.ty, ty, name) {
             return Ok(Some(component.node.clone()?));
         }
+        self.note_undefined(key, name)?;
+        Ok(None)
+    }
+
+    /// Notes that the type of this name has no field of that name.
+    // Apart from what looks fields up, which would make room for the error at each field.
+    #[cold]
+    #[inline(never)]
+    fn note_undefined(&mut self, key: &Name, name: &Name) -> Result<(), AllocError>
+        ensures faults { OnOk result (self.new
+            ≡ noting (undefined name.now (Some key.now) name.now.location self.old.path) self.old) }
+        ensures path { self.new.path ≡ self.old.path }
+    {
         let error = BuildError::UndefinedField {
             type_name: key.clone()?,
             field_name: name.clone()?,
             path: self.path.clone()?,
         };
-        self.faults.push((name.location(), error))?;
-        Ok(None)
+        self.faults.push((name.location(), error))
     }
 
     /// The set of a field with this definition, typed. There is none if the field has subselections from a
@@ -295,6 +307,27 @@ impl Elaboration {
 
     /// Whether the type of subselections is a leaf type. This is noted.
     fn notes_leaf(
+        &mut self,
+        parent: &Parent,
+        location: Option<SourceSpan>,
+    ) -> Result<bool, AllocError>
+        ensures leaf { IfOk result (λ is_leaf. is_leaf
+            ≡ is_some (leaf_in (option_copied parent.now.schema) parent.now.ty.now)) }
+        ensures faults { OnOk result (self.new
+            ≡ noting (faults_if (leaf_in (option_copied parent.now.schema) parent.now.ty.now) location
+            self.old.path) self.old) }
+        ensures path { self.new.path ≡ self.old.path }
+    {
+        if !parent.is_leaf() {
+            return Ok(false);
+        }
+        self.note_leaf(parent, location)
+    }
+
+    /// The same, of a type that is one.
+    #[cold]
+    #[inline(never)]
+    fn note_leaf(
         &mut self,
         parent: &Parent,
         location: Option<SourceSpan>,

@@ -1,8 +1,9 @@
 //! The type that selections are from: GraphQL specification of October 2021, section 2.5.
-ghost use Rattle.std.specs.Prelude.{◌≡◌, option_map};
+ghost use Rattle.std.specs.Prelude.{◌≡◌, is_some, option_map};
 ghost use Rattle.std.specs.Option.{option_copied};
 ghost use Rattle.apollo_document.specs.Parents.{key_in, type_in};
 ghost use Rattle.apollo_document.specs.Typable.{has_type};
+ghost use Rattle.apollo_document.specs.Within.{leaf_in};
 
 use apollo_schema::schema::Schema;
 use apollo_types::extended_type::ExtendedType;
@@ -36,6 +37,16 @@ impl<'a> Parent<'a> {
                 ty,
                 known: schema.types.get_key_value(ty),
             },
+        }
+    }
+
+    /// Whether the type is a scalar or an enum.
+    pub(crate) fn is_leaf(&self) -> bool
+        ensures { result ≡ is_some (leaf_in (option_copied self.now.schema) self.now.ty.now) }
+    {
+        match self.known {
+            Some((_, ExtendedType::Scalar(_) | ExtendedType::Enum(_))) => true,
+            _ => false,
         }
     }
 

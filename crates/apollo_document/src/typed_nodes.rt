@@ -16,6 +16,8 @@ use graphql_nodes::node::Node;
 use std::alloc::{AllocError, Global};
 
 /// The definition of a field of this name without a schema: its type is `UNKNOWN`.
+// Apart from what makes typed fields, which would make room for it at each field.
+#[inline(never)]
 pub(crate) fn unknown_field(alloc: Global, name: &Name) -> Result<Node<FieldDefinition>, AllocError>
     ensures { IfOk result (λ definition. definition ≡ unknown_field name.now) }
 {

@@ -5,8 +5,9 @@ ghost use Rattle.graphql_grammar.specs.Pieces.{Gives, GivesSeen, take_sign, take
 ghost use Rattle.graphql_grammar.specs.Standing.{before, standing, words_of_split};
 ghost use Rattle.graphql_grammar.specs.Words.{begins, first_kind, first_word, second_word, seen_word};
 ghost use Rattle.graphql_grammar.specs.Words.{starting, word_view};
-ghost use Rattle.graphql_grammar.specs.WordsOfText.{error_kind, too_many, word_kind, word_of, words_at};
+ghost use Rattle.graphql_grammar.specs.WordsOfText.{error_kind, word_kind, word_of, words_at};
 ghost use Rattle.graphql_grammar.specs.WordsOfText.{words_of, wrong};
+ghost use Rattle.graphql_grammar.specs.declared.kind.Kind.TheVariants.{TooMany};
 ghost use Rattle.graphql_tokens.specs.First.{seen};
 
 use crate::fault::{FaultKind, ReadError};
@@ -83,14 +84,14 @@ fn word_of<'a>(total: usize, token: FirstToken<'a>) -> Word<'a>
     }
 }
 
-/// What stands there where no more words are allowed.
-fn too_many<'a>(total: usize, token: FirstToken<'a>) -> Word<'a>
-    ensures { word_view result ≡ too_many total (seen token.entry) }
+/// What stands there where no more words are allowed, in place of this one.
+fn too_many<'a>(word: Word<'a>) -> Word<'a>
+    ensures { word_view result ≡ record (word_view word.entry) { kind = TooMany; text = [] } }
 {
     Word {
         kind: Kind::TooMany,
         text: "",
-        ..word_of(total, token)
+        ..word
     }
 }
 
@@ -121,6 +122,8 @@ fn wrong<'a>(total: usize, text: &'a str, error: TokenError) -> Word<'a>
 
 /// The first word of the end of a text of so many bytes, where so many are allowed, and what stands behind
 /// it. Behind what is no token nothing stands.
+// Inlined: the word is then made where it is kept, and not copied there.
+#[inline(always)]
 fn split_first<'a>(total: usize, allowed: usize, text: &'a str) -> Option<Split<'a>>
     ensures { words_of_split allowed total result ≡ words_at allowed total text.now }
 {
@@ -130,14 +133,19 @@ fn split_first<'a>(total: usize, allowed: usize, text: &'a str) -> Option<Split<
             word: wrong(total, text, error),
             rest: "",
         }),
-        Ok(Some(token)) if allowed == 0 => Some(Split {
-            word: too_many(total, token),
-            rest: "",
-        }),
-        Ok(Some(token)) => Some(Split {
-            word: word_of(total, token),
-            rest: token.rest,
-        }),
+        Ok(Some(token)) => {
+            let word = word_of(total, token);
+            if allowed == 0 {
+                return Some(Split {
+                    word: too_many(word),
+                    rest: "",
+                });
+            }
+            Some(Split {
+                word,
+                rest: token.rest,
+            })
+        }
     }
 }
 
@@ -159,6 +167,7 @@ impl<'a> Words<'a> {
     }
 
     /// Makes the word that stands at the front of the rest the next one.
+    #[inline(never)]
     fn advance(&mut self)
         ensures last { self.new.last ≡ self.old.last }
         ensures left { (standing self.new).left ≡ words_at self.old.allowed self.old.total self.old.rest.now }
@@ -284,12 +293,13 @@ impl<'a> Words<'a> {
         ensures name { IfOk result (λ name. name ≡ record { text = text.now; location = Some location }) }
         ensures stands { standing self.new ≡ standing self.old }
     {
-        let mut seen = match self.seen.take() {
-            Some(seen) => seen,
-            None => SeenNames::new(alloc, self.total)?,
+        if self.seen.is_none() {
+            self.seen = Some(SeenNames::new(alloc, self.total)?);
+        }
+        let name = match &mut self.seen {
+            Some(seen) => seen.name(alloc, text)?,
+            None => Name::new_unchecked(alloc, text)?,
         };
-        let name = seen.name(alloc, text);
-        self.seen = Some(seen);
-        Ok(name?.with_location(location))
+        Ok(name.with_location(location))
     }
 }

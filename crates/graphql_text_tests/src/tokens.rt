@@ -70,7 +70,7 @@ const TOKENS: [(&str, &str); 13] = [
     ),
 ];
 
-const WRONG: [(&str, &str); 19] = [
+const WRONG: [(&str, &str); 22] = [
     ("{a(b:01)}", "InvalidNumber at 6"),
     ("{a(b:1x)}", "InvalidNumber at 6"),
     ("{a(b:1.)}", "InvalidNumber at 7"),
@@ -90,6 +90,15 @@ const WRONG: [(&str, &str); 19] = [
     ("\"\u{7}\"", "UnexpectedCharacter at 1"),
     ("# \u{7}", "UnexpectedCharacter at 2"),
     ("a ..", "UnexpectedCharacter at 2"),
+    (
+        "\"0123456789abcdef0123\u{7}0123456789abcdef\"",
+        "UnexpectedCharacter at 21",
+    ),
+    (
+        "\"0123456789abcdef0123\n0123456789abcdef\"",
+        "UnterminatedString at 21",
+    ),
+    ("#0123456789abcdef0123\u{7}", "UnexpectedCharacter at 21"),
 ];
 
 #[test]

@@ -4,7 +4,7 @@ use graphql_tokens::values::{block_string_value, string_value};
 use std::alloc::{AllocError, Global};
 use std::test::Fail;
 
-const STRINGS: [(&str, &str); 6] = [
+const STRINGS: [(&str, &str); 7] = [
     ("\"\"", ""),
     ("\"é, plain\"", "é, plain"),
     ("\"\\\"\\\\\\/\\b\\f\\n\\r\\t\"", "\"\\/\u{8}\u{c}\n\r\t"),
@@ -14,9 +14,13 @@ const STRINGS: [(&str, &str); 6] = [
         "\"\\u{1F600}\\u{000041}\\u{10ffff}\"",
         "\u{1f600}A\u{10ffff}",
     ),
+    (
+        "\"0123456789abcdef0123456789abcde\\n0123456789abcdef\"",
+        "0123456789abcdef0123456789abcde\n0123456789abcdef",
+    ),
 ];
 
-const BLOCK_STRINGS: [(&str, &str); 8] = [
+const BLOCK_STRINGS: [(&str, &str); 9] = [
     ("\"\"\"\"\"\"", ""),
     ("\"\"\"one line\"\"\"", "one line"),
     ("\"\"\"\n    one\n      two\n    \"\"\"", "one\n  two"),
@@ -28,6 +32,10 @@ const BLOCK_STRINGS: [(&str, &str); 8] = [
     ("\"\"\"a \\\"\"\" \\n \"\" b\"\"\"", "a \"\"\" \\n \"\" b"),
     ("\"\"\" \n\t\r\n \"\"\"", ""),
     ("\"\"\"\n  a\n\n b\"\"\"", " a\n\nb"),
+    (
+        "\"\"\"\n  0123456789abcdef0123456789abcdef\n 0123456789abcdef\"\n   0123456789 \\\"\"\" 0123456789\n\"\"\"",
+        " 0123456789abcdef0123456789abcdef\n0123456789abcdef\"\n  0123456789 \"\"\" 0123456789",
+    ),
 ];
 
 /// Whether each string has the value that is said beside it.

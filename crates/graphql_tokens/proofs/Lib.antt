@@ -5,6 +5,7 @@ pub mod FirstLemmas
 mod HexLemmas
 mod LineLemmas
 mod PieceLemmas
+mod RunLemmas
 mod SaidLemmas
 mod StringLemmas
 mod TokenLemmas

@@ -1,8 +1,9 @@
 -- Pieces of a text, the first one and those behind it.
 use Rattle.std.proofs.Common.{◌≡◌, ◌+◌, ◌-◌, ◌<◌, ◌≤◌, ℕ, zero, suc, List, [], ◌∷◌, length, take, drop, cond}
-use Rattle.std.proofs.Common.{refl, sym, ap, ◌∙◌, arith}
+use Rattle.std.proofs.Common.{refl, sym, ap, ◌∙◌, arith, Bool, true, false}
 use Rattle.std.proofs.lemmas.List.{take_all, drop_all, length-drop, drop-drop}
 use Rattle.std.specs.Prelude.{nat_eq}
+use Rattle.std.specs.List.{prefix_len}
 use Rattle.std.proofs.lemmas.Bool.{ne_eqb}
 use Rattle.graphql_tokens.specs.Pieces.{pieces}
 
@@ -37,6 +38,36 @@ module _ (size : List ℕ → ℕ) where
   no_piece [] none = refl
   no_piece (c ∷ cs) none = rw none
 
+  -- of a piece at the front, or of none
+  pub some_of_pieces : (n : ℕ) (xs : List ℕ) → n ≡ size xs → n ≤ length xs
+      → pieces size 0 xs ≡ n + pieces size 0 (drop n xs)
+  some_of_pieces zero xs is within = omega arith
+  some_of_pieces (suc n) xs is within =
+      let first = first_piece xs (omega arith) (omega arith) in
+      first ∙ ap (λ (k : ℕ). k + pieces size 0 (drop k xs)) (sym is)
+
+  -- of bytes that are a piece each
+  module _ (p : ℕ → Bool) (alone : (c : ℕ) (cs : List ℕ) → p c ≡ true → size (c ∷ cs) ≡ 1) where
+    one_alone : (c : ℕ) (cs : List ℕ) → p c ≡ true → pieces size 0 (c ∷ cs) ≡ pieces size 0 cs + 1
+    one_alone c cs h = rw (alone c cs h) refl
+
+    pub pieces_alone : (xs : List ℕ)
+        → pieces size 0 xs ≡ prefix_len p xs + pieces size 0 (drop (prefix_len p xs) xs)
+    pieces_alone [] = refl
+    pieces_alone (c ∷ cs) = by (p c) refl (pieces_alone cs)
+      where
+        by : (b : Bool) → p c ≡ b
+            → pieces size 0 cs ≡ prefix_len p cs + pieces size 0 (drop (prefix_len p cs) cs)
+            → pieces size 0 (c ∷ cs) ≡ cond b (1 + prefix_len p cs) 0
+            + pieces size 0 (drop (cond b (1 + prefix_len p cs) 0) (c ∷ cs))
+        by true h more =
+            let one : suc (prefix_len p cs) ≡ 1 + prefix_len p cs = omega arith in
+            let behind : pieces size 0 (drop (prefix_len p cs) cs)
+            ≡ pieces size 0 (drop (1 + prefix_len p cs) (c ∷ cs)) =
+            ap (λ (k : ℕ). pieces size 0 (drop k (c ∷ cs))) one in
+            omega (arith, one_alone c cs h)
+        by false h more = omega arith
+
 -- pieces lie within the text
 pub pieces_within : (size : List ℕ → ℕ) (left : ℕ) (xs : List ℕ) → pieces size left xs ≤ length xs
 pieces_within size left [] = omega arith
@@ -55,23 +86,22 @@ length-rest_at at text = rw rest-is (length-drop at text)
 
 module _ (size : List ℕ → ℕ) (text : List ℕ) (at : ℕ) (whole : at + pieces size 0 (drop at text)
     ≡ pieces size 0 text) where
-  -- behind a piece
-  pub behind_piece : (n : ℕ) → n ≡ size (rest_at at text) → 0 < n → n ≤ length (rest_at at text)
+  -- behind some of them
+  pub behind_pieces : (n : ℕ)
+      → pieces size 0 (rest_at at text) ≡ n + pieces size 0 (drop n (rest_at at text))
       → (at + n) + pieces size 0 (drop (at + n) text) ≡ pieces size 0 text
-  behind_piece n is some within =
-      let same : n ≡ size (drop at text) = is ∙ ap size (rest-is at text) in
-      let long : n ≤ length (drop at text) = rw (← rest-is at text) within in
-      let step = first_piece size (drop at text) (rw (← same) some) (rw (← same) long) in
-      let behind : drop (size (drop at text)) (drop at text) ≡ drop (at + n) text =
-      drop-drop (size (drop at text)) at text ∙ ap (λ (k : ℕ). drop (at + k) text) (sym same) in
-      let more : pieces size 0 (drop (size (drop at text)) (drop at text))
-      ≡ pieces size 0 (drop (at + n) text) = ap (pieces size 0) behind in
+  behind_pieces n some =
+      let here : pieces size 0 (drop at text) ≡ n + pieces size 0 (drop n (drop at text)) =
+      rw (← rest-is at text) some in
+      let behind : pieces size 0 (drop n (drop at text)) ≡ pieces size 0 (drop (at + n) text) =
+      ap (pieces size 0) (drop-drop n at text) in
       omega arith
 
   -- where no piece stands
-  pub end_of_pieces : (n : ℕ) → n ≡ size (rest_at at text) → n ≡ 0 → at ≡ pieces size 0 text
-  end_of_pieces n is none =
-      omega (arith, no_piece size (drop at text) (sym (is ∙ ap size (rest-is at text)) ∙ none))
+  pub end_of_pieces : pieces size 0 (rest_at at text) ≡ 0 → at ≡ pieces size 0 text
+  end_of_pieces none =
+      let here : pieces size 0 (drop at text) ≡ 0 = rw (← rest-is at text) none in
+      omega arith
 
   -- where the text ends
   pub ends_with_text : length text ≤ at → at ≡ pieces size 0 text

@@ -29,6 +29,11 @@ module _ (size : List ℕ → ℕ) (says : List ℕ → List ℕ) where
           rw (ne_eqb (suc n) 0 (λ e. omega arith)) (ap (λ (k : ℕ). says (c ∷ cs) ++ said size says k cs) one
           ∙ ap (λ (r : List ℕ). says (c ∷ cs) ++ r) (passed n cs (omega arith)))
 
+  -- where there is no character
+  pub none_said : (xs : List ℕ) → size xs ≡ 0 → said size says 0 xs ≡ []
+  none_said [] none = refl
+  none_said (c ∷ cs) none = rw none
+
   -- bytes that say themselves
   module _ (p : ℕ → Bool) (itself : (c : ℕ) (cs : List ℕ) → p c ≡ true → size (c ∷ cs) ≡ 1)
       (says_itself : (c : ℕ) (cs : List ℕ) → p c ≡ true → says (c ∷ cs) ≡ c ∷ []) where

@@ -1,11 +1,12 @@
 -- Characters of strings: which say themselves, and where escapes end.
 use Rattle.std.proofs.Common.{◌≡◌, ◌+◌, ◌<◌, ◌≤◌, ◌||◌, ◌&&◌, ℕ, zero, suc, Bool, true, false, List, [], ◌∷◌}
-use Rattle.std.proofs.Common.{◌++◌, length, get_or, take, drop, cond, refl, sym, ap, subst, ◌∙◌, arith}
+use Rattle.std.proofs.Common.{◌++◌, length, get_or, take, drop, cond, refl, sym, ap, subst, ◌∙◌, append-nil, arith}
 use Rattle.std.specs.Prelude.{nat_eq, not, Option, None, Some}
 use Rattle.std.specs.List.{prefix_len}
 use Rattle.std.specs.Option.{option_map_or}
 use Rattle.std.specs.Str.{IsCharBoundary, IsUtf8}
 use Rattle.std.proofs.lemmas.Bool.{ne_eqb}
+use Rattle.graphql_tokens.specs.Pieces.{pieces}
 use Rattle.graphql_tokens.specs.Bytes.{begins, is_control, is_hex, is_line_end}
 use Rattle.graphql_tokens.specs.BlockStringValues.{block_character_says, block_characters_say, block_says}
 use Rattle.graphql_tokens.specs.BlockStringValues.{is_plain_in_block}
@@ -17,7 +18,8 @@ use Rattle.graphql_tokens.specs.Strings.{trailing_size, unit_at, unit_size, with
 use Rattle.graphql_tokens.proofs.CutLemmas.{cut_at_run, cut_behind}
 use Rattle.graphql_tokens.proofs.EndLemmas.{EndsAt, at_passes, behind, choose, further, is_is_ascii}
 use Rattle.graphql_tokens.proofs.EndLemmas.{quote_last}
-use Rattle.graphql_tokens.proofs.SaidLemmas.{none_first, one_said, plain_said}
+use Rattle.graphql_tokens.proofs.PieceLemmas.{pieces_alone}
+use Rattle.graphql_tokens.proofs.SaidLemmas.{none_first, none_said, one_said, plain_said}
 
 -- a plain byte of a string is a character that says itself
 one_of : (q b l x : Bool) (n : ℕ) → not (q || (b || (l || x))) ≡ true
@@ -195,6 +197,24 @@ pub plain_block_run : (text : List ℕ)
     ++ block_characters_say (drop (prefix_len is_plain_in_block text) text)
 plain_block_run text = plain_said block_character_size block_character_says is_plain_in_block block_plain_size
     block_plain_says text
+
+-- where nothing else stands behind these, they say all
+pub plain_block_whole : (text : List ℕ) (n : ℕ) → n ≡ prefix_len is_plain_in_block text
+    → block_character_size (drop n text) ≡ 0 → take n text ≡ block_characters_say text
+plain_block_whole text n is none =
+    let ends = none_said block_character_size block_character_says (drop n text) none in
+    sym (plain_block_run text ∙ ap (λ (k : ℕ). take k text ++ block_characters_say (drop k text)) (sym is)
+    ∙ ap (λ (r : List ℕ). take n text ++ r) ends ∙ append-nil (take n text))
+
+-- plain bytes are a character each
+pub plain_alone : (text : List ℕ) (n : ℕ) → n ≡ prefix_len is_plain text
+    → pieces character_size 0 text ≡ n + pieces character_size 0 (drop n text)
+plain_alone text n is = rw is (pieces_alone character_size is_plain plain_size text)
+
+pub plain_block_alone : (text : List ℕ) (n : ℕ) → n ≡ prefix_len is_plain_in_block text
+    → pieces block_character_size 0 text ≡ n + pieces block_character_size 0 (drop n text)
+plain_block_alone text n is =
+    rw is (pieces_alone block_character_size is_plain_in_block block_plain_size text)
 
 -- what an escape says, and then the rest
 pub escape_said : (text rest : List ℕ) (size : ℕ) → prefix_len is_plain text ≡ 0 → size ≡ character_size text

@@ -4,7 +4,9 @@ ghost use Rattle.std.specs.List.{prefix_len};
 ghost use Rattle.graphql_tokens.specs.Bytes.{is_blank, is_control, is_line_end};
 ghost use Rattle.graphql_tokens.specs.Ignored.{begins_with_mark, ignored, is_of_comment, one_ignored};
 
+use crate::long_runs::{ByteSort, has_none_below_space, long_run};
 use crate::pieces::{Piece, pieces};
+use std::simd::prelude::*;
 
 /// Whether a byte is a line feed or a carriage return.
 pub(crate) fn is_line_end(byte: u8) -> bool
@@ -34,12 +36,28 @@ fn is_of_comment(byte: u8) -> bool
     !is_line_end(byte) && !is_control(byte)
 }
 
+/// The bytes that may stand in a comment.
+struct OfComment;
+
+impl ByteSort for OfComment {
+    ghost test = { is_of_comment };
+
+    fn has(byte: u8) -> bool {
+        is_of_comment(byte)
+    }
+
+    #[tactic(auto, using(crate::proofs::RunLemmas::whole_comment))]
+    fn has_all(bytes: u8x16) -> bool {
+        has_none_below_space(bytes)
+    }
+}
+
 /// How many bytes at the front may stand in a comment.
 fn comment_bytes(text: &[u8]) -> usize
     ensures same { result ≡ prefix_len is_of_comment text.now }
     ensures within { result ≤ length text.now }
 {
-    text.iter().take_while(|byte| is_of_comment(**byte)).count()
+    long_run::<OfComment>(text)
 }
 
 /// Whether the byte order mark stands at the front.
@@ -57,6 +75,10 @@ struct Ignorable;
 
 impl Piece for Ignorable {
     ghost size = { one_ignored };
+
+    fn single(_text: &[u8]) -> usize {
+        0
+    }
 
     fn size(text: &[u8]) -> usize {
         match text {

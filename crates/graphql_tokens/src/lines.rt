@@ -10,7 +10,9 @@ ghost use Rattle.graphql_tokens.specs.BlockStringValues.{without_indent};
 ghost use Rattle.graphql_tokens.specs.Texts.{bytes_left, texts_of};
 
 use crate::ignored::is_line_end;
+use crate::long_runs::{ByteSort, has_none_below_space, long_run};
 use std::alloc::{AllocError, Global};
+use std::simd::prelude::*;
 
 /// Whether a byte is a tab or a space.
 fn is_white(byte: u8) -> bool
@@ -37,12 +39,28 @@ fn is_blank_line(line: &str) -> bool
     indent(line) == line.len()
 }
 
+/// The bytes that end no line.
+struct InLine;
+
+impl ByteSort for InLine {
+    ghost test = { is_in_line };
+
+    fn has(byte: u8) -> bool {
+        !is_line_end(byte)
+    }
+
+    #[tactic(auto, using(crate::proofs::RunLemmas::whole_line))]
+    fn has_all(bytes: u8x16) -> bool {
+        has_none_below_space(bytes)
+    }
+}
+
 /// How many bytes the first line has.
 fn line_bytes(text: &[u8]) -> usize
     ensures same { result ≡ prefix_len is_in_line text.now }
     ensures within { result ≤ length text.now }
 {
-    text.iter().take_while(|byte| !is_line_end(**byte)).count()
+    long_run::<InLine>(text)
 }
 
 /// How many bytes of a line end stand at the front.

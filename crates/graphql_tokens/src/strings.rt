@@ -9,6 +9,7 @@ ghost use Rattle.graphql_tokens.specs.Strings.{number_size, unit_at, unit_size};
 use crate::ignored::{is_control, is_line_end};
 use crate::numbers::begins;
 use crate::pieces::Piece;
+use crate::plain::{plain_block_bytes, plain_bytes};
 use crate::runs::{hex_digits, is_hex};
 
 /// The first number that is no Unicode scalar value, nor any behind it.
@@ -186,6 +187,10 @@ pub(crate) struct Characters;
 impl Piece for Characters {
     ghost size = { character_size };
 
+    fn single(text: &[u8]) -> usize {
+        plain_bytes(text)
+    }
+
     fn size(text: &[u8]) -> usize {
         match text {
             [] | [b'"', ..] => 0,
@@ -201,6 +206,10 @@ pub(crate) struct BlockCharacters;
 
 impl Piece for BlockCharacters {
     ghost size = { block_character_size };
+
+    fn single(text: &[u8]) -> usize {
+        plain_block_bytes(text)
+    }
 
     fn size(text: &[u8]) -> usize {
         match text {

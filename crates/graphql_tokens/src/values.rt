@@ -1,35 +1,19 @@
 //! The values of strings and block strings: GraphQL specification of October 2021, section 2.9.4.
-ghost use Rattle.std.specs.Prelude.{◌≡◌, ◌++◌, ◌≤◌, drop, length, string_bytes, take, IfOk, OnOk};
-ghost use Rattle.std.specs.List.{prefix_len};
+ghost use Rattle.std.specs.Prelude.{◌≡◌, ◌++◌, ◌≤◌, drop, length, string_bytes, take, IfOk, IfSome, OnOk};
 ghost use Rattle.std.specs.Str.{IsCharBoundary};
 ghost use Rattle.graphql_tokens.specs.BlockStringValues.{behind_quotes, block_characters_say, block_says};
-ghost use Rattle.graphql_tokens.specs.BlockStringValues.{block_string_value, is_plain_in_block};
-ghost use Rattle.graphql_tokens.specs.StringValues.{behind_quote, characters_say, is_plain, string_value};
+ghost use Rattle.graphql_tokens.specs.BlockStringValues.{block_string_value};
+ghost use Rattle.graphql_tokens.specs.StringValues.{behind_quote, characters_say, string_value};
 
 use crate::escapes::push_escaped;
-use crate::ignored::{is_control, is_line_end};
 use crate::lines::dedented;
 use crate::numbers::begins;
 use crate::pieces::Piece;
+use crate::plain::{plain_block_bytes, plain_bytes};
 use crate::spoken::{Says, spoken};
 use crate::strings::{BlockCharacters, Characters, begins_with_quotes};
 use graphql_nodes::collections::text::Text;
 use std::alloc::{AllocError, Global};
-
-/// Whether a byte of a string says itself.
-fn is_plain(byte: u8) -> bool
-    ensures { result ≡ is_plain byte }
-{
-    byte != b'"' && byte != b'\\' && !is_line_end(byte) && !is_control(byte)
-}
-
-/// How many bytes at the front of a string say themselves.
-fn plain_bytes(text: &[u8]) -> usize
-    ensures same { result ≡ prefix_len is_plain text.now }
-    ensures within { result ≤ length text.now }
-{
-    text.iter().take_while(|byte| is_plain(**byte)).count()
-}
 
 /// Adds so many bytes from the front of a text. Answers what stands behind them. The error is out of memory.
 fn push_front<'a>(value: &mut String, text: &'a str, count: usize) -> Result<&'a str, AllocError>
@@ -56,23 +40,6 @@ impl Says for Characters {
         push_escaped(value, text.as_bytes())?;
         Ok(Some(&text[size..]))
     }
-}
-
-/// Whether a byte of a block string says itself, whatever follows it.
-fn is_plain_in_block(byte: u8) -> bool
-    ensures { result ≡ is_plain_in_block byte }
-{
-    byte != b'"' && byte != b'\\' && !is_control(byte)
-}
-
-/// How many bytes at the front of a block string say themselves, whatever follows them.
-fn plain_block_bytes(text: &[u8]) -> usize
-    ensures same { result ≡ prefix_len is_plain_in_block text.now }
-    ensures within { result ≤ length text.now }
-{
-    text.iter()
-        .take_while(|byte| is_plain_in_block(**byte))
-        .count()
 }
 
 /// Adds what a character of a block string says. The error is out of memory.
@@ -126,6 +93,17 @@ fn behind_quotes<'a>(token: &'a str) -> &'a str
     }
 }
 
+/// The characters of a block string, where each says itself.
+fn plain_block<'a>(text: &'a str) -> Option<&'a str>
+    ensures { IfSome result (λ plain. plain.now ≡ block_characters_say text.now) }
+{
+    let plain = plain_block_bytes(text.as_bytes());
+    if BlockCharacters::size(&text.as_bytes()[plain..]) > 0 {
+        return None;
+    }
+    Some(&text[..plain])
+}
+
 /// The value of a string token, of its bytes with the quotes. Of a text that is no such token it means
 /// nothing. The error is out of memory.
 pub fn string_value(alloc: Global, token: &str) -> Result<Text, AllocError>
@@ -140,7 +118,10 @@ pub fn string_value(alloc: Global, token: &str) -> Result<Text, AllocError>
 pub fn block_string_value(alloc: Global, token: &str) -> Result<Text, AllocError>
     ensures { IfOk result (λ value. value ≡ block_string_value token.now) }
 {
-    let text = spoken::<BlockCharacters>(alloc, behind_quotes(token))?;
-    let value = dedented(alloc, text.as_str())?;
+    let text = behind_quotes(token);
+    let value = match plain_block(text) {
+        Some(plain) => dedented(alloc, plain)?,
+        None => dedented(alloc, spoken::<BlockCharacters>(alloc, text)?.as_str())?,
+    };
     Ok(Text::from_string(value))
 }

@@ -38,13 +38,19 @@ impl SeenNames {
         Ok(SeenNames { slots })
     }
 
+    /// The slot of a hash. It goes by the upper half of the hash, times the number of slots, since a division
+    /// takes as long as all else here.
+    fn place(&self, hash: u64) -> usize {
+        ((hash >> 32).wrapping_mul(self.slots.len() as u64) >> 32) as usize
+    }
+
     /// A name with this text, whatever it is, and no location. It shares its text with one that was seen, if
     /// the slot of the text holds it. The error is out of memory.
     pub fn name(&mut self, alloc: Global, text: &str) -> Result<Name, AllocError>
         ensures { IfOk result (λ name. name ≡ record { text = text.now; location = None }) }
     {
         let hash = HashKeys::FIXED.hash_one(text);
-        let place = hash as usize % self.slots.len().max(1);
+        let place = self.place(hash);
         let Some(slot) = self.slots.get_mut(place) else {
             return Name::new_unchecked(alloc, text);
         };
