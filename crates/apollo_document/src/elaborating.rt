@@ -324,7 +324,8 @@ impl Elaboration {
         self.note_leaf(parent, location)
     }
 
-    /// The same, of a type that is one.
+    /// Notes that the type of subselections is a leaf type, if it is one. Whether it is.
+    // Apart from what looks types up, as above.
     #[cold]
     #[inline(never)]
     fn note_leaf(

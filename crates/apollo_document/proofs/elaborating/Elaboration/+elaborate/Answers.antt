@@ -1,10 +1,10 @@
-use Rattle.std.proofs.Common.{rules, arith, ◌≡◌, ◌∙◌, ◌++◌, ◌∷◌, [], ap, sym, List, refl, take, Some, None}
+use Rattle.std.proofs.Common.{rules, arith, ◌≡◌, ◌∙◌, ◌++◌, ◌∷◌, [], ap, sym, List, refl, take, Some}
 use Rattle.std.specs.Option.{option_copied, option_map}
 use Rattle.std.specs.Vec.{vec_len}
 use Rattle.graphql_nodes.specs.NodeView.{NodeView}
 use Rattle.graphql_ast.specs.declared.type_system.FieldDefinition.{FieldDefinition}
 use Rattle.apollo_executable.specs.SelectionParts.{response_key_of}
-use Rattle.apollo_document.specs.Typable.{Fault, child_of, definition_in, if_typable}
+use Rattle.apollo_document.specs.Typable.{Fault, child_of, definition_in}
 use Rattle.apollo_document.specs.SelectionFaults.{below_or_wrong, faults_of_selections, faults_of_selection}
 use Rattle.apollo_document.specs.Elaborated.{elaborated_selection}
 use Rattle.apollo_document.specs.Noted.{noting}
