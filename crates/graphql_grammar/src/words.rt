@@ -122,8 +122,6 @@ fn wrong<'a>(total: usize, text: &'a str, error: TokenError) -> Word<'a>
 
 /// The first word of the end of a text of so many bytes, where so many are allowed, and what stands behind
 /// it. Behind what is no token nothing stands.
-// Inlined: the word is then made where it is kept, and not copied there.
-#[inline(always)]
 fn split_first<'a>(total: usize, allowed: usize, text: &'a str) -> Option<Split<'a>>
     ensures { words_of_split allowed total result ≡ words_at allowed total text.now }
 {
@@ -167,7 +165,6 @@ impl<'a> Words<'a> {
     }
 
     /// Makes the word that stands at the front of the rest the next one.
-    #[inline(never)]
     fn advance(&mut self)
         ensures last { self.new.last ≡ self.old.last }
         ensures left { (standing self.new).left ≡ words_at self.old.allowed self.old.total self.old.rest.now }

@@ -10,8 +10,8 @@
 //!
 //! No clause: `HashKeys::drawn`, as the trait of sources promises nothing of the bytes, nor of when it fails.
 //! `Table::hash_keys`, `KeySet::hash_keys` and `FewKeys::hash_keys`, as no clause sees keys.
-//! `Table::allocator` and `FewEntries::allocator`, as none sees where memory comes from. `SeenNames::new`, as
-//! which names were seen changes no answer.
+//! `Table::allocator` and `FewEntries::allocator`, as none sees where memory comes from. `SeenNames::new` and
+//! `SeenNames::place`, as which names were seen changes no answer.
 #![tactic(auto)]
 
 mod by_fields;
