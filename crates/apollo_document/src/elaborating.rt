@@ -298,7 +298,7 @@ impl Elaboration {
             return Ok(Some(SelectionSet::new(self.alloc, child.clone()?)));
         }
         let parent = Parent::new(schema, child);
-        if self.notes_leaf(&parent, node.location())? {
+        if parent.is_leaf() && self.notes_leaf(&parent, node.location())? {
             return Ok(None);
         }
         let set = self.elaborate_from(&parent, selections)?;
@@ -306,29 +306,10 @@ impl Elaboration {
     }
 
     /// Whether the type of subselections is a leaf type. This is noted.
-    fn notes_leaf(
-        &mut self,
-        parent: &Parent,
-        location: Option<SourceSpan>,
-    ) -> Result<bool, AllocError>
-        ensures leaf { IfOk result (λ is_leaf. is_leaf
-            ≡ is_some (leaf_in (option_copied parent.now.schema) parent.now.ty.now)) }
-        ensures faults { OnOk result (self.new
-            ≡ noting (faults_if (leaf_in (option_copied parent.now.schema) parent.now.ty.now) location
-            self.old.path) self.old) }
-        ensures path { self.new.path ≡ self.old.path }
-    {
-        if !parent.is_leaf() {
-            return Ok(false);
-        }
-        self.note_leaf(parent, location)
-    }
-
-    /// Notes that the type of subselections is a leaf type, if it is one. Whether it is.
     // Apart from what looks types up, as above.
     #[cold]
     #[inline(never)]
-    fn note_leaf(
+    fn notes_leaf(
         &mut self,
         parent: &Parent,
         location: Option<SourceSpan>,
