@@ -39,7 +39,7 @@ impl SeenNames {
     }
 
     /// The slot of a hash. It goes by the upper half of the hash, times the number of slots, since a division
-    /// takes as long as all else here.
+    /// takes long.
     fn place(&self, hash: u64) -> usize {
         ((hash >> 32).wrapping_mul(self.slots.len() as u64) >> 32) as usize
     }
