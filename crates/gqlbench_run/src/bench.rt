@@ -14,7 +14,7 @@ use apollo_executable::document::ExecutableDocument;
 use apollo_meaning::build_error::Faults as SchemaFaults;
 use apollo_schema::schema::Schema;
 use bench_notation::documents::{DividedDocuments, read, read_divided};
-use gqlbench_counts::questions::{Question, field_questions, subtype_questions};
+use crate::questions::{Question, field_questions, subtype_questions};
 use gqltool_run::failure::Failure as InputFailure;
 use graphql_ast::document::Document;
 use graphql_nodes::collections::hash_keys::HashKeys;

@@ -6,5 +6,7 @@ mod command;
 mod failure;
 pub mod memory;
 pub mod phases;
+mod questions;
 mod report;
 pub mod running;
+mod walked;

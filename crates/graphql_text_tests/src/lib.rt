@@ -1,30 +1,9 @@
-//! Tests of GraphQL texts: their tokens, the values of strings, and their trees.
+//! Tests of GraphQL text: what is read of it, and what is printed of trees.
 //!
 //! What stands here serves tests: calls have no clause.
 #![tactic(auto)]
 
-/// Whether what is given of each text is what is said beside it.
 #[cfg(test)]
-macro_rules! each_gives {
-    ($rows:expr; $text:ident => $given:expr) => {{
-        for ($text, expected) in $rows {
-            if $given.as_str() != *expected {
-                return Ok(false);
-            }
-        }
-        Ok(true)
-    }};
-}
-
+mod printing;
 #[cfg(test)]
-mod refusals;
-#[cfg(test)]
-mod shown;
-#[cfg(test)]
-mod tokens;
-#[cfg(test)]
-mod told;
-#[cfg(test)]
-mod trees;
-#[cfg(test)]
-mod values;
+mod reading;

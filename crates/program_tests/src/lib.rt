@@ -1,19 +1,11 @@
-//! Tests of the program `gqltool`, of what rows can't say; and readers and writers that fail, which tests of
-//! the tools have, too.
+//! Tests of the runs of the programs, and of the tools.
 //!
 //! What stands here serves tests: calls have no clause.
 #![tactic(auto)]
 
-pub mod failing;
 #[cfg(test)]
-mod failures;
+mod for_people;
 #[cfg(test)]
-mod hash_keys;
+mod over_notation;
 #[cfg(test)]
-mod interruptions;
-#[cfg(test)]
-mod long_walks;
-#[cfg(test)]
-mod running;
-#[cfg(test)]
-mod streams;
+mod tools;

@@ -1,0 +1,6 @@
+//! Tests of coordinates: that calls succeed with enough memory, and the printed texts.
+
+mod conversions;
+mod equality;
+mod forms;
+mod lookups;

@@ -1,0 +1,4 @@
+//! Tests of the tools `gqlbench` and `gqlrows`.
+
+mod bench;
+mod rows;
