@@ -1,9 +1,9 @@
 //! Documents that are compiled in one call: `compile`.
 
+use crate::inputs::Input;
+use crate::stop::{Stop, Told};
 use apollo_compiler::{CompileError, CompileOptions, Compiled, Document, compile};
 use bench_notation::documents::{read, read_divided};
-use gqlrefusals_schemas::inputs::Input;
-use gqlrefusals_values::stop::{Stop, Told};
 use std::alloc::{AllocError, Global};
 use telling::Tell;
 

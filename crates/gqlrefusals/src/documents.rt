@@ -1,6 +1,9 @@
 //! The builder of typed documents, field sets, the parts of typed documents as syntax, and leaf faults.
 
+use crate::builders::schema_of;
+use crate::inputs::Input;
 use crate::sets::{OfSet, ask_set};
+use crate::stop::{Stop, Told, expect, tell_line, tell_made};
 use apollo_document::ExecutableDocumentBuilder;
 use apollo_document::build_error::Faults;
 use apollo_document::field_set::FieldSet;
@@ -8,9 +11,6 @@ use apollo_executable::ExecutableDocument;
 use apollo_schema::BuilderError;
 use apollo_schema::schema::Schema;
 use bench_notation::documents::read_divided;
-use gqlrefusals_schemas::builders::schema_of;
-use gqlrefusals_schemas::inputs::Input;
-use gqlrefusals_values::stop::{Stop, Told, expect, tell_line, tell_made};
 use graphql_ast::definition::Definition;
 use graphql_ast::document::Document;
 use graphql_ast::selection::Selection;

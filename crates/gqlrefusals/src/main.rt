@@ -4,14 +4,24 @@
 //! in turn.
 #![tactic(auto)]
 
+mod builders;
+mod changing;
 mod compiling;
+mod containers;
+mod coordinates;
 mod documents;
+mod in_a_set;
+mod inputs;
+mod making;
+mod parts;
 mod scenario;
+mod schemas;
 mod sets;
+mod stop;
 mod texts;
 
 use crate::scenario::{SCENARIOS, Scenario};
-use gqlrefusals_values::stop::{Stop, Told};
+use crate::stop::{Stop, Told};
 use gqltool_run::arguments::words;
 use program_io::status::Status;
 use std::alloc::Global;

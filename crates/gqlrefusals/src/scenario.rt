@@ -1,16 +1,15 @@
 //! The scenarios: one for each call, or for calls of one sort, that can run out of memory.
 
+use crate::builders::{self, OfBuilder};
+use crate::containers::{Changed, tell_changes};
+use crate::coordinates::{self, Form};
 use crate::documents::{self, OfBuilt, OfDocuments};
+use crate::inputs::{DOCUMENTS, Input, NONE, SCHEMAS, SERVED, SPENT};
+use crate::schemas::{self, OfSchema, OfType};
 use crate::sets::OfSet;
-use crate::{compiling, texts};
+use crate::stop::{Told, tell_made};
+use crate::{compiling, making, texts};
 use apollo_schema::schema::Schema;
-use gqlrefusals_schemas::builders::{self, OfBuilder};
-use gqlrefusals_schemas::inputs::{DOCUMENTS, Input, NONE, SCHEMAS, SERVED, SPENT};
-use gqlrefusals_schemas::schemas::{self, OfSchema, OfType};
-use gqlrefusals_values::containers::{Changed, tell_changes};
-use gqlrefusals_values::coordinates::{self, Form};
-use gqlrefusals_values::making;
-use gqlrefusals_values::stop::{Told, tell_made};
 use std::alloc::Global;
 
 /// What a scenario asks, and of what.

@@ -1,7 +1,7 @@
 //! Sets of selections as syntax, and walks over them, item by item and whole.
 
+use crate::stop::{Stop, Told, expect, tell_line};
 use apollo_executable::{ExecutableDocument, Field, FieldWalk, Selection, SelectionSet};
-use gqlrefusals_values::stop::{Stop, Told, expect, tell_line};
 use graphql_nodes::node::Node;
 use std::alloc::{AllocError, Global};
 use telling::walks::{End, push_fields, push_walk};

@@ -1,11 +1,11 @@
 //! GraphQL text that is read, GraphQL text that is refused, and documents that are printed as GraphQL text.
 
+use crate::stop::{Stop, Told, tell_line};
 use apollo_compiler::text::{
     ParseError, ParseErrorKind, ParseOptions, document_text, parse_document, parse_selections,
     parse_type, parse_value,
 };
 use apollo_compiler::{Document, FileId, SourceFile};
-use gqlrefusals_values::stop::{Stop, Told, tell_line};
 use graphql_nodes::collections::shared::Shared;
 use std::alloc::Global;
 use telling::Tell;

@@ -1,9 +1,9 @@
 //! Selections of a set's type, which are made over a schema.
 
+use crate::parts::{empty_set, name};
+use crate::stop::{Stop, Told, tell_line};
 use apollo_executable::{NewFieldError, SelectionSet};
 use apollo_schema::schema::Schema;
-use gqlrefusals_values::parts::{empty_set, name};
-use gqlrefusals_values::stop::{Stop, Told, tell_line};
 use std::alloc::Global;
 
 /// `SelectionSet::new_field` of this name.

@@ -1,13 +1,13 @@
 //! The builder of schemas.
 
 use crate::inputs::Input;
+use crate::stop::{Stop, Told, expect};
 use apollo_component::extension::ExtensionSource;
 use apollo_schema::BuilderError;
 use apollo_schema::build_failure::{BuildFailure, WithErrors};
 use apollo_schema::schema::Schema;
 use apollo_schema::schema_builder::SchemaBuilder;
 use bench_notation::documents::read;
-use gqlrefusals_values::stop::{Stop, Told, expect};
 use graphql_ast::document::Document;
 use std::alloc::{AllocError, Global};
 use telling::Tell;

@@ -4,13 +4,13 @@
 use crate::builders::schema_of;
 use crate::in_a_set::made_in_a_set;
 use crate::inputs::Input;
+use crate::stop::{Told, tell_line, tell_made};
 use apollo_component::extension::ExtensionId;
 use apollo_schema::schema::Schema;
 use apollo_types::extended_type::ExtendedType;
 use apollo_types::extensible::Extensible;
 use apollo_types::type_of_kind::TypeOfKind;
 use bench_notation::documents::read;
-use gqlrefusals_values::stop::{Told, tell_line, tell_made};
 use graphql_ast::definition::Definition;
 use graphql_nodes::collections::key_set::KeySet;
 use std::alloc::{AllocError, Global};
