@@ -3,6 +3,7 @@
 
 use crate::command::{Command, Work};
 use crate::failure::Failure;
+use crate::questions::{Question, field_questions, subtype_questions};
 use apollo_compiler::building::build_schema;
 use apollo_compiler::compile_options::CompileOptions;
 use apollo_compiler::document_building::build_executable_document;
@@ -14,7 +15,6 @@ use apollo_executable::document::ExecutableDocument;
 use apollo_meaning::build_error::Faults as SchemaFaults;
 use apollo_schema::schema::Schema;
 use bench_notation::documents::{DividedDocuments, read, read_divided};
-use crate::questions::{Question, field_questions, subtype_questions};
 use gqltool_run::failure::Failure as InputFailure;
 use graphql_ast::document::Document;
 use graphql_nodes::collections::hash_keys::HashKeys;

@@ -3,16 +3,16 @@
 
 use crate::bench::{Bench, Built, Questions, Ready, Typed};
 use crate::failure::Failure;
+use crate::questions::{count_fields, count_subtypes};
 use crate::report::Value::{Count, Equality};
 use crate::report::{Item, Value};
+use crate::walked::count_walked;
 use apollo_compiler::SourceFile;
 use apollo_compiler::compiled::Compiled;
 use apollo_compiler::compiling::compile_with_keys;
 use apollo_executable::document::ExecutableDocument;
 use apollo_schema::schema::Schema;
 use bench_notation::documents::DividedDocuments;
-use crate::questions::{count_fields, count_subtypes};
-use crate::walked::count_walked;
 use graphql_ast::definition::Definition;
 use graphql_ast::document::Document;
 use graphql_nodes::collections::items::Items;
