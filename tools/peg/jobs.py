@@ -53,17 +53,25 @@ def run(jobs, side_by_side=2):
     return sums
 
 
-def of_both(*words):
-    """The jobs that the tests and the gate have both. `--built` leaves out what would be compiled without proof."""
+def end(*counts):
+    """Shows the last line of runs that were so counted, and answers the exit status."""
+    passed, failed, skipped = map(sum, zip(*counts))
+    print(last_line(passed, failed, skipped))
+    return int(failed != 0)
+
+
+def over_programs():
+    """The jobs over the programs that are there, proved or not, and over sources and documents."""
     checks = ["checked_sources", "checked_documents", "quoted_code", "worked", "checked_program", "checked_cases"]
     return [
+        command("tools/refusals"),
         command("tools/fuzz", "--hostile"),
         command("tools/colliding_names", "--check"),
         command("tools/fuzz", "2000", "1"),
         command("tools/fuzz", "--peer", "100", "1"),
         command("tools/fuzz", "--texts", "100", "1"),
         command("tools/fuzz", "--files", "100", "1"),
-        command("tools/checked_examples", *words),
+        command("tools/checked_examples"),
         command("tools/pages", "--check"),
         *(command(f"tools/{check}") for check in checks),
     ]

@@ -1,21 +1,14 @@
-"""Programs as they are built: how each is run and measured, and what the script of its name does."""
+"""Programs: where each is, how it is run and measured, and what the script of its name does."""
 import os
-import re
 import resource
 import signal
-import subprocess
 import tempfile
 from typing import NamedTuple
 
-from peg import CRATES, sources
+from peg import CRATES, sources, unproved
 
 # A run that takes more seconds of the processor than this is ended.
 LIMIT = 300
-
-UNBUILT = """{name}: not built from these sources. It is compiled first, for some 60 seconds of the processor, and run unproved.
-{name}: this way output over 1 MiB is cut, and so is input over 64 MiB or behind two silent seconds; a terminal isn't read, and
-{name}: a stream that fails isn't seen to fail. The last two lines are of `rt try`. `cd crates/{name} && rt run` proves and
-{name}: builds it: from nothing, in some 80 minutes of the processor. Then it starts at once."""
 
 
 class Run(NamedTuple):
@@ -53,86 +46,63 @@ def run(program, words, text, output=None):
         return Run(os.waitstatus_to_exitcode(status), wrote.read(), errors.read(), seconds, used.ru_maxrss / 1024)
 
 
-def path(name):
-    """Where a program is when it is built."""
+def proved(name):
+    """Where `rt ci`, `rt run` and the gate put a program that is proved."""
     return CRATES / name / "out" / name
 
 
-def is_built(name):
-    """Whether a program was built from these sources."""
-    newest = max(file.stat().st_mtime for file in sources.files("src"))
-    return os.access(path(name), os.X_OK) and path(name).stat().st_mtime >= newest
+def is_proved(name):
+    """Whether a program is proved and built, and no source that it stands on is newer."""
+    program = proved(name)
+    files = (file for crate in unproved.crates_of(name) for file in sources.files("src", crate=crate))
+    return os.access(program, os.X_OK) and program.stat().st_mtime >= max(file.stat().st_mtime for file in files)
 
 
-def unbuilt(*names):
-    """Which of these programs are not built, in words, or an empty text."""
-    name = next((name for name in names if not is_built(name)), "")
-    return name and f"{name} is not built from these sources: `rt ci`, or `rt run` in crates/{name}, proves and builds it"
+def path(name):
+    """Where a program is when it is there: proved and built, or else compiled without proof and kept."""
+    return proved(name) if is_proved(name) else unproved.path(name)
 
 
-def unproved(name, words, text):
-    """A run of a program that is compiled for it, without proof."""
-    data = [word for file in data_of(name) for word in ("--data", f"{file}=data/{file}")]
-    command = ["rt", "try", *data, "--", *words]
-    ended = subprocess.run(command, cwd=CRATES / name, input=text, capture_output=True)
-    return Run(ended.returncode, ended.stdout, ended.stderr)
+def is_there(name):
+    """Whether a program is there, made of these sources."""
+    return os.access(path(name), os.X_OK)
 
 
-def data_of(name):
-    folder = CRATES / name / "data"
-    return sorted(str(file.relative_to(folder)) for file in folder.rglob("*") if file.is_file())
-
-
-def usage(name):
-    """What the program answers to words that it doesn't take, or nothing where it reads them by `clap`."""
-    texts = (path.read_text() for path in sources.files("src", crate=f"{name}*"))
-    return next((found[1] for text in texts if (found := re.search(rf'error\("(usage: {name} [^"]*)"\)', text))), "")
-
-
-def takes(name, words):
-    """Whether the program may take these words, by its usage: a command, its options, each at most once, and as many other
-    words as it has in capital letters. A word that isn't UTF-8 is taken by none."""
-    try:
-        command, *own = [os.fsencode(word).decode() for word in words]
-    except ValueError:
-        return False
-    if not usage(name):
-        return True
-    for form in re.sub(r" \(.*", "", usage(name)).removeprefix(f"usage: {name} ").split(" | "):
-        its_commands, *rest = form.split(" ")
-        options = {word.strip("[]") for word in rest if word.startswith("[")}
-        if command in its_commands.split("|"):
-            others = [word for word in own if word not in options]
-            return len(others) == len(rest) - len(options) and len(own) - len(others) == len({*own} & options)
-    return False
+def missing(*names):
+    """Which of these programs is not there, in words, or an empty text."""
+    name = next((name for name in names if not is_there(name)), "")
+    return name and f"{name} is not made of these sources: `./tests` compiles it without proof, and `rt run` in crates/{name} proves it"
 
 
 def start(name, words):
-    """Becomes the program: as it is built, or else compiled for this run. What it refuses by its usage is answered at once."""
-    if not is_built(name):
-        if not takes(name, words):
-            say(usage(name))
-            return 2
-        say(UNBUILT.format(name=name))
-        # The program is run in a folder of its own, which gets the files that are named.
-        given = {word: inner(word) for word in words if not usage(name) and os.path.isfile(word)}
-        named = [part for word, own in given.items() for part in ("--data", f"{own}={os.path.abspath(word)}")]
-        os.chdir(CRATES / name)
-        os.execvp("rt", ["rt", "try", *named, "--", *(given.get(word, word) for word in words)])
-    if words and os.isatty(0):
-        say(f"{name}: reads from the terminal, up to the end of the input (Ctrl-D)")
-    os.execv(path(name), [name, *words])
+    """Becomes the program: as it is proved and built, or else compiled without proof, once for the same sources."""
+    try:
+        program = path(name) if is_there(name) else unproved.made_for_people(name)
+    except unproved.Differs as wrong:
+        say(f"{name}: this kit has other parts ({str(wrong).splitlines()[0]}): it is run by `rt try`, compiled each time")
+        start_by_try(name, words)
+    except unproved.Refused as wrong:
+        say(f"{name}: {wrong}")
+        return 2
+    except OSError as wrong:
+        say(f"{name}: cannot keep what is compiled: {wrong.filename}: {wrong.strerror}")
+        return 2
+    os.execv(program, [name, *words])
+
+
+def start_by_try(name, words):
+    """Becomes a run by `rt try`, which gets the files that are named. It runs in a folder of its own."""
+    given = {word: inner(word) for word in words if os.path.isfile(word)}
+    data = [part for word, own in given.items() for part in ("--data", f"{own}={os.path.abspath(word)}")]
+    os.chdir(CRATES / name)
+    os.execvp("rt", ["rt", "try", *data, "--", *(given.get(word, word) for word in words)])
 
 
 def inner(path):
-    """A path as it is inside a folder: one that leads out of it is cut to its name."""
+    """A path as it is inside a folder: one that leads out of it is that from the root on."""
     is_outside = os.path.isabs(path) or os.path.normpath(path).startswith("..")
-    return os.path.basename(path) if is_outside else path
+    return os.path.abspath(path).lstrip("/") if is_outside else path
 
 
 def say(text):
-    try:
-        os.write(2, f"{text}\n".encode())
-    except OSError:
-        # That it can't be said changes no status.
-        pass
+    unproved.say(f"{text}\n")
