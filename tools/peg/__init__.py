@@ -25,10 +25,14 @@ def end(number, _):
     sys.exit(128 + number)
 
 
+def end_at_signals(*numbers):
+    for number in (signal.SIGTERM, signal.SIGHUP, *numbers):
+        signal.signal(number, end)
+
+
 def run(main, doc):
     """Runs a tool with the words behind its name; `--help` says what it is."""
-    for number in (signal.SIGTERM, signal.SIGHUP):
-        signal.signal(number, end)
+    end_at_signals()
     words = sys.argv[1:]
     if words in (["--help"], ["-h"]):
         sys.exit(write(doc.strip().split("\n")))
