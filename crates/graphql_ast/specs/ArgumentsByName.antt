@@ -7,6 +7,7 @@
 -- without a definition: `NoSuchArgument`. Else the definition's default value, if there is one. Else, if
 -- the definition's type is non-null: `RequiredArgumentNotSpecified`. Else none.
 use Rattle.std.specs.Prelude.{List, Option, None, Some, Bool, true, false, find, Result, Ok, Err, option_map}
+use Rattle.std.specs.Prelude.{is_none, ◌&&◌}
 use Rattle.graphql_nodes.specs.NameView.{NameView}
 use Rattle.graphql_nodes.specs.NodeView.{NodeView}
 use Rattle.graphql_nodes.specs.SameText.{same_text}
@@ -17,6 +18,10 @@ use Rattle.graphql_ast.specs.declared.type_system.InputValueDefinition.{InputVal
 use Rattle.graphql_ast.specs.declared.directive.ArgumentByNameError.{ArgumentByNameError}
 use Rattle.graphql_ast.specs.declared.directive.ArgumentByNameError.TheVariants.{RequiredArgumentNotSpecified}
 use Rattle.graphql_ast.specs.declared.directive.ArgumentByNameError.TheVariants.{NoSuchArgument}
+
+-- whether a value has to be given: the type is non-null, and there is no default value
+abbrev pub requires_value : InputValueDefinition → Bool
+requires_value d = is_required d.ty.value && is_none d.default_value
 
 -- the first argument definition of the name
 abbrev pub defined_argument : List (NodeView InputValueDefinition) → NameView

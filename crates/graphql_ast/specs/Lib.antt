@@ -1,4 +1,5 @@
 pub mod AddedDefinitions
+pub mod AppliedDirectives
 pub mod ArgumentAnswer
 pub mod ArgumentsByName
 pub mod Bare
@@ -8,10 +9,14 @@ pub mod BareSelections
 pub mod BareTypeSystem
 pub mod Declarations
 pub mod DeclarationsSeen
+pub mod DefinitionKinds
 pub mod DefinitionTexts
 pub mod Definitions
 pub mod Operations
 pub mod Parts
 pub mod PartsSeen
+pub mod SelectionKinds
 pub mod TypeReferences
 pub mod TypeSystem
+pub mod TypesCompatible
+pub mod Values

@@ -2,6 +2,7 @@
 ghost use Rattle.std.specs.Prelude.{◌≡◌, IfOk, ◌↔◌, IsTrue};
 ghost use Rattle.std.specs.Option.{option_copied};
 
+use crate::directive::DirectiveList;
 use crate::operation::{FragmentDefinition, OperationDefinition};
 use crate::type_system::{
     DirectiveDefinition, EnumTypeDefinition, EnumTypeExtension, InputObjectTypeDefinition,
@@ -29,6 +30,16 @@ macro_rules! of_held {
 
 pub(crate) use of_held;
 
+/// The node that a definition holds, if it is of this kind.
+macro_rules! node_if {
+    ($definition:expr, $kind:ident) => {
+        match $definition {
+            Definition::$kind(node) => Some(node),
+            _ => None,
+        }
+    };
+}
+
 /// A definition or extension of a document. `From` of a node is the variant of its kind, which holds this
 /// node.
 #[derive(Debug, Drop, PartialEq, Eq, Hash)]
@@ -54,6 +65,18 @@ pub enum Definition {
 
 impl Definition {
     ghost use Rattle.graphql_ast.specs.DefinitionTexts.{definition_text};
+    ghost use Rattle.graphql_ast.specs.DefinitionKinds.{as_directive_definition, as_enum_type_definition};
+    ghost use Rattle.graphql_ast.specs.DefinitionKinds.{as_enum_type_extension, as_fragment_definition};
+    ghost use Rattle.graphql_ast.specs.DefinitionKinds.{as_input_object_type_definition};
+    ghost use Rattle.graphql_ast.specs.DefinitionKinds.{as_input_object_type_extension};
+    ghost use Rattle.graphql_ast.specs.DefinitionKinds.{as_interface_type_definition};
+    ghost use Rattle.graphql_ast.specs.DefinitionKinds.{as_interface_type_extension};
+    ghost use Rattle.graphql_ast.specs.DefinitionKinds.{as_object_type_definition, as_object_type_extension};
+    ghost use Rattle.graphql_ast.specs.DefinitionKinds.{as_operation_definition, as_scalar_type_definition};
+    ghost use Rattle.graphql_ast.specs.DefinitionKinds.{as_scalar_type_extension, as_schema_definition};
+    ghost use Rattle.graphql_ast.specs.DefinitionKinds.{as_schema_extension, as_union_type_definition};
+    ghost use Rattle.graphql_ast.specs.DefinitionKinds.{as_union_type_extension, definition_directives};
+    ghost use Rattle.graphql_ast.specs.DefinitionKinds.{is_executable, is_extension};
     ghost use Rattle.graphql_ast.specs.Definitions.{definition_name, definition_location, definition_kind};
 
     /// The name of what is defined or extended: none for the schema, nor for an anonymous operation.
@@ -79,6 +102,58 @@ impl Definition {
             Definition::EnumTypeExtension(node) => Some(&node.name),
             Definition::InputObjectTypeExtension(node) => Some(&node.name),
         }
+    }
+
+    /// The directives that are applied to what is defined or extended: none where that is a directive, which
+    /// can't have any.
+    pub fn directives(&self) -> Option<&DirectiveList>
+        ensures { option_copied result ≡ definition_directives self.now }
+    {
+        match self {
+            Definition::OperationDefinition(node) => Some(&node.directives),
+            Definition::FragmentDefinition(node) => Some(&node.directives),
+            Definition::DirectiveDefinition(_) => None,
+            Definition::SchemaDefinition(node) => Some(&node.directives),
+            Definition::ScalarTypeDefinition(node) => Some(&node.directives),
+            Definition::ObjectTypeDefinition(node) => Some(&node.directives),
+            Definition::InterfaceTypeDefinition(node) => Some(&node.directives),
+            Definition::UnionTypeDefinition(node) => Some(&node.directives),
+            Definition::EnumTypeDefinition(node) => Some(&node.directives),
+            Definition::InputObjectTypeDefinition(node) => Some(&node.directives),
+            Definition::SchemaExtension(node) => Some(&node.directives),
+            Definition::ScalarTypeExtension(node) => Some(&node.directives),
+            Definition::ObjectTypeExtension(node) => Some(&node.directives),
+            Definition::InterfaceTypeExtension(node) => Some(&node.directives),
+            Definition::UnionTypeExtension(node) => Some(&node.directives),
+            Definition::EnumTypeExtension(node) => Some(&node.directives),
+            Definition::InputObjectTypeExtension(node) => Some(&node.directives),
+        }
+    }
+
+    /// Whether it is an operation or a fragment, and so no definition or extension of the type system.
+    pub fn is_executable_definition(&self) -> bool
+        ensures { result ≡ is_executable self.now }
+    {
+        matches!(
+            self,
+            Definition::OperationDefinition(_) | Definition::FragmentDefinition(_)
+        )
+    }
+
+    /// Whether it is an extension of a type or of the schema.
+    pub fn is_extension_definition(&self) -> bool
+        ensures { result ≡ is_extension self.now }
+    {
+        matches!(
+            self,
+            Definition::SchemaExtension(_)
+                | Definition::ScalarTypeExtension(_)
+                | Definition::ObjectTypeExtension(_)
+                | Definition::InterfaceTypeExtension(_)
+                | Definition::UnionTypeExtension(_)
+                | Definition::EnumTypeExtension(_)
+                | Definition::InputObjectTypeExtension(_)
+        )
     }
 
     /// Where the definition stands in a source, if it is known.
@@ -141,5 +216,123 @@ impl Definition {
             Definition::EnumTypeExtension(_) => TypeKind::Enum.describe_extension(),
             Definition::InputObjectTypeExtension(_) => TypeKind::InputObject.describe_extension(),
         }
+    }
+    /// The definition of an operation, if it is one.
+    pub fn as_operation_definition(&self) -> Option<&Node<OperationDefinition>>
+        ensures { option_copied result ≡ as_operation_definition self.now }
+    {
+        node_if!(self, OperationDefinition)
+    }
+
+    /// The definition of a fragment, if it is one.
+    pub fn as_fragment_definition(&self) -> Option<&Node<FragmentDefinition>>
+        ensures { option_copied result ≡ as_fragment_definition self.now }
+    {
+        node_if!(self, FragmentDefinition)
+    }
+
+    /// The definition of a directive, if it is one.
+    pub fn as_directive_definition(&self) -> Option<&Node<DirectiveDefinition>>
+        ensures { option_copied result ≡ as_directive_definition self.now }
+    {
+        node_if!(self, DirectiveDefinition)
+    }
+
+    /// The definition of the schema, if it is one.
+    pub fn as_schema_definition(&self) -> Option<&Node<SchemaDefinition>>
+        ensures { option_copied result ≡ as_schema_definition self.now }
+    {
+        node_if!(self, SchemaDefinition)
+    }
+
+    /// The definition of a scalar type, if it is one.
+    pub fn as_scalar_type_definition(&self) -> Option<&Node<ScalarTypeDefinition>>
+        ensures { option_copied result ≡ as_scalar_type_definition self.now }
+    {
+        node_if!(self, ScalarTypeDefinition)
+    }
+
+    /// The definition of an object type, if it is one.
+    pub fn as_object_type_definition(&self) -> Option<&Node<ObjectTypeDefinition>>
+        ensures { option_copied result ≡ as_object_type_definition self.now }
+    {
+        node_if!(self, ObjectTypeDefinition)
+    }
+
+    /// The definition of an interface type, if it is one.
+    pub fn as_interface_type_definition(&self) -> Option<&Node<InterfaceTypeDefinition>>
+        ensures { option_copied result ≡ as_interface_type_definition self.now }
+    {
+        node_if!(self, InterfaceTypeDefinition)
+    }
+
+    /// The definition of a union type, if it is one.
+    pub fn as_union_type_definition(&self) -> Option<&Node<UnionTypeDefinition>>
+        ensures { option_copied result ≡ as_union_type_definition self.now }
+    {
+        node_if!(self, UnionTypeDefinition)
+    }
+
+    /// The definition of an enum type, if it is one.
+    pub fn as_enum_type_definition(&self) -> Option<&Node<EnumTypeDefinition>>
+        ensures { option_copied result ≡ as_enum_type_definition self.now }
+    {
+        node_if!(self, EnumTypeDefinition)
+    }
+
+    /// The definition of an input object type, if it is one.
+    pub fn as_input_object_type_definition(&self) -> Option<&Node<InputObjectTypeDefinition>>
+        ensures { option_copied result ≡ as_input_object_type_definition self.now }
+    {
+        node_if!(self, InputObjectTypeDefinition)
+    }
+
+    /// The extension of the schema, if it is one.
+    pub fn as_schema_extension(&self) -> Option<&Node<SchemaExtension>>
+        ensures { option_copied result ≡ as_schema_extension self.now }
+    {
+        node_if!(self, SchemaExtension)
+    }
+
+    /// The extension of a scalar type, if it is one.
+    pub fn as_scalar_type_extension(&self) -> Option<&Node<ScalarTypeExtension>>
+        ensures { option_copied result ≡ as_scalar_type_extension self.now }
+    {
+        node_if!(self, ScalarTypeExtension)
+    }
+
+    /// The extension of an object type, if it is one.
+    pub fn as_object_type_extension(&self) -> Option<&Node<ObjectTypeExtension>>
+        ensures { option_copied result ≡ as_object_type_extension self.now }
+    {
+        node_if!(self, ObjectTypeExtension)
+    }
+
+    /// The extension of an interface type, if it is one.
+    pub fn as_interface_type_extension(&self) -> Option<&Node<InterfaceTypeExtension>>
+        ensures { option_copied result ≡ as_interface_type_extension self.now }
+    {
+        node_if!(self, InterfaceTypeExtension)
+    }
+
+    /// The extension of a union type, if it is one.
+    pub fn as_union_type_extension(&self) -> Option<&Node<UnionTypeExtension>>
+        ensures { option_copied result ≡ as_union_type_extension self.now }
+    {
+        node_if!(self, UnionTypeExtension)
+    }
+
+    /// The extension of an enum type, if it is one.
+    pub fn as_enum_type_extension(&self) -> Option<&Node<EnumTypeExtension>>
+        ensures { option_copied result ≡ as_enum_type_extension self.now }
+    {
+        node_if!(self, EnumTypeExtension)
+    }
+
+    /// The extension of an input object type, if it is one.
+    pub fn as_input_object_type_extension(&self) -> Option<&Node<InputObjectTypeExtension>>
+        ensures { option_copied result ≡ as_input_object_type_extension self.now }
+    {
+        node_if!(self, InputObjectTypeExtension)
     }
 }

@@ -1,8 +1,11 @@
 //! Arguments, also by their names, and applied directives: GraphQL specification of October 2021, sections
 //! 2.6, 2.12 and 3.6.1.
-ghost use Rattle.std.specs.Prelude.{◌≡◌, [], ◌∷◌, ◌++◌, OnOk, OnErr};
+ghost use Rattle.std.specs.Prelude.{◌≡◌, [], ◌∷◌, ◌++◌, filter, find, OnOk, OnErr};
+ghost use Rattle.std.specs.List.{list_any};
 ghost use Rattle.std.specs.Option.{option_copied};
+ghost use Rattle.graphql_ast.specs.AppliedDirectives.{is_called, DirectivesInOrder};
 
+use crate::get_all::GetAll;
 use crate::type_system::InputValueDefinition;
 use crate::value::Value;
 use graphql_nodes::collections::items::Items;
@@ -113,6 +116,30 @@ impl DirectiveList {
         ensures { result.0 ≡ [] }
     {
         DirectiveList(Items::new(alloc))
+    }
+
+    /// The directives that have the name's text, in order. It is best for repeatable directives (section
+    /// 3.13).
+    pub fn get_all<'a, 'n>(&'a self, name: &'n Name) -> GetAll<'a, 'n>
+        ensures rest { result ≡ filter (is_called name.now) self.now.0 }
+        ensures runs { DirectivesInOrder }
+    {
+        GetAll::new(self.0.as_slice(), name)
+    }
+
+    /// The first directive that has the name's text, if there is one. It is best for directives that aren't
+    /// repeatable.
+    pub fn get(&self, name: &Name) -> Option<&Node<Directive>>
+        ensures { option_copied result ≡ find (is_called name.now) self.now.0 }
+    {
+        first_of_name(self.0.as_slice(), name)
+    }
+
+    /// Whether there is a directive that has the name's text.
+    pub fn has(&self, name: &Name) -> bool
+        ensures { result ≡ list_any (is_called name.now) self.now.0 }
+    {
+        self.0.iter().any(|directive| directive.name == *name)
     }
 
     /// Adds a directive at the end. The error is out of memory: the list is as it was, and the directive is

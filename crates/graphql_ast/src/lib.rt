@@ -15,6 +15,7 @@ pub mod directive;
 pub mod document;
 mod else_empty;
 mod from_nodes;
+pub mod get_all;
 pub mod laws;
 mod named_parts;
 pub mod operation;
@@ -29,6 +30,7 @@ pub use crate::declaration_ref::{DeclarationRef, SchemaDeclarationRef, TypeDecla
 pub use crate::definition::Definition;
 pub use crate::directive::{Argument, ArgumentByNameError, Directive, DirectiveList};
 pub use crate::document::Document;
+pub use crate::get_all::GetAll;
 pub use crate::operation::{FragmentDefinition, OperationDefinition, VariableDefinition};
 pub use crate::parts::{Part, Parts, PartsRef};
 pub use crate::selection::{Field, FragmentSpread, InlineFragment, Selection};

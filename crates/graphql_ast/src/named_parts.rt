@@ -1,12 +1,20 @@
 //! Parts of trees that are found by their name.
 
-use crate::directive::Argument;
+use crate::directive::{Argument, Directive};
 use crate::type_system::{EnumValueDefinition, FieldDefinition, InputValueDefinition};
 use graphql_nodes::name::Name;
 use graphql_nodes::named::Named;
 
 impl Named for Argument {
     ghost name_of = { λ argument. argument.name };
+
+    fn name(&self) -> &Name {
+        &self.name
+    }
+}
+
+impl Named for Directive {
+    ghost name_of = { λ directive. directive.name };
 
     fn name(&self) -> &Name {
         &self.name

@@ -1,5 +1,6 @@
 //! Selections: GraphQL specification of October 2021, sections 2.4 to 2.8.
 ghost use Rattle.std.specs.Prelude.{◌≡◌, IfOk, [], None, Some};
+ghost use Rattle.std.specs.Option.{option_copied};
 
 use crate::directive::{Argument, DirectiveList};
 use crate::else_empty::else_empty;
@@ -7,6 +8,7 @@ use crate::from_nodes::copied;
 use graphql_nodes::collections::items::Items;
 use graphql_nodes::name::{Name, NamedType};
 use graphql_nodes::node::Node;
+use graphql_nodes::source::SourceSpan;
 use graphql_nodes::{clone_fields, take_apart};
 use std::alloc::{AllocError, Global};
 
@@ -18,6 +20,63 @@ pub enum Selection {
     Field(Node<Field>),
     FragmentSpread(Node<FragmentSpread>),
     InlineFragment(Node<InlineFragment>),
+}
+
+impl Selection {
+    ghost use Rattle.graphql_ast.specs.SelectionKinds.{as_field, as_fragment_spread, as_inline_fragment};
+    ghost use Rattle.graphql_ast.specs.SelectionKinds.{selection_directives, selection_location};
+
+    /// Where the selection stands in a source, if it is known.
+    pub fn location(&self) -> Option<SourceSpan>
+        ensures { result ≡ selection_location self.now }
+    {
+        match self {
+            Selection::Field(node) => node.location(),
+            Selection::FragmentSpread(node) => node.location(),
+            Selection::InlineFragment(node) => node.location(),
+        }
+    }
+
+    /// The directives of the selection.
+    pub fn directives(&self) -> &DirectiveList
+        ensures { result.now ≡ selection_directives self.now }
+    {
+        match self {
+            Selection::Field(node) => &node.directives,
+            Selection::FragmentSpread(node) => &node.directives,
+            Selection::InlineFragment(node) => &node.directives,
+        }
+    }
+
+    /// The field, if it is one.
+    pub fn as_field(&self) -> Option<&Node<Field>>
+        ensures { option_copied result ≡ as_field self.now }
+    {
+        match self {
+            Selection::Field(node) => Some(node),
+            _ => None,
+        }
+    }
+
+    /// The inline fragment, if it is one.
+    pub fn as_inline_fragment(&self) -> Option<&Node<InlineFragment>>
+        ensures { option_copied result ≡ as_inline_fragment self.now }
+    {
+        match self {
+            Selection::InlineFragment(node) => Some(node),
+            _ => None,
+        }
+    }
+
+    /// The spread of a fragment, if it is one.
+    pub fn as_fragment_spread(&self) -> Option<&Node<FragmentSpread>>
+        ensures { option_copied result ≡ as_fragment_spread self.now }
+    {
+        match self {
+            Selection::FragmentSpread(node) => Some(node),
+            _ => None,
+        }
+    }
 }
 
 /// A selected field (section 2.5).

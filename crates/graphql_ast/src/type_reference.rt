@@ -1,4 +1,4 @@
-//! References to types: GraphQL specification of October 2021, section 2.11.
+//! References to types: GraphQL specification of October 2021, sections 2.11 and 5.8.5.
 ghost use Rattle.std.specs.Prelude.{◌≡◌, IfOk, ◌↔◌, IsTrue};
 
 use graphql_nodes::collections::boxed::Boxed;
@@ -15,7 +15,9 @@ pub enum Type {
 }
 
 impl Type {
-    ghost use Rattle.graphql_ast.specs.TypeReferences.{inner_name, is_required, made_non_null};
+    ghost use Rattle.graphql_ast.specs.TypeReferences.{inner_name, is_list, is_named, is_required};
+    ghost use Rattle.graphql_ast.specs.TypeReferences.{item_type, made_non_null, made_nullable};
+    ghost use Rattle.graphql_ast.specs.TypesCompatible.{are_types_compatible};
     ghost use Rattle.graphql_ast.specs.declared.type_reference.Type.{Named, «List» as ListOf};
 
     /// The type of this name.
@@ -44,6 +46,18 @@ impl Type {
         }
     }
 
+    /// The same type with null: its name or outermost list, made nullable. A type that is nullable stays as
+    /// it is.
+    pub fn nullable(self) -> Type
+        ensures { result ≡ made_nullable self }
+    {
+        match self {
+            Type::NonNullNamed(name) => Type::Named(name),
+            Type::NonNullList(inner) => Type::List(inner),
+            Type::Named(_) | Type::List(_) => self,
+        }
+    }
+
     /// The name inside all lists, non-null or not.
     pub fn inner_named_type(&self) -> &NamedType
         ensures { result.now ≡ inner_name self.now }
@@ -61,6 +75,50 @@ impl Type {
         ensures { result ≡ is_required self.now }
     {
         matches!(self, Type::NonNullNamed(_) | Type::NonNullList(_))
+    }
+
+    /// Whether it is the type of lists of a type, non-null or not.
+    pub fn is_list(&self) -> bool
+        ensures { result ≡ is_list self.now }
+    {
+        matches!(self, Type::List(_) | Type::NonNullList(_))
+    }
+
+    /// Whether it is a name, non-null or not, and so no list.
+    pub fn is_named(&self) -> bool
+        ensures { result ≡ is_named self.now }
+    {
+        matches!(self, Type::Named(_) | Type::NonNullNamed(_))
+    }
+
+    /// The type of what is in the lists of this type. A type of no lists is its own.
+    pub fn item_type(&self) -> &Type
+        ensures { result.now ≡ item_type self.now }
+    {
+        match self {
+            Type::Named(_) | Type::NonNullNamed(_) => self,
+            Type::List(inner) => inner,
+            Type::NonNullList(inner) => inner,
+        }
+    }
+
+    /// Whether a variable of this type may stand where the target type is expected, as
+    /// `AreTypesCompatible` in section 5.8.5 has it. Default values are left out there.
+    pub fn is_assignable_to(&self, target: &Type) -> bool
+        ensures { result ≡ are_types_compatible self.now target.now }
+    {
+        match (self, target) {
+            (Type::Named(_) | Type::List(_), Type::NonNullNamed(_) | Type::NonNullList(_)) => false,
+            (
+                Type::Named(name) | Type::NonNullNamed(name),
+                Type::Named(wanted) | Type::NonNullNamed(wanted),
+            ) => name == wanted,
+            (
+                Type::List(item) | Type::NonNullList(item),
+                Type::List(wanted) | Type::NonNullList(wanted),
+            ) => item.is_assignable_to(wanted),
+            _ => false,
+        }
     }
 }
 

@@ -4,7 +4,7 @@
 //! takes memory.
 ghost use Rattle.std.specs.Prelude.{◌≡◌, [], IfOk, None, false};
 ghost use Rattle.std.specs.Option.{option_copied};
-ghost use Rattle.graphql_ast.specs.ArgumentsByName.{defined_argument};
+ghost use Rattle.graphql_ast.specs.ArgumentsByName.{defined_argument, requires_value};
 ghost use Rattle.graphql_ast.specs.Declarations.{placed};
 ghost use Rattle.graphql_ast.specs.TypeSystem.{directive_definition_of, enum_extension_of, enum_type_of};
 ghost use Rattle.graphql_ast.specs.TypeSystem.{enum_value_of, field_of, input_object_extension_of};
@@ -74,6 +74,13 @@ impl InputValueDefinition {
         let ty = Node::new(alloc, ty)?;
         let default_value = None;
         Ok(else_empty!(alloc: name, ty, default_value; description, directives))
+    }
+
+    /// Whether a value has to be given: the type is non-null, and there is no default value (section 5.4.2.1).
+    pub fn is_required(&self) -> bool
+        ensures { result ≡ requires_value self.now }
+    {
+        self.ty.is_non_null() && self.default_value.is_none()
     }
 }
 
