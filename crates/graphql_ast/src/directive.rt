@@ -95,6 +95,8 @@ pub struct Directive {
 }
 
 impl Directive {
+    ghost use Rattle.graphql_ast.specs.ArgumentsByName.{specified_value};
+
     /// The directive of this name, without arguments.
     pub fn new(alloc: Global, name: Name) -> Directive
         ensures { result ≡ record { name = name; arguments = [] } }
@@ -103,6 +105,13 @@ impl Directive {
             name,
             arguments: Items::new(alloc),
         }
+    }
+
+    /// The value of the first argument that has the name's text, if there is one. It takes no memory.
+    pub fn specified_argument_by_name(&self, name: &Name) -> Option<&Node<Value>>
+        ensures { option_copied result ≡ specified_value self.now.arguments name.now }
+    {
+        Argument::specified_argument_by_name(self.arguments.as_slice(), name)
     }
 }
 

@@ -1,9 +1,9 @@
 //! What `==` answers at each type of the tree, which is whether the two are one with every location left out.
-//! Clones are the originals.
+//! Clones are the originals. Types are compatible step by step as the specification has it.
 //!
 //! Each law is a function that does nothing. A proof cites it by a call, and finds a clause for each type
 //! there. That equal values have equal hashes is part of each type's `Hash`.
-ghost use Rattle.std.specs.Prelude.{◌≡◌};
+ghost use Rattle.std.specs.Prelude.{◌≡◌, ◌≢◌, true, false};
 ghost use Rattle.graphql_nodes.specs.Comparing.{ComparesBy};
 ghost use Rattle.graphql_ast.specs.Bare.{bare_value, bare_type, bare_argument, bare_directive};
 ghost use Rattle.graphql_ast.specs.Bare.{bare_directive_list};
@@ -24,7 +24,12 @@ ghost use Rattle.graphql_ast.specs.BareDocuments.{bare_variable_definition, bare
 ghost use Rattle.graphql_ast.specs.BareDocuments.{bare_fragment_definition, bare_definition, bare_document};
 ghost use Rattle.graphql_ast.specs.BareDeclarations.{bare_declaration};
 ghost use Rattle.graphql_ast.specs.Declarations.{Declaration, declaration_of, made, sayable};
+ghost use Rattle.graphql_nodes.specs.SameText.{same_text};
+ghost use Rattle.graphql_ast.specs.TypeReferences.{inner_name, is_list, is_required, item_type};
+ghost use Rattle.graphql_ast.specs.TypeReferences.{made_nullable};
+ghost use Rattle.graphql_ast.specs.TypesCompatible.{are_types_compatible};
 ghost use Rattle.graphql_ast.specs.declared.definition.Definition.{Definition};
+ghost use Rattle.graphql_ast.specs.declared.type_reference.Type.{«Type» as TypeReference};
 ghost use Rattle.graphql_nodes.specs.Clones.{IsExact};
 
 use crate::definition::Definition;
@@ -183,4 +188,29 @@ pub fn declarations_are_definitions()
 pub fn bare_definitions_are_read_bare()
     ensures { (definition : Definition) →
         declaration_of (bare_definition definition) ≡ bare_declaration (declaration_of definition) }
+{}
+
+/// The type of a variable and that of a location where it stands are compatible as `AreTypesCompatible` of
+/// section 5.8.5 says, step by step. A non-null location takes no variable of a nullable type. Else the two
+/// are compared without their non-null. A list location takes lists alone, by the types of their items, and
+/// no other location takes a list. Else the two have one name.
+pub fn compatibility_of_types()
+    ensures nullable_at_non_null { (variable location : TypeReference) → is_required location ≡ true
+        → is_required variable ≡ false → are_types_compatible variable location ≡ false }
+    ensures both_non_null { (variable location : TypeReference) → is_required location ≡ true
+        → is_required variable ≡ true → are_types_compatible variable location
+        ≡ are_types_compatible (made_nullable variable) (made_nullable location) }
+    ensures non_null_at_nullable { (variable location : TypeReference) → is_required location ≡ false
+        → is_required variable ≡ true → are_types_compatible variable location
+        ≡ are_types_compatible (made_nullable variable) location }
+    ensures lists { (variable location : TypeReference) → is_required location ≡ false
+        → is_required variable ≡ false → is_list location ≡ true → is_list variable ≡ true
+        → are_types_compatible variable location
+        ≡ are_types_compatible (item_type variable) (item_type location) }
+    ensures one_list { (variable location : TypeReference) → is_required location ≡ false
+        → is_required variable ≡ false → is_list location ≢ is_list variable
+        → are_types_compatible variable location ≡ false }
+    ensures names { (variable location : TypeReference) → is_required location ≡ false
+        → is_required variable ≡ false → is_list location ≡ false → is_list variable ≡ false
+        → are_types_compatible variable location ≡ same_text (inner_name variable) (inner_name location) }
 {}

@@ -4,7 +4,8 @@
 //! A tree is plain data. Cloning it shares its nodes, and comparing it leaves locations out.
 //!
 //! Proved: `==` of trees ignores locations, of documents their sources too, and nothing else; the value of an
-//! argument by name. What a definition says, whatever its kind, is read of it and made into it again.
+//! argument by name; types of variables are compatible where the specification says so. What a definition
+//! says, whatever its kind, is read of it and made into it again.
 #![tactic(auto)]
 
 pub mod added_list;

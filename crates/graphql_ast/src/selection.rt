@@ -1,6 +1,6 @@
 //! Selections: GraphQL specification of October 2021, sections 2.4 to 2.8.
 ghost use Rattle.std.specs.Prelude.{◌≡◌, IfOk, [], None, Some};
-ghost use Rattle.std.specs.Option.{option_copied};
+ghost use Rattle.std.specs.Option.{option_copied, unwrap_or};
 
 use crate::directive::{Argument, DirectiveList};
 use crate::else_empty::else_empty;
@@ -110,6 +110,16 @@ impl Field {
     {
         let alias = None;
         else_empty!(alloc: alias, name; directives, arguments, selection_set)
+    }
+
+    /// The key of the field in a response: its alias, or else its name (section 2.7).
+    pub fn response_key(&self) -> &Name
+        ensures { result.now ≡ unwrap_or self.now.alias self.now.name }
+    {
+        match &self.alias {
+            Some(alias) => alias,
+            None => &self.name,
+        }
     }
 }
 

@@ -102,8 +102,8 @@ impl Type {
         }
     }
 
-    /// Whether a variable of this type may stand where the target type is expected, as
-    /// `AreTypesCompatible` in section 5.8.5 has it. Default values are left out there.
+    /// Whether a variable of this type may stand where the target type is expected: `AreTypesCompatible` of
+    /// section 5.8.5, which doesn't look at default values.
     pub fn is_assignable_to(&self, target: &Type) -> bool
         ensures { result ≡ are_types_compatible self.now target.now }
     {

@@ -64,8 +64,8 @@ impl Value {
         }
     }
 
-    /// The number nearest to a float or an integer (sections 3.5.1 and 3.5.2). Other values have none, nor
-    /// has a number that is past the greatest one of 64 bits.
+    /// The number of 64 bits that is nearest to a float or an integer (sections 3.5.1 and 3.5.2). Other values
+    /// have none, nor has a number that is past the greatest finite one. The text is read as `parse` reads it.
     pub fn to_f64(&self) -> Option<f64>
         ensures { result ≡ finite_number self.now }
     {
@@ -76,7 +76,7 @@ impl Value {
     }
 
     /// The integer, if the value is one of 32 bits with its sign (section 3.5.1). Other values have none, nor
-    /// has a greater integer, nor a float without a fraction.
+    /// has an integer past these, nor a float without a fraction. The text is read as `parse` reads it.
     pub fn to_i32(&self) -> Option<i32>
         ensures { MatchOption (as_int self.now) (result ≡ None) (λ text.
             ParsesSigned w32 10 text (ok_or result text)) }
