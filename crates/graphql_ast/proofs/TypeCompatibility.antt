@@ -14,8 +14,8 @@ opened : (P : TypeReference → TypeReference → Type 0)
 opened P each v l = rw (roll-out-Type v, roll-out-Type l) at (each (out-Type v) (out-Type l))
 
 abbrev NullableAtNonNull : TypeReference → TypeReference → Type 0
-NullableAtNonNull variable location = is_required location ≡ true → is_required variable ≡ false
-    → are_types_compatible variable location ≡ false
+NullableAtNonNull v l = is_required l ≡ true → is_required v ≡ false
+    → are_types_compatible v l ≡ false
 
 pub nullable_at_non_null : (v l : TypeReference) → NullableAtNonNull v l
 nullable_at_non_null = opened NullableAtNonNull steps where
@@ -24,9 +24,9 @@ nullable_at_non_null = opened NullableAtNonNull steps where
   steps z y = search (rules, the_lemmas)
 
 abbrev BothNonNull : TypeReference → TypeReference → Type 0
-BothNonNull variable location = is_required location ≡ true → is_required variable ≡ true
-    → are_types_compatible variable location
-    ≡ are_types_compatible (made_nullable variable) (made_nullable location)
+BothNonNull v l = is_required l ≡ true → is_required v ≡ true
+    → are_types_compatible v l
+    ≡ are_types_compatible (made_nullable v) (made_nullable l)
 
 pub both_non_null : (v l : TypeReference) → BothNonNull v l
 both_non_null = opened BothNonNull steps where
@@ -35,8 +35,8 @@ both_non_null = opened BothNonNull steps where
   steps z y = search (rules, the_lemmas)
 
 abbrev NonNullAtNullable : TypeReference → TypeReference → Type 0
-NonNullAtNullable variable location = is_required location ≡ false → is_required variable ≡ true
-    → are_types_compatible variable location ≡ are_types_compatible (made_nullable variable) location
+NonNullAtNullable v l = is_required l ≡ false → is_required v ≡ true
+    → are_types_compatible v l ≡ are_types_compatible (made_nullable v) l
 
 pub non_null_at_nullable : (v l : TypeReference) → NonNullAtNullable v l
 non_null_at_nullable = opened NonNullAtNullable steps where
@@ -45,9 +45,9 @@ non_null_at_nullable = opened NonNullAtNullable steps where
   steps z y = search (rules, the_lemmas)
 
 abbrev Lists : TypeReference → TypeReference → Type 0
-Lists variable location = is_required location ≡ false → is_required variable ≡ false → is_list location ≡ true
-    → is_list variable ≡ true
-    → are_types_compatible variable location ≡ are_types_compatible (item_type variable) (item_type location)
+Lists v l = is_required l ≡ false → is_required v ≡ false → is_list l ≡ true
+    → is_list v ≡ true
+    → are_types_compatible v l ≡ are_types_compatible (item_type v) (item_type l)
 
 pub lists : (v l : TypeReference) → Lists v l
 lists = opened Lists steps where
@@ -56,8 +56,8 @@ lists = opened Lists steps where
   steps z y = search (rules, the_lemmas)
 
 abbrev OneList : TypeReference → TypeReference → Type 0
-OneList variable location = is_required location ≡ false → is_required variable ≡ false
-    → is_list location ≢ is_list variable → are_types_compatible variable location ≡ false
+OneList v l = is_required l ≡ false → is_required v ≡ false
+    → is_list l ≢ is_list v → are_types_compatible v l ≡ false
 
 pub one_list : (v l : TypeReference) → OneList v l
 one_list = opened OneList steps where
@@ -66,9 +66,9 @@ one_list = opened OneList steps where
   steps z y = search (rules, the_lemmas)
 
 abbrev Names : TypeReference → TypeReference → Type 0
-Names variable location = is_required location ≡ false → is_required variable ≡ false → is_list location ≡ false
-    → is_list variable ≡ false
-    → are_types_compatible variable location ≡ same_text (inner_name variable) (inner_name location)
+Names v l = is_required l ≡ false → is_required v ≡ false → is_list l ≡ false
+    → is_list v ≡ false
+    → are_types_compatible v l ≡ same_text (inner_name v) (inner_name l)
 
 pub names : (v l : TypeReference) → Names v l
 names = opened Names steps where

@@ -1,5 +1,5 @@
--- A selection as one of each kind, where it stands, and its directives: GraphQL specification of October 2021,
--- sections 2.4 to 2.8.
+-- A selection as one of each kind, where it stands, and its directives: GraphQL specification of October
+-- 2021, sections 2.4 to 2.8.
 use Rattle.std.specs.Prelude.{Option, None, Some}
 use Rattle.graphql_nodes.specs.NodeView.{NodeView}
 use Rattle.graphql_nodes.specs.declared.source.SourceSpan.{SourceSpan}

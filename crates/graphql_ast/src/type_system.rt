@@ -76,7 +76,8 @@ impl InputValueDefinition {
         Ok(else_empty!(alloc: name, ty, default_value; description, directives))
     }
 
-    /// Whether a value has to be given: the type is non-null, and there is no default value (section 5.4.2.1).
+    /// Whether a value has to be given: the type is non-null, and there is no default value (section
+    /// 5.4.2.1).
     pub fn is_required(&self) -> bool
         ensures { result ≡ requires_value self.now }
     {

@@ -64,8 +64,9 @@ impl Value {
         }
     }
 
-    /// The number of 64 bits that is nearest to a float or an integer (sections 3.5.1 and 3.5.2). Other values
-    /// have none, nor has a number that is past the greatest finite one. The text is read as `parse` reads it.
+    /// The number of 64 bits that is nearest to a float or an integer (sections 3.5.1 and 3.5.2). Other
+    /// values have none, nor has a number past the greatest finite one. The text is read as `parse` reads
+    /// it.
     pub fn to_f64(&self) -> Option<f64>
         ensures { result ≡ finite_number self.now }
     {
