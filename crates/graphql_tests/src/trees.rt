@@ -8,6 +8,7 @@
 
 mod arguments;
 mod definitions;
+mod directives;
 mod documents;
 mod notation;
 mod parts;

@@ -160,3 +160,28 @@ fn are_found(alloc: Global) -> Result<bool, AllocError> {
 fn definitions_by_name(rt: HostRuntime) {
     assert!(rt; are_found(rt.alloc()) == Ok(true));
 }
+
+/// Whether an argument has to be given that is so defined.
+fn has_to_be_given(
+    alloc: Global,
+    required: bool,
+    default_value: Option<&str>,
+) -> Result<bool, AllocError> {
+    Ok(defined(alloc, "limit", required, default_value)?.is_required())
+}
+
+/// Whether the type of an argument is non-null, its default value, and whether it has to be given.
+const GIVEN: &[(bool, Option<&str>, bool)] = &[
+    (true, None, true),
+    (true, Some("10"), false),
+    (false, None, false),
+    (false, Some("10"), false),
+];
+
+#[test]
+fn an_argument_has_to_be_given_where_neither_null_nor_a_default_value_serves(rt: HostRuntime) {
+    for (required, default, want) in GIVEN {
+        let is_given = has_to_be_given(rt.alloc(), *required, *default);
+        assert!(rt; is_given == Ok(*want), "at {required}");
+    }
+}

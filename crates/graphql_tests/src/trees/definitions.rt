@@ -1,4 +1,4 @@
-//! Definitions of all kinds: their texts and copies.
+//! Definitions of all kinds: their texts, what they are, and copies.
 
 use crate::nodes::samples::PLACE;
 use graphql_ast::{
@@ -12,9 +12,52 @@ use graphql_nodes::{Name, Node, OperationType};
 use likeness::{is_copied, is_copied_so};
 use std::alloc::Global;
 
+/// The text of the first call that has the definition as one of its kind.
+macro_rules! first_of {
+    ($definition:ident: $($call:ident: $text:literal),*) => {{
+        $(if $definition.$call().is_some() {
+            return $text;
+        })*
+        "no definition"
+    }};
+}
+
+/// How the definition is described, by what it can be taken as.
+fn kind_of(definition: &Definition) -> &'static str {
+    first_of!(definition:
+        as_operation_definition: "an operation definition",
+        as_fragment_definition: "a fragment definition",
+        as_directive_definition: "a directive definition",
+        as_schema_definition: "a schema definition",
+        as_scalar_type_definition: "a scalar type definition",
+        as_object_type_definition: "an object type definition",
+        as_interface_type_definition: "an interface type definition",
+        as_union_type_definition: "a union type definition",
+        as_enum_type_definition: "an enum type definition",
+        as_input_object_type_definition: "an input object type definition",
+        as_schema_extension: "a schema extension",
+        as_scalar_type_extension: "a scalar type extension",
+        as_object_type_extension: "an object type extension",
+        as_interface_type_extension: "an interface type extension",
+        as_union_type_extension: "a union type extension",
+        as_enum_type_extension: "an enum type extension",
+        as_input_object_type_extension: "an input object type extension")
+}
+
+/// Whether what the definition can be taken as, and where it is one, goes with how it is described.
+fn is_of_kind(definition: &Definition, text: &str) -> bool {
+    let is_executable = text == "an operation definition" || text == "a fragment definition";
+    kind_of(definition) == text
+        && definition.is_executable_definition() == is_executable
+        && definition.is_extension_definition() == text.ends_with("extension")
+        && definition.directives().is_none() == (text == "a directive definition")
+}
+
 /// Whether this is how the definition is described, and it is at the location.
 fn is_described(definition: &Definition, text: &str) -> bool {
-    definition.describe() == text && definition.location() == Some(PLACE)
+    is_of_kind(definition, text)
+        && definition.describe() == text
+        && definition.location() == Some(PLACE)
 }
 
 /// Whether the value has an equal copy, and so has the definition of it at the location, which is described

@@ -1,8 +1,10 @@
-//! Selections with directives and arguments: their likeness, copies and writes.
+//! Selections with directives and arguments: what they are, their likeness, copies and writes.
 
 use crate::nodes::samples::{PLACE, list, name, node};
 use crate::trees::values::value;
-use graphql_ast::{Argument, Directive, DirectiveList, Field, InlineFragment, Node, Selection};
+use graphql_ast::{
+    Argument, Directive, DirectiveList, Field, FragmentSpread, InlineFragment, Node, Selection,
+};
 use graphql_nodes::SourceSpan;
 use likeness::{are_made_alike, both, is_copied_so, is_held_copied, is_made_copied};
 use std::alloc::{AllocError, Global};
@@ -96,4 +98,56 @@ fn trees_are_copied_with_their_locations(rt: HostRuntime) {
     assert!(rt; is_held_copied(field(alloc, Some(PLACE))));
     let directives = list(alloc, directive(alloc, Some(PLACE)));
     assert!(rt; is_made_copied(directives.map(DirectiveList)));
+}
+
+/// The spread `...other`, at the location.
+fn spread(alloc: Global) -> Result<Node<FragmentSpread>, AllocError> {
+    let name = name(alloc, "other", None)?;
+    Node::new_opt_location(alloc, FragmentSpread::new(alloc, name), Some(PLACE))
+}
+
+/// What the selection is taken as: the key of a field, the name of a spread, or the type of a fragment.
+fn kind_of(selection: &Selection) -> (&'static str, &str) {
+    if let Some(field) = selection.as_field() {
+        return ("field", field.response_key().as_str());
+    }
+    if let Some(spread) = selection.as_fragment_spread() {
+        return ("spread", spread.fragment_name.as_str());
+    }
+    match selection.as_inline_fragment() {
+        Some(fragment) => match &fragment.type_condition {
+            Some(condition) => ("fragment", condition.as_str()),
+            None => ("fragment", ""),
+        },
+        None => ("none", ""),
+    }
+}
+
+/// Whether there was memory for the selection, it is taken so, is at the location, and has so many
+/// directives.
+fn is_kind(made: Result<Selection, AllocError>, kind: &str, text: &str, directives: usize) -> bool {
+    match made {
+        Ok(selection) => {
+            kind_of(&selection) == (kind, text)
+                && selection.location() == Some(PLACE)
+                && selection.directives().len() == directives
+        }
+        Err(_) => false,
+    }
+}
+
+#[test]
+fn selections_answer_as_their_kind(rt: HostRuntime) {
+    let alloc = rt.alloc();
+    let field = field(alloc, Some(PLACE)).map(Selection::Field);
+    assert!(rt; is_kind(field, "field", "other", 0));
+    assert!(rt;
+        is_kind(
+            spread(alloc).map(Selection::FragmentSpread),
+            "spread",
+            "other",
+            0
+        )
+    );
+    assert!(rt; is_kind(selection(alloc, Some(PLACE)), "fragment", "T", 1));
 }
