@@ -1,3 +1,4 @@
+pub mod Entries
 pub mod Files
 pub mod Status
 pub mod Writing

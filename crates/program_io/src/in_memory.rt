@@ -1,5 +1,5 @@
 //! Files in memory.
-ghost use Rattle.std.specs.Prelude.{◌≡◌};
+ghost use Rattle.std.specs.Prelude.{◌≡◌, is_some};
 ghost use Rattle.std.specs.Option.{option_map};
 ghost use Rattle.program_io.specs.Files.{bytes_at};
 
@@ -25,6 +25,13 @@ impl FilesInMemory<'_> {
             }
         }
         None
+    }
+
+    /// Whether there is a file of this path.
+    pub(crate) fn has(&self, path: &str) -> bool
+        ensures { result ≡ is_some (bytes_at self.now.0.now path.now) }
+    {
+        self.find(path).is_some()
     }
 }
 

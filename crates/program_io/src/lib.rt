@@ -7,10 +7,13 @@
 
 pub mod file_error;
 pub mod files;
+pub mod folders;
+mod folders_in_memory;
 pub mod in_memory;
 pub mod input;
 pub mod status;
 pub mod system;
+mod system_folders;
 pub mod texts;
 pub mod with_input;
 pub mod writing;
