@@ -1,8 +1,10 @@
 //! What programs read and write, and how they end. They read files by their paths, and standard input, each
-//! as a whole. They write texts, to their end or in part.
+//! as a whole, and list folders. They write texts, to their end or in part, and replace files.
 //!
 //! Proved: a file is read whole, or refused for a cause; a text is written whole, or a beginning of it where
-//! the writer fails.
+//! the writer fails. Folders of files in memory have what the paths of the files say.
+//!
+//! No clause: what the system has in its files and folders, and what it does when a file is replaced.
 #![tactic(auto)]
 
 pub mod file_error;
@@ -11,9 +13,12 @@ pub mod folders;
 mod folders_in_memory;
 pub mod in_memory;
 pub mod input;
+pub mod replaced_in_memory;
+pub mod replacing;
 pub mod status;
 pub mod system;
 mod system_folders;
+mod system_replacing;
 pub mod texts;
 pub mod with_input;
 pub mod writing;
