@@ -1,10 +1,12 @@
 -- What texts have behind their beginnings.
 use Rattle.std.proofs.Common.{◌≡◌, ◌≢◌, ℕ, Bool, List, [], ◌∷◌, ◌++◌, Option, None, Some, refl, arith, sym, ap, ◌∙◌}
+use Rattle.std.proofs.Common.{true, false, if◌then◌else◌, nat_eq, string_bytes, subst}
+use Rattle.std.specs.Cmp.Lexicographic.{pointwise}
 use Rattle.std.proofs.Common.{Bor, drop, ◌||◌, option_map, MatchOption}
 use Rattle.std.specs.List.{list_any}
 use Rattle.std.specs.Str.Pattern.{FindsTextPrefix, StripsPrefix}
 use Rattle.program_io.specs.declared.folders.Entry.{Entry}
-use Rattle.program_io.specs.Entries.{named, named_entry, stripped}
+use Rattle.program_io.specs.Entries.{named, named_entry, stripped, with_name}
 
 -- a beginning is taken off
 pub stripped_of : (beginning text : List ℕ) → stripped beginning (beginning ++ text) ≡ Some text
@@ -50,4 +52,33 @@ pub named-push : (entries : List Entry) (entry : Entry)
 named-push [] entry = refl
 named-push (e ∷ entries) entry = ap (λ l. named_entry e ∷ l) (named-push entries entry)
 
-pub ruleset name_lemmas = (list_any-named, named-push)
+-- whether a name is among those of a folder
+among : (entries items : List Entry) (name : List ℕ) (there : Bool) → items ≡ entries
+    → there ≡ list_any (λ other. pointwise nat_eq (string_bytes other.name) name) items
+    → list_any (λ other. pointwise nat_eq other.0 name) (named entries) ≡ there
+among entries items name there same is = list_any-named (λ other. pointwise nat_eq other.0 name) entries
+    ∙ ap (λ l. list_any (λ other. pointwise nat_eq (string_bytes other.name) name) l) (sym same) ∙ sym is
+
+-- a name that is there changes nothing
+pub with_known : (entries items : List Entry) (name : List ℕ) (folder there : Bool)
+    (shown : Option (List ℕ × Bool)) → Some (name, folder) ≡ shown → items ≡ entries
+    → there ≡ list_any (λ other. pointwise nat_eq (string_bytes other.name) name) items → there ≡ true
+    → named entries ≡ with_name (named entries) shown
+with_known entries items name folder there shown e same is is_true =
+    subst (λ s. named entries ≡ with_name (named entries) s) e
+    (sym (ap (λ b. if b then named entries else named entries ++ (name, folder) ∷ [])
+    (among entries items name there same is ∙ is_true)))
+
+-- a name that isn't there comes last
+pub with_new : (entries items : List Entry) (entry : Entry) (name : List ℕ) (folder there : Bool)
+    (shown : Option (List ℕ × Bool)) → Some (name, folder) ≡ shown → items ≡ entries
+    → there ≡ list_any (λ other. pointwise nat_eq (string_bytes other.name) name) items → there ≡ false
+    → string_bytes entry.name ≡ name → entry.is_folder ≡ folder
+    → named (entries ++ entry ∷ []) ≡ with_name (named entries) shown
+with_new entries items entry name folder there shown e same is is_false names sorts =
+    subst (λ s. named (entries ++ entry ∷ []) ≡ with_name (named entries) s) e
+    (named-push entries entry
+    ∙ ap (λ n. named entries ++ (n, entry.is_folder) ∷ []) names
+    ∙ ap (λ f. named entries ++ (name, f) ∷ []) sorts
+    ∙ sym (ap (λ b. if b then named entries else named entries ++ (name, folder) ∷ [])
+    (among entries items name there same is ∙ is_false)))

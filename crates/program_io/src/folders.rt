@@ -34,10 +34,10 @@ pub trait Folders: Files {
     // This may stand at a path.
     ghost stands: { Self → List ℕ → PathKind → Type 0 };
 
-    // The folder of a path may have these in it, in this order: the name of each, and whether it is a folder.
+    // The folder of a prefix may have these in it, in this order: the name of each, and whether it is a folder.
     ghost lists: { Self → List ℕ → List (List ℕ × Bool) → Type 0 };
 
-    // Listing the folder of a path may fail.
+    // Listing the folder of a prefix may fail.
     ghost may_hide: { Self → List ℕ → Type 0 };
 
     /// What stands at this path. Links are followed. Where that can't be had it is `File`, so that reading it
@@ -45,12 +45,13 @@ pub trait Folders: Files {
     fn kind_at(&self, path: &str) -> PathKind
         ensures { stands self.now path.now result };
 
-    /// What stands in the folder of this path, in any order. The path of no name is the folder that the
-    /// program runs in. What has a name that is not UTF-8 is left out.
+    /// What stands in a folder, in any order. The paths of what stands in it begin with the prefix: it is the
+    /// folder's path with a slash behind it, or nothing for the folder that the program runs in. What has a
+    /// name that is not UTF-8 is left out.
     ///
     /// The error is `Memory` where memory ran out, and `CannotRead` where listing fails. There is no other
     /// error.
-    fn entries(&self, alloc: Global, path: &str) -> Result<Vec<Entry>, FileError>
-        ensures entries { IfOk result (λ entries. lists self.now path.now (named entries.items)) }
-        ensures causes { IfErr result (IsReadCause (may_hide self.now path.now)) };
+    fn entries(&self, alloc: Global, prefix: &str) -> Result<Vec<Entry>, FileError>
+        ensures entries { IfOk result (λ entries. lists self.now prefix.now (named entries.items)) }
+        ensures causes { IfErr result (IsReadCause (may_hide self.now prefix.now)) };
 }

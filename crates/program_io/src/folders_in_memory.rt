@@ -1,9 +1,10 @@
 //! The folders of files in memory.
-ghost use Rattle.std.specs.Prelude.{◌≡◌, OnOk, is_some, nat_eq, string_bytes};
+ghost use Rattle.std.specs.Prelude.{◌≡◌, OnOk, nat_eq, string_bytes};
 ghost use Rattle.std.specs.Prelude.{option_map};
 ghost use Rattle.std.specs.Cmp.Lexicographic.{pointwise};
 ghost use Rattle.std.specs.List.{list_any};
-ghost use Rattle.program_io.specs.Entries.{behind, first_name, named, shown_by, stripped, with_name};
+ghost use Rattle.program_io.specs.Entries.{first_name, is_below, named, shown_by, slash_between, stripped};
+ghost use Rattle.program_io.specs.Entries.{with_name};
 
 use crate::file_error::FileError;
 use crate::folders::{Entry, Folders, PathKind};
@@ -17,33 +18,44 @@ fn without_beginning<'p>(beginning: &str, text: &'p str) -> Option<&'p str>
     text.strip_prefix(beginning)
 }
 
-/// What a path has behind that of a folder and a slash. Behind the folder of no name it is the path itself.
-fn behind<'p>(folder: &str, path: &'p str) -> Option<&'p str>
-    ensures { option_map (λ rest. rest.now) result ≡ behind folder.now path.entry.now }
+/// Whether a slash is between two texts, at the end of the first or at the front of the second.
+fn slash_between(before: &str, behind: &str) -> bool
+    ensures { result ≡ slash_between before.now behind.now }
 {
-    if folder.is_empty() {
-        return Some(path);
-    }
-    match without_beginning(folder, path) {
-        Some(rest) => without_beginning("/", rest),
-        None => None,
+    let last = before.as_bytes().last().copied().unwrap_or(0);
+    let first = behind.as_bytes().first().copied().unwrap_or(0);
+    last == b'/' || first == b'/'
+}
+
+/// Whether a file is below the folder of this path, with a slash at its end or without one.
+fn is_below(folder: &str, file: &str) -> bool
+    ensures { result ≡ is_below folder.now file.now }
+{
+    match without_beginning(folder, file) {
+        Some(rest) => slash_between(folder, rest),
+        None => false,
     }
 }
 
-/// Whether a path is behind that of a folder.
-fn is_behind(folder: &str, path: &str) -> bool
-    ensures { result ≡ is_some (behind folder.now path.now) }
-{
-    behind(folder, path).is_some()
-}
-
-/// The name that a path behind that of a folder begins with, and whether it is that of a folder.
+/// The name that a path behind a prefix begins with, and whether it is that of a folder.
 fn first_name(path: &str) -> (&str, bool)
     ensures { (result.0.now, result.1) ≡ first_name path.entry.now }
 {
     match path.split_once('/') {
         Some((name, _)) => (name, true),
         None => (path, false),
+    }
+}
+
+/// What a file of this path says of the folder of a prefix: the name of what stands in it, and whether that is
+/// a folder.
+#[tactic(auto, unfolding(crate::specs::Entries::shown_by))]
+fn shown_by<'p>(prefix: &str, path: &'p str) -> Option<(&'p str, bool)>
+    ensures { option_map (λ name. (name.0.now, name.1)) result ≡ shown_by prefix.now path.entry.now }
+{
+    match without_beginning(prefix, path) {
+        Some(rest) => Some(first_name(rest)),
+        None => None,
     }
 }
 
@@ -55,21 +67,20 @@ fn is_among(entries: &[Entry], name: &str) -> bool
     entries.iter().any(|entry| entry.name.as_str() == name)
 }
 
-/// Adds what a file of this path says of a folder, if that isn't there yet. The error is out of memory.
-#[tactic(auto, using(crate::proofs::EntryLemmas::name_lemmas))]
+/// Adds what a file of this path says of the folder of a prefix, if that isn't there yet. The error is out of
+/// memory.
 fn add_entry(
     alloc: Global,
     entries: &mut Vec<Entry>,
-    folder: &str,
+    prefix: &str,
     path: &str,
 ) -> Result<(), AllocError>
     ensures { OnOk result (named entries.new.items
-        ≡ with_name (named entries.old.items) (shown_by folder.now path.now)) }
+        ≡ with_name (named entries.old.items) (shown_by prefix.now path.now)) }
 {
-    let Some(rest) = behind(folder, path) else {
+    let Some((name, is_folder)) = shown_by(prefix, path) else {
         return Ok(());
     };
-    let (name, is_folder) = first_name(rest);
     if is_among(entries.as_slice(), name) {
         return Ok(());
     }
@@ -78,11 +89,11 @@ fn add_entry(
     Ok(())
 }
 
-/// Whether one of these files is below a folder.
+/// Whether one of these files is below the folder of this path.
 fn has_below(files: &[(&str, &[u8])], folder: &str) -> bool
-    ensures { result ≡ list_any (λ file. is_some (behind folder.now file.0.now)) files.now }
+    ensures { result ≡ list_any (λ file. is_below folder.now file.0.now) files.now }
 {
-    files.iter().any(|file| is_behind(folder, file.0))
+    files.iter().any(|file| is_below(folder, file.0))
 }
 
 impl Folders for FilesInMemory<'_> {
@@ -91,7 +102,7 @@ impl Folders for FilesInMemory<'_> {
 
     ghost stands = { λ files path kind. kind ≡ kind_in files.0.now path };
 
-    ghost lists = { λ files path names. names ≡ names_in files.0.now path };
+    ghost lists = { λ files prefix names. names ≡ names_in files.0.now prefix };
 
     ghost may_hide = { λ _ _. ⊥ };
 
@@ -105,10 +116,10 @@ impl Folders for FilesInMemory<'_> {
         PathKind::Nothing
     }
 
-    fn entries(&self, alloc: Global, path: &str) -> Result<Vec<Entry>, FileError> {
+    fn entries(&self, alloc: Global, prefix: &str) -> Result<Vec<Entry>, FileError> {
         let mut entries = Vec::new(alloc);
         for file in self.0 {
-            if add_entry(alloc, &mut entries, path, file.0).is_err() {
+            if add_entry(alloc, &mut entries, prefix, file.0).is_err() {
                 return Err(FileError::Memory);
             }
         }

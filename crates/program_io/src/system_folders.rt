@@ -26,8 +26,8 @@ impl<R: fs::Files + AllocGlobal + Clone + Drop> Folders for SystemFiles<'_, R> {
         }
     }
 
-    fn entries(&self, alloc: Global, path: &str) -> Result<Vec<Entry>, FileError> {
-        let folder = if path.is_empty() { "." } else { path };
+    fn entries(&self, alloc: Global, prefix: &str) -> Result<Vec<Entry>, FileError> {
+        let folder = if prefix.is_empty() { "." } else { prefix };
         match system_entries(self.0, alloc, folder) {
             Ok(entries) => Ok(entries),
             Err(error) => Err(refusal(error)),
