@@ -1,2 +1,4 @@
 pub mod Patterns
 pub mod Rows
+pub mod Walks
+pub mod Wanted

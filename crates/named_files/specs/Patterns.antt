@@ -1,5 +1,5 @@
 -- Which paths a pattern matches.
-use Rattle.std.specs.Prelude.{◌==◌, ◌&&◌, ◌||◌, ℕ, Bool, false, List, [], ◌∷◌, codes, if◌then◌else◌, length, map}
+use Rattle.std.specs.Prelude.{true, ◌==◌, ◌&&◌, ◌||◌, ℕ, Bool, false, List, [], ◌∷◌, codes, if◌then◌else◌, length, map}
 use Rattle.std.specs.Prelude.{Vec, nat_eq}
 use Rattle.std.specs.declared.alloc.Global.{Global}
 use Rattle.std.specs.Cmp.Lexicographic.{pointwise}
@@ -26,7 +26,8 @@ one_and_others one others (x ∷ xs) = one x && others xs
 
 -- there is nothing
 abbrev pub nothing : {X : Type 0} → List X → Bool
-nothing xs = length xs == 0
+nothing [] = true
+nothing (x ∷ xs) = false
 
 -- the sign of a pattern stands for the character: `?` for any, and any other sign for itself
 abbrev pub sign_matches : ℕ → ℕ → Bool
@@ -51,6 +52,17 @@ parts_match (part ∷ more) = if is_any_parts part then some_end (parts_match mo
 -- the pattern matches the path
 abbrev pub matches : List ℕ → List ℕ → Bool
 matches pattern path = parts_match (parts pattern) (parts path)
+
+-- the parts of a pattern may match the parts of a path with more behind them
+abbrev pub parts_begin : List (List ℕ) → List (List ℕ) → Bool
+parts_begin [] there = false
+parts_begin (part ∷ more) [] = true
+parts_begin (part ∷ more) (first ∷ others) = if is_any_parts part then true
+    else part_matches part first && parts_begin more others
+
+-- the pattern may match a path below the folder of this one
+abbrev pub may_match_below : List ℕ → List ℕ → Bool
+may_match_below pattern folder = parts_begin (parts pattern) (parts folder)
 
 -- the sign stands for others than itself
 abbrev pub is_wild : ℕ → Bool

@@ -3,6 +3,9 @@
 //! Proved: which paths a pattern matches.
 #![tactic(auto)]
 
+pub mod found;
 pub mod laws;
 pub mod patterns;
+pub mod refusal;
 mod rows;
+pub mod wanted;

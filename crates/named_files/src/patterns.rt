@@ -3,10 +3,11 @@
 //! The parts of a pattern stand between its slashes, as those of a path do. In a part `*` stands for any
 //! characters, `?` for one character, and any other for itself. The part `**` stands for any parts, also for
 //! none.
-ghost use Rattle.std.specs.Prelude.{◌≡◌, ◌==◌, ◌-◌, IfOk, false, length, map, slice_index_or};
+ghost use Rattle.std.specs.Prelude.{◌≡◌, ◌==◌, ◌-◌, ℕ, List, ◌∷◌, ◌++◌, IfOk, false, length, map, slice_index_or};
 ghost use Rattle.std.specs.List.{slice_split};
 ghost use Rattle.std.specs.Str.{chars};
-ghost use Rattle.named_files.specs.Patterns.{is_any_parts, matches, may_be_pattern, part_matches, parts};
+ghost use Rattle.named_files.specs.Patterns.{is_any_parts, matches, may_be_pattern, may_match_below};
+ghost use Rattle.named_files.specs.Patterns.{part_matches, parts, parts_begin};
 ghost use Rattle.named_files.specs.Patterns.{parts_match, sign_matches, texts};
 ghost use Rattle.named_files.specs.Rows.{row_behind_part, row_behind_sign};
 
@@ -21,6 +22,18 @@ pub fn matches(alloc: Global, pattern: &str, path: &str) -> Result<bool, AllocEr
     let wanted = parts(alloc, pattern)?;
     let there = parts(alloc, path)?;
     parts_match(alloc, wanted.as_slice(), there.as_slice())
+}
+
+/// Whether a pattern may match a path below the folder of this one. Where it answers `false`, there is none. The
+/// error is out of memory.
+pub fn may_match_below(alloc: Global, pattern: &str, folder: &str) -> Result<bool, AllocError>
+    ensures may { IfOk result (λ answer. answer ≡ may_match_below pattern.now folder.now) }
+    ensures none { IfOk result (λ answer. answer ≡ false
+        → (rest : List ℕ) → matches pattern.now (folder.now ++ 47 ∷ rest) ≡ false) }
+{
+    let wanted = parts(alloc, pattern)?;
+    let there = parts(alloc, folder)?;
+    parts_begin(alloc, wanted.as_slice(), there.as_slice())
 }
 
 /// Whether a word may be a pattern: `*` or `?` stands in it.
@@ -68,6 +81,26 @@ fn parts_match(alloc: Global, wanted: &[Vec<char>], there: &[Vec<char>]) -> Resu
         row = row_behind_part(alloc, part.as_slice(), there, row.as_slice())?;
     }
     Ok(is_last_set(row.as_slice()))
+}
+
+/// Whether the parts of a pattern may match those of a path with more behind them. The error is out of memory.
+fn parts_begin(alloc: Global, wanted: &[Vec<char>], there: &[Vec<char>]) -> Result<bool, AllocError>
+    ensures { IfOk result (λ answer. answer ≡ parts_begin (texts wanted.now) (texts there.now)) }
+{
+    let mut left = wanted;
+    for text in there {
+        let Some((part, more)) = left.split_first() else {
+            return Ok(false);
+        };
+        if is_any_parts(part.as_slice()) {
+            return Ok(true);
+        }
+        if !part_matches(alloc, part.as_slice(), text.as_slice())? {
+            return Ok(false);
+        }
+        left = more;
+    }
+    Ok(!left.is_empty())
 }
 
 /// The row behind one more part of a pattern. The error is out of memory.
