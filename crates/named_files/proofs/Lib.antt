@@ -1,3 +1,4 @@
 pub mod BeginLemmas
 pub mod RowLemmas
 pub mod StepLemmas
+pub mod WalkLemmas

@@ -8,4 +8,5 @@ pub mod laws;
 pub mod patterns;
 pub mod refusal;
 mod rows;
+pub mod walks;
 pub mod wanted;
