@@ -1,5 +1,5 @@
 -- What is found, one after the other.
-use Rattle.std.proofs.Common.{◌≡◌, ◌≢◌, ◌⊎◌, inl, inr, ℕ, zero, suc, ◌+◌, ◌-◌, ◌<◌, Bool, List, [], ◌∷◌, ◌++◌, Option, None, Some, get_or, length, take, map, refl, sym, ap, subst, ◌∙◌, append_assoc, arith, string_bytes}
+use Rattle.std.proofs.Common.{◌≡◌, ◌≢◌, inl, inr, ℕ, suc, ◌+◌, ◌-◌, ◌<◌, Bool, List, [], ◌∷◌, ◌++◌, Option, Some, get_or, length, take, map, refl, sym, ap, subst, ◌∙◌, append_assoc, arith, string_bytes}
 use Rattle.std.proofs.lemmas.List.{append-nil, take_more}
 use Rattle.program_io.specs.declared.file_error.FileError.{FileError}
 use Rattle.named_files.specs.declared.found.Found.{Found}
@@ -12,7 +12,7 @@ use Rattle.program_io.specs.Files.{IsReadCause}
 use Rattle.program_io.specs.declared.file_error.FileError.TheVariants as errors
 use Rattle.program_io.specs.declared.folders.Entry.{Entry}
 use Rattle.named_files.specs.Wanted.{is_hidden}
-use Rattle.named_files.specs.Walks.{Adds, FindsAt, FindsBelow, FindsEach, FindsFile, FindsFolder, FindsNothing, FindsOne}
+use Rattle.named_files.specs.Walks.{Adds, FindsAt, FindsBelow, FindsEach, FindsFile, FindsOne}
 
 -- one that is added
 pub one-added : (old new : List Found) (one : Found) (path : List ℕ) (refusal : Option Refusal)
@@ -50,6 +50,18 @@ each-next Finds xs i x before held after below is was now = (
   ),
 )
 
+-- the same, where the next one is that at a place
+pub each-at : {A B : Type 0} (Finds : A → List B → Type 0) (xs : List A) (i : ℕ) (d : A)
+    (before held after : List B) → i < length xs → Adds (FindsEach Finds (take i xs)) before held
+    → Adds (Finds (get_or xs i d)) held after → Adds (FindsEach Finds (take (i + 1) xs)) before after
+each-at Finds xs i d before held after below was now = (
+  was.0 ++ now.0,
+  (
+    now.1.0 ∙ ap (λ l. l ++ now.0) was.1.0 ∙ append_assoc before was.0 now.0,
+    rw (take_more xs i d below) (each-more Finds _ _ was.0 now.0 was.1.1 now.1.1),
+  ),
+)
+
 -- for each of what things are made to
 pub each-map : {A B C : Type 0} (Finds : A → List B → Type 0) (f : C → A) (xs : List C) (found : List B)
     → FindsEach (λ x. Finds (f x)) xs found → FindsEach Finds (map f xs) found
@@ -68,7 +80,8 @@ pub ok-adds-then : {A T E : Type 0} (P Q : List A → Type 0) (r : Result T E) (
 ok-adds-then P Q (Ok x) old new more is = adds-then P Q old new more is
 ok-adds-then P Q (Err e) old new more is = tt
 
-match_true : (b : Bool) (P Q : Type 0) → b ≡ true → P → MatchBool b P Q
+-- what a flag that is set decides
+pub match_true : (b : Bool) (P Q : Type 0) → b ≡ true → P → MatchBool b P Q
 match_true true P Q e p = p
 match_true false P Q e p = cc
 

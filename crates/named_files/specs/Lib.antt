@@ -1,4 +1,6 @@
+pub mod Naming
 pub mod Patterns
 pub mod Rows
+pub mod Seen
 pub mod Walks
 pub mod Wanted

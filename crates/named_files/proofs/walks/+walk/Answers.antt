@@ -1,4 +1,4 @@
-use Rattle.std.proofs.Common.{ap, sym, ◌∙◌, ◌++◌, string_bytes, arith, ◌≢◌}
+use Rattle.std.proofs.Common.{ap, sym, ◌∙◌, ◌++◌}
 use Rattle.program_io.specs.Entries.{named_entry}
 use Rattle.named_files.specs.Wanted.{enters, is_hidden, takes}
 use Rattle.named_files.specs.Walks.{FindsBelow}
