@@ -1,3 +1,4 @@
+pub mod CommentLemmas
 mod AloneLemmas
 mod CutLemmas
 mod EndLemmas

@@ -1,5 +1,6 @@
 pub mod BlockStringValues
 pub mod Bytes
+pub mod Comments
 pub mod First
 pub mod Ignored
 pub mod Lexemes

@@ -91,6 +91,14 @@ impl Piece for Ignorable {
     }
 }
 
+/// How many bytes of a blank, a byte order mark or a comment stand at the front.
+pub(crate) fn one_ignored(text: &[u8]) -> usize
+    ensures same { result ≡ one_ignored text.now }
+    ensures within { result ≤ length text.now }
+{
+    Ignorable::size(text)
+}
+
 /// How many bytes at the front say nothing.
 pub(crate) fn ignored(text: &[u8]) -> usize
     ensures same { result ≡ ignored text.now }

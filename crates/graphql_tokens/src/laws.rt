@@ -1,6 +1,8 @@
 //! Laws of tokens and of errors.
 ghost use Rattle.graphql_nodes.specs.Clones.{IsExact};
 ghost use Rattle.graphql_nodes.specs.Comparing.{ComparesBy};
+ghost use Rattle.std.specs.Prelude.{◌≡◌, [], codes, false, true};
+ghost use Rattle.graphql_tokens.specs.Comments.{has_comment};
 ghost use Rattle.graphql_tokens.specs.WholeTexts.{TextsAreMadeOfTokens};
 
 use crate::token::{Token, TokenError, TokenErrorKind, TokenKind};
@@ -28,4 +30,16 @@ pub fn clones_are_exact()
 /// byte at least, and all before, between and behind them says nothing.
 pub fn tokens_make_up_the_text()
     ensures { TextsAreMadeOfTokens }
+{}
+
+/// Texts with a comment, and texts without one.
+pub fn worked_comments()
+    ensures alone { has_comment (codes "# all of it") ≡ true }
+    ensures behind { has_comment (codes "type A { a: Int # why") ≡ true }
+    ensures between { has_comment (codes "{ a,#\nb }") ≡ true }
+    ensures in_string { has_comment (codes "{ a(b: \"#\") }") ≡ false }
+    ensures in_block_string { has_comment (codes "\"\"\"#\"\"\" type A") ≡ false }
+    ensures none { has_comment (codes "{ a, b }") ≡ false }
+    ensures empty { has_comment [] ≡ false }
+    ensures behind_a_fault { has_comment (codes "~ # not seen") ≡ false }
 {}

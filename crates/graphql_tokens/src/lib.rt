@@ -5,6 +5,7 @@
 //! wrong is reported. Strings have the values that their tokens say.
 #![tactic(auto)]
 
+pub mod comments;
 mod escapes;
 pub mod first;
 mod ignored;
