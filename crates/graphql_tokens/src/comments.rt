@@ -20,8 +20,8 @@ pub fn has_comment(text: &str) -> bool
     false
 }
 
-/// How many bytes has what stands at the front, where that is no comment. The error is whether it is one; else
-/// no token stands there.
+/// How many bytes has what stands at the front, where that is no comment. The error is whether it is one;
+/// else no token stands there.
 fn passed(text: &[u8]) -> Result<usize, bool>
     requires { 0 < length text.now }
     ensures { Passes text.now result }
