@@ -21,7 +21,8 @@ some_part : (p : ℕ → Bool) (xs : List ℕ) → length (slice_split p xs) ≢
 some_part p xs e = let l = length-slice_split p xs in absurd (omega (arith, e, l))
 
 cut_or_put : (cuts : Bool) (x : ℕ) (one two : List (List ℕ)) → length one ≢ 0
-    → cond cuts ([] ∷ (one ++ two)) (onto_first x (one ++ two)) ≡ cond cuts ([] ∷ one) (onto_first x one) ++ two
+    → cond cuts ([] ∷ (one ++ two)) (onto_first x (one ++ two))
+    ≡ cond cuts ([] ∷ one) (onto_first x one) ++ two
 cut_or_put true x one two some = refl
 cut_or_put false x one two some = onto_front x one two some
 
@@ -35,7 +36,8 @@ split_joined p (x ∷ xs) y ys cuts =
 
 -- where a part stands for any and does not begin, or for one that does not pass, nothing passes
 step : {X : Type 0} (any one begins : Bool) (some_of one_of : List X → Bool) (xs : List X) (rest : Bool)
-    → (if any then true else one && begins) ≡ false → one_of xs ≡ (one && rest) → (begins ≡ false → rest ≡ false)
+    → (if any then true else one && begins) ≡ false → one_of xs ≡ (one && rest)
+    → (begins ≡ false → rest ≡ false)
     → (if any then some_of else one_of) xs ≡ false
 step true one begins some_of one_of xs rest e is more = cc
 step false true begins some_of one_of xs rest e is more = is ∙ more e
@@ -61,7 +63,8 @@ length-texts (text ∷ texts) some = λ e. absurd (omega (arith, e))
 pub none-below : (pattern folder : List ℕ) (answer : Bool) → answer ≡ may_match_below pattern folder
     → answer ≡ false → (rest : List ℕ) → matches pattern (folder ++ 47 ∷ rest) ≡ false
 none-below pattern folder answer is e rest =
-    ap (λ l. parts_match (parts pattern) (map chars l)) (split_joined (λ byte. byte == 47) folder 47 rest refl)
+    ap (λ l. parts_match (parts pattern) (map chars l))
+    (split_joined (λ byte. byte == 47) folder 47 rest refl)
     ∙ ap (parts_match (parts pattern))
     (map-append chars (slice_split (λ byte. byte == 47) folder) (slice_split (λ byte. byte == 47) rest))
     ∙ none-parts (parts pattern) (parts folder) (parts rest)

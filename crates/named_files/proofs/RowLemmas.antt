@@ -57,12 +57,14 @@ set_here true later rest = refl
 set_here false true rest = refl
 set_here false false rest = refl
 
-set_before : (here later rest : Bool) → (here || ((true && later) || rest)) ≡ ((here || later) || (false || rest))
+set_before : (here later rest : Bool)
+    → (here || ((true && later) || rest)) ≡ ((here || later) || (false || rest))
 set_before true later rest = refl
 set_before false true rest = refl
 set_before false false rest = refl
 
-set_only_here : (here later rest : Bool) → (here || ((true && later) || rest)) ≡ (false || ((here || later) || rest))
+set_only_here : (here later rest : Bool)
+    → (here || ((true && later) || rest)) ≡ (false || ((here || later) || rest))
 set_only_here true later rest = refl
 set_only_here false true rest = refl
 set_only_here false false rest = refl
@@ -135,5 +137,7 @@ reaches-nothing (true ∷ []) [] long = refl
 reaches-nothing (false ∷ []) [] long = refl
 reaches-nothing (here ∷ (next ∷ row)) [] long = absurd (omega arith)
 reaches-nothing (here ∷ []) (x ∷ xs) long = absurd (omega arith)
-reaches-nothing (true ∷ (next ∷ row)) (x ∷ xs) long = grind (arith, reaches-nothing (next ∷ row) xs (omega arith))
-reaches-nothing (false ∷ (next ∷ row)) (x ∷ xs) long = grind (arith, reaches-nothing (next ∷ row) xs (omega arith))
+reaches-nothing (true ∷ (next ∷ row)) (x ∷ xs) long
+    = grind (arith, reaches-nothing (next ∷ row) xs (omega arith))
+reaches-nothing (false ∷ (next ∷ row)) (x ∷ xs) long
+    = grind (arith, reaches-nothing (next ∷ row) xs (omega arith))

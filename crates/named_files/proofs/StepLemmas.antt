@@ -39,7 +39,8 @@ sign_step signs part i sign row behind whole within is long reached made = (
 
 -- one more part
 pub part_step : (wanted : List (Vec ℕ Global)) (there : List (List ℕ)) (i : ℕ) (part : Vec ℕ Global)
-    (row behind : List Bool) (whole : Bool) → i < length wanted → part ≡ get_or wanted i part → IsFor there row
+    (row behind : List Bool) (whole : Bool) → i < length wanted → part ≡ get_or wanted i part
+    → IsFor there row
     → reaches (parts_match (texts (drop i wanted))) row there ≡ whole
     → behind ≡ row_behind_part part.items there row
     → IsFor there behind × (reaches (parts_match (texts (drop (i + 1) wanted))) behind there ≡ whole)

@@ -25,12 +25,14 @@ pub none-added : {A : Type 0} (old : List A) → Adds (λ found. found ≡ []) o
 none-added old = ([], (sym (append-nil old), refl))
 
 -- for each of nothing nothing is added
-pub each-none : {A B : Type 0} (Finds : A → List B → Type 0) (old : List B) → Adds (FindsEach Finds []) old old
+pub each-none : {A B : Type 0} (Finds : A → List B → Type 0) (old : List B)
+    → Adds (FindsEach Finds []) old old
 each-none Finds old = none-added old
 
 each-more : {A B : Type 0} (Finds : A → List B → Type 0) (xs : List A) (x : A) (found more : List B)
     → FindsEach Finds xs found → Finds x more → FindsEach Finds (xs ++ x ∷ []) (found ++ more)
-each-more Finds [] x found more are is = (more, ([], (ap (λ l. l ++ more) are ∙ sym (append-nil more), (is, refl))))
+each-more Finds [] x found more are is =
+    (more, ([], (ap (λ l. l ++ more) are ∙ sym (append-nil more), (is, refl))))
 each-more Finds (first ∷ xs) x found more are is =
     let rest = each-more Finds xs x are.1.0 more are.1.1.1.1 is in
     let all = ap (λ l. l ++ more) are.1.1.0 ∙ append_assoc are.0 are.1.0 more in
@@ -70,7 +72,8 @@ each-map Finds f (x ∷ xs) found are =
     (are.0, (are.1.0, (are.1.1.0, (are.1.1.1.0, each-map Finds f xs are.1.0 are.1.1.1.1))))
 
 -- what is added of which one holds, where that gives the other
-pub adds-then : {A : Type 0} (P Q : List A → Type 0) (old new : List A) → ((added : List A) → P added → Q added)
+pub adds-then : {A : Type 0} (P Q : List A → Type 0) (old new : List A)
+    → ((added : List A) → P added → Q added)
     → Adds P old new → Adds Q old new
 adds-then P Q old new more is = (is.0, (is.1.0, more is.0 is.1.1))
 
@@ -93,12 +96,14 @@ match_false false P Q e q = q
 module _ (takes enters : List ℕ → Bool) (below : List ℕ → List Found → Type 0) (prefix : List ℕ)
     (name : List ℕ × Bool) where
   -- a hidden name
-  pub at-hidden : (old : List Found) → is_hidden name.0 ≡ true → Adds (FindsAt takes enters below prefix name) old old
+  pub at-hidden : (old : List Found) → is_hidden name.0 ≡ true
+      → Adds (FindsAt takes enters below prefix name) old old
   at-hidden old hidden = ([], (sym (append-nil old), match_true (is_hidden name.0) _ _ hidden refl))
 
   -- a file
   pub at-file : (path : List ℕ) (found : List Found) → is_hidden name.0 ≡ false → name.1 ≡ false
-      → path ≡ prefix ++ name.0 → FindsFile (takes path) path found → FindsAt takes enters below prefix name found
+      → path ≡ prefix ++ name.0 → FindsFile (takes path) path found
+      → FindsAt takes enters below prefix name found
   at-file path found hidden sort is finds =
       match_false (is_hidden name.0) _ _ hidden
       (match_false name.1 _ _ sort (subst (λ p. FindsFile (takes p) p found) is finds))
@@ -117,7 +122,8 @@ module _ (takes enters : List ℕ → Bool) (below : List ℕ → List Found →
   )
 
 -- why a folder can't be listed, where that is not that memory ran out
-cannot : (may_fail : Type 0) (error : FileError) → IsReadCause may_fail error → error ≢ errors.Memory → may_fail
+cannot : (may_fail : Type 0) (error : FileError) → IsReadCause may_fail error → error ≢ errors.Memory
+    → may_fail
 cannot may_fail (errors.CannotRead why) cause other = cause
 cannot may_fail errors.NotText cause other = absurd cause
 cannot may_fail errors.Memory cause other = absurd (other refl)
@@ -128,7 +134,8 @@ module _ (takes enters : List ℕ → Bool) (lists : List ℕ → List (List ℕ
   -- where it is listed
   pub below-listed : (entries items : List Entry) (i : ℕ) → depth ≢ 0 → lists prefix (named entries)
       → items ≡ entries → length items ≤ i
-      → Adds (FindsEach (λ entry. FindsAt takes enters (FindsBelow takes enters lists may_hide (depth - 1)) prefix
+      → Adds (FindsEach (λ entry. FindsAt takes enters
+      (FindsBelow takes enters lists may_hide (depth - 1)) prefix
       (named_entry entry)) (take i items)) old new
       → Adds (FindsBelow takes enters lists may_hide depth prefix) old new
   below-listed entries items i deep listed same past are =
@@ -141,7 +148,8 @@ module _ (takes enters : List ℕ → Bool) (lists : List ℕ → List (List ℕ
           listed,
           each-map _ named_entry entries added
               (subst (λ l. FindsEach (λ entry finds. FindsAt takes enters
-              (FindsBelow takes enters lists may_hide (depth - 1)) prefix (named_entry entry) finds) l added) whole each),
+              (FindsBelow takes enters lists may_hide (depth - 1)) prefix (named_entry entry) finds) l
+              added) whole each),
         ),
       )) are)
 

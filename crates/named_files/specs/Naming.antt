@@ -17,8 +17,8 @@ use Rattle.named_files.specs.declared.found.Found.{Found}
 use Rattle.named_files.specs.declared.naming.NamedFiles.{NamedFiles}
 use Rattle.named_files.specs.declared.refusal.Refusal.TheVariants as refusals
 
--- In all of this `stands` says what may stand at a path, `lists` what may stand in the folder of a prefix, and
--- `may_hide` whether listing it may fail.
+-- In all of this `stands` says what may stand at a path, `lists` what may stand in the folder of a prefix,
+-- and `may_hide` whether listing it may fail.
 
 -- so deep folders may nest below one that is named
 abbrev pub most_nested : ℕ

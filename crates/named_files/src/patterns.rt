@@ -24,8 +24,8 @@ pub fn matches(alloc: Global, pattern: &str, path: &str) -> Result<bool, AllocEr
     parts_match(alloc, wanted.as_slice(), there.as_slice())
 }
 
-/// Whether a pattern may match a path below the folder of this one. Where it answers `false`, there is none. The
-/// error is out of memory.
+/// Whether a pattern may match a path below the folder of this one. Where it answers `false`, there is none.
+/// The error is out of memory.
 pub fn may_match_below(alloc: Global, pattern: &str, folder: &str) -> Result<bool, AllocError>
     ensures may { IfOk result (λ answer. answer ≡ may_match_below pattern.now folder.now) }
     ensures none { IfOk result (λ answer. answer ≡ false
@@ -83,7 +83,8 @@ fn parts_match(alloc: Global, wanted: &[Vec<char>], there: &[Vec<char>]) -> Resu
     Ok(is_last_set(row.as_slice()))
 }
 
-/// Whether the parts of a pattern may match those of a path with more behind them. The error is out of memory.
+/// Whether the parts of a pattern may match those of a path with more behind them. The error is out of
+/// memory.
 fn parts_begin(alloc: Global, wanted: &[Vec<char>], there: &[Vec<char>]) -> Result<bool, AllocError>
     ensures { IfOk result (λ answer. answer ≡ parts_begin (texts wanted.now) (texts there.now)) }
 {

@@ -24,8 +24,8 @@ fn ends_with_slash(path: &str) -> bool
     path.as_bytes().last().copied().unwrap_or(0) == b'/'
 }
 
-/// The prefix of the folder below which a pattern may match: what it has before the first sign that stands for
-/// others, up to the last slash in that. The error is out of memory.
+/// The prefix of the folder below which a pattern may match: what it has before the first sign that stands
+/// for others, up to the last slash in that. The error is out of memory.
 pub(crate) fn base(alloc: Global, pattern: &str) -> Result<String, AllocError>
     ensures { IfOk result (λ base. IsBase pattern.now (string_bytes base)) }
 {

@@ -26,8 +26,8 @@ pub(crate) fn add_below<F: Folders>(
     found: &mut Vec<Found>,
 ) -> Result<(), AllocError>
     ensures { OnOk result (Adds
-        (FindsBelow (takes wanted.now) (enters wanted.now) (F.lists folders.now) (F.may_hide folders.now) depth
-        prefix.now) found.old.items found.new.items) }
+        (FindsBelow (takes wanted.now) (enters wanted.now) (F.lists folders.now) (F.may_hide folders.now)
+        depth prefix.now) found.old.items found.new.items) }
 {
     if depth == 0 {
         return add_one(alloc, prefix, Some(Refusal::TooDeep), found);
@@ -77,7 +77,8 @@ fn add_entry<F: Folders>(
 ) -> Result<(), AllocError>
     ensures { OnOk result (Adds
         (FindsAt (takes wanted.now) (enters wanted.now)
-        (FindsBelow (takes wanted.now) (enters wanted.now) (F.lists folders.now) (F.may_hide folders.now) depth)
+        (FindsBelow (takes wanted.now) (enters wanted.now) (F.lists folders.now) (F.may_hide folders.now)
+        depth)
         prefix.now (named_entry entry.now)) found.old.items found.new.items) }
 {
     let name = entry.name.as_str();

@@ -37,7 +37,8 @@ pub from_strip_prefix : (beginning text : List ℕ) (r : Option (Bor (List ℕ))
     → option_map (λ x. x.now) r ≡ stripped beginning text
 from_strip_prefix beginning text None lacks = sym (not_stripped beginning text lacks)
 from_strip_prefix beginning text (Some x) found = sym (
-    ap (λ l. stripped beginning l) found.1.1 ∙ stripped_of beginning (drop found.0 text) ∙ ap Some (sym found.2)
+    ap (λ l. stripped beginning l) found.1.1 ∙ stripped_of beginning (drop found.0 text)
+    ∙ ap Some (sym found.2)
     )
 
 -- a test of names is one of what has the names

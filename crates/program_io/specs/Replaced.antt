@@ -3,8 +3,8 @@ use Rattle.std.specs.Prelude.{◌≡◌, ℕ, List, [], ◌∷◌, ◌++◌, Opt
 use Rattle.std.specs.declared.alloc.Global.{Global}
 use Rattle.std.specs.Prelude.{String}
 
--- In all of this `old` is what was replaced before, each path with its text, and `new` what is now, if that is
--- known.
+-- In all of this `old` is what was replaced before, each path with its text, and `new` what is now, if that
+-- is known.
 
 -- the file of this path was replaced by this text
 abbrev pub Replaces : List ℕ → List ℕ → Option (List (List ℕ × List ℕ)) → Option (List (List ℕ × List ℕ))

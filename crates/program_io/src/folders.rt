@@ -9,7 +9,7 @@ use std::alloc::Global;
 pub enum PathKind {
     /// Nothing.
     Nothing,
-    /// A file, or what is read as one: whatever is no folder. What keeps it from being read is not asked here.
+    /// A file, or what is read as one: whatever is no folder. What keeps it from being read isn't asked here.
     File,
     /// A folder, or a link to one.
     Folder,
@@ -34,7 +34,8 @@ pub trait Folders: Files {
     // This may stand at a path.
     ghost stands: { Self → List ℕ → PathKind → Type 0 };
 
-    // The folder of a prefix may have these in it, in this order: the name of each, and whether it is a folder.
+    // The folder of a prefix may have these in it, in this order: the name of each, and whether it is a
+    // folder.
     ghost lists: { Self → List ℕ → List (List ℕ × Bool) → Type 0 };
 
     // Listing the folder of a prefix may fail.

@@ -47,8 +47,8 @@ fn first_name(path: &str) -> (&str, bool)
     }
 }
 
-/// What a file of this path says of the folder of a prefix: the name of what stands in it, and whether that is
-/// a folder.
+/// What a file of this path says of the folder of a prefix: the name of what stands in it, and whether that
+/// is a folder.
 #[tactic(auto, unfolding(crate::specs::Entries::shown_by))]
 fn shown_by<'p>(prefix: &str, path: &'p str) -> Option<(&'p str, bool)>
     ensures { option_map (λ name. (name.0.now, name.1)) result ≡ shown_by prefix.now path.entry.now }

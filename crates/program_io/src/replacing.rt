@@ -8,8 +8,8 @@ pub trait Replacing {
     ghost use Rattle.std.specs.Prelude.{ℕ, List, Option, OnErr, OnOk};
     ghost use Rattle.program_io.specs.Replaced.{Replaces, ReplacesNothing};
 
-    // The paths of the files that were replaced, each with its new text, in the order of the calls; or nothing
-    // where that isn't known.
+    // The paths of the files that were replaced, each with its new text, in the order of the calls; or
+    // nothing where that isn't known.
     ghost replaced: { Self → Option (List (List ℕ × List ℕ)) };
 
     /// Puts this text in place of that of the file of this path, which is there. Links are followed, and the

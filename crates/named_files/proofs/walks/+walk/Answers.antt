@@ -26,26 +26,30 @@ add_below-returns-in-Err g t c = ok-both c.add_unlisted.result
 
 pub add_entry-returns-then-is_hidden : goal.add_entry-returns-then-is_hidden
 add_entry-returns-then-is_hidden g t c =
-    at-hidden (takes c.args.wanted.now) (enters c.args.wanted.now) (FindsBelow (takes c.args.wanted.now) (enters c.args.wanted.now)
-    (g.F.Folders.lists c.args.folders.now) (g.F.Folders.may_hide c.args.folders.now) c.args.depth) c.args.prefix.now
-    (named_entry c.args.entry.now) c.args.found.now.items
+    at-hidden (takes c.args.wanted.now) (enters c.args.wanted.now)
+    (FindsBelow (takes c.args.wanted.now) (enters c.args.wanted.now)
+    (g.F.Folders.lists c.args.folders.now) (g.F.Folders.may_hide c.args.folders.now) c.args.depth)
+    c.args.prefix.now (named_entry c.args.entry.now) c.args.found.now.items
     (ap is_hidden (sym c.as_str-name.ensures.value) ∙ sym c.is_hidden.ensures ∙ c.if-is_hidden.true)
 
 pub add_entry-returns-then-not-entry : goal.add_entry-returns-then-not-entry
 add_entry-returns-then-not-entry g t c =
     ok-adds-then _ _ c.add_file.result c.args.found.now.items c.add_file.new.found.items
-    (λ added finds. at-file (takes c.args.wanted.now) (enters c.args.wanted.now) (FindsBelow (takes c.args.wanted.now) (enters c.args.wanted.now)
-    (g.F.Folders.lists c.args.folders.now) (g.F.Folders.may_hide c.args.folders.now) c.args.depth) c.args.prefix.now
-    (named_entry c.args.entry.now) c.as_str.result.now added
+    (λ added finds. at-file (takes c.args.wanted.now) (enters c.args.wanted.now)
+    (FindsBelow (takes c.args.wanted.now) (enters c.args.wanted.now)
+    (g.F.Folders.lists c.args.folders.now) (g.F.Folders.may_hide c.args.folders.now) c.args.depth)
+    c.args.prefix.now (named_entry c.args.entry.now) c.as_str.result.now added
     (ap is_hidden (sym c.as_str-name.ensures.value) ∙ sym c.is_hidden.ensures ∙ c.if-is_hidden.false)
     c.if-not-entry.true (c.as_str.ensures.value ∙ c.in_ok-path.ensures
     ∙ ap (λ n. c.args.prefix.now ++ n) c.as_str-name.ensures.value) finds) c.add_file.ensures
 
 pub add_entry-returns-then-not-branch : goal.add_entry-returns-then-not-branch
 add_entry-returns-then-not-branch g t c =
-    at-unentered (takes c.args.wanted.now) (enters c.args.wanted.now) (FindsBelow (takes c.args.wanted.now) (enters c.args.wanted.now)
-    (g.F.Folders.lists c.args.folders.now) (g.F.Folders.may_hide c.args.folders.now) c.args.depth) c.args.prefix.now
-    (named_entry c.args.entry.now) c.args.found.now.items c.as_str-2.result.now c.in_ok-enters.field-0
+    at-unentered (takes c.args.wanted.now) (enters c.args.wanted.now)
+    (FindsBelow (takes c.args.wanted.now) (enters c.args.wanted.now)
+    (g.F.Folders.lists c.args.folders.now) (g.F.Folders.may_hide c.args.folders.now) c.args.depth)
+    c.args.prefix.now (named_entry c.args.entry.now) c.args.found.now.items c.as_str-2.result.now
+    c.in_ok-enters.field-0
     (ap is_hidden (sym c.as_str-name.ensures.value) ∙ sym c.is_hidden.ensures ∙ c.if-is_hidden.false)
     c.if-not-entry.false (c.as_str-2.ensures.value ∙ c.in_ok-path.ensures
     ∙ ap (λ n. c.args.prefix.now ++ n) c.as_str-name.ensures.value) c.in_ok-enters.ensures

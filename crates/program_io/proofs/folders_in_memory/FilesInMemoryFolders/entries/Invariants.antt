@@ -4,4 +4,5 @@ use Rattle.program_io.proofs.folders_in_memory.FilesInMemoryFolders.entries.Give
 
 abbrev pub invariant-loop-file : goal.invariant-loop-file
 invariant-loop-file l =
-    with_names l.prefix (drop l.file-index l.self.0.now) (named l.entries.items) ≡ names_in l.self.0.now l.prefix
+    with_names l.prefix (drop l.file-index l.self.0.now) (named l.entries.items)
+    ≡ names_in l.self.0.now l.prefix
