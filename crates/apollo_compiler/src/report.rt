@@ -4,6 +4,6 @@
 pub use apollo_reporting::report::{FaultReport, report, report_text};
 pub use apollo_reporting::{
     About, Detail, DetailValue, Earlier, FaultCount, Reported, SourceLines, Sources, faults_line,
-    to_json,
+    push_report, reports_text, to_json,
 };
 pub use graphql_nodes::visible_text::{VisibleText, visible};

@@ -2,4 +2,5 @@ mod Boundaries
 mod JsonLemmas
 mod SaidLemmas
 mod SourceLemmas
+mod SpacedLemmas
 mod VisibleLemmas

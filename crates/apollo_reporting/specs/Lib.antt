@@ -10,6 +10,7 @@ pub mod Reports
 pub mod Said
 pub mod SchemaFaults
 pub mod SourceLines
+pub mod SpacedReports
 pub mod TextErrors
 pub mod Windows
 pub mod WorkedExcerpts

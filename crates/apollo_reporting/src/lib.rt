@@ -3,7 +3,8 @@
 //! own: see [`Reported`].
 //!
 //! Proved: a report is exactly its sentence, place, marked line or a part of it, path and earlier place,
-//! without control characters but tab. Its JSON is one object with these.
+//! without control characters but tab. Its JSON is one object with these. A text of several reports has an
+//! empty line behind each.
 #![tactic(auto)]
 
 pub mod about;
@@ -21,6 +22,7 @@ pub mod reported;
 pub mod schema_faults;
 pub mod source_lines;
 pub mod sources;
+pub mod spaced_reports;
 mod span_writing;
 pub mod text_errors;
 mod visible_value;
@@ -34,3 +36,4 @@ pub use crate::fault_json::to_json;
 pub use crate::reported::Reported;
 pub use crate::source_lines::SourceLines;
 pub use crate::sources::Sources;
+pub use crate::spaced_reports::{push_report, reports_text};
