@@ -40,6 +40,13 @@ class Block(NamedTuple):
 PAGES = [
     Page("compiling", "Documents compiled in one call", "apollo_compiler"),
     Page(
+        "files",
+        "Files, and what is loaded of them",
+        "program_io apollo_compiler::file_refusal apollo_compiler::loading apollo_compiler::loaded_schema"
+        " apollo_compiler::loaded_document apollo_compiler::loaded_reports",
+        "apollo_compiler::files",
+    ),
+    Page(
         "text", "GraphQL text: parsing and printing", "graphql_text graphql_printing", "apollo_compiler::text"
     ),
     Page("schema", "Schemas", "apollo_schema", "apollo_schema::schema"),

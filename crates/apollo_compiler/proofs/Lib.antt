@@ -1,3 +1,4 @@
 mod HeadlineLemmas
 mod KeptLemmas
 mod ListLemmas
+mod LoadingLemmas

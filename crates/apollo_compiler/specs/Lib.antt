@@ -1,4 +1,9 @@
 pub mod Compilation
+pub mod FileRefusals
 pub mod Headline
 pub mod Lists
+pub mod LoadedReports
+pub mod LoadedSchemas
+pub mod LoadedTyped
+pub mod Loading
 pub mod SourceFiles

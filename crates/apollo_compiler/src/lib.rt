@@ -1,8 +1,10 @@
 //! Documents compiled in one call: the schema of documents of the type system, its write-out built again, and
-//! the typed document of executable ones. GraphQL specification of October 2021, sections 2.2 to 2.8 and 3.
+//! the typed document of executable ones. Schemas and typed documents of files. GraphQL specification of
+//! October 2021, sections 2.2 to 2.8 and 3.
 //!
 //! Proved: one call answers the schema, its write-out, that built again, the typed document, that as syntax,
-//! and all faults.
+//! and all faults. A schema or a typed document of files is that of the texts that these may hold. Each file
+//! that can't be read or is no document is among the refusals, with its cause, and then nothing is built.
 //!
 //! Not proved: that the Rust crate answers the same.
 //!
@@ -19,8 +21,15 @@ pub mod compiling;
 pub mod document_building;
 pub mod executable;
 pub mod executable_options;
+mod file_refusal;
+pub mod files;
 pub mod laws;
+pub mod loaded_document;
+mod loaded_reports;
+pub mod loaded_schema;
+pub mod loading;
 mod prepared;
+mod reading;
 mod rebuilding;
 pub mod report;
 pub mod source_files;
@@ -33,6 +42,9 @@ pub use crate::compiled::Compiled;
 pub use crate::compiling::{compile, compile_with_keys};
 pub use crate::document_building::build_executable_document;
 pub use crate::executable_options::ExecutableOptions;
+pub use crate::loaded_document::{LoadedDocument, load_document};
+pub use crate::loaded_schema::{LoadedSchema, load_schema};
+pub use crate::loading::{LoadedDocuments, load_documents};
 pub use apollo_coordinate as coordinate;
 pub use apollo_executable::document::ExecutableDocument;
 pub use apollo_field_usage as usage;
