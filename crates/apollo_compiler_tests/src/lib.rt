@@ -6,4 +6,6 @@
 #[cfg(test)]
 mod compilation;
 #[cfg(test)]
+mod loading;
+#[cfg(test)]
 mod reporting;

@@ -14,6 +14,7 @@ use apollo_reporting::detail::Detail;
 use apollo_reporting::fault_json::to_json;
 use apollo_reporting::report::{report, report_text};
 use apollo_reporting::reported::Reported;
+use apollo_reporting::spaced_reports::reports_text;
 use std::alloc::{AllocError, Global};
 use std::fmt;
 
@@ -100,4 +101,17 @@ fn a_fault_of_ones_own_is_reported(rt: HostRuntime) {
     let object =
         r#"{"kind":"TooWide","message":"301 fields are too many","file":"wide.graphql","line":1,"column":6,"end_line":1,"end_column":7,"path":null,"fields":"301"}"#;
     assert_eq!(rt; json.as_str(), object);
+}
+
+#[test]
+fn reports_in_one_text_stand_apart(rt: HostRuntime) {
+    let alloc = rt.alloc();
+    let sources = sources_of(alloc, "wide.graphql", "type A").expect(&rt, "memory");
+    let faults = [
+        (None, TooWide { fields: 301 }),
+        (None, TooWide { fields: 302 }),
+    ];
+    let text = reports_text(alloc, &sources, &faults).expect(&rt, "memory");
+    let wanted = "error: 301 fields are too many\n\nerror: 302 fields are too many\n\n";
+    assert_eq!(rt; text.as_str(), wanted);
 }
