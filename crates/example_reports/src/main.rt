@@ -53,11 +53,17 @@ impl Reported for SmallName<'_> {
 
 /// The reports of the types of a schema that break the rule.
 fn small_names(alloc: Global, schema: &Schema) -> Result<String, AllocError> {
-    let (sources, mut reports) = (&schema.sources, String::new(alloc));
+    let mut reports = String::new(alloc);
     for name in schema.types.keys() {
         if let [b'a'..=b'z', ..] = name.as_str().as_bytes() {
             let fault = SmallName { name };
-            push_report(alloc, &mut reports, sources, name.location(), &fault)?;
+            push_report(
+                alloc,
+                &mut reports,
+                &schema.sources,
+                name.location(),
+                &fault,
+            )?;
         }
     }
     Ok(reports)
@@ -67,8 +73,13 @@ fn main(rt: HostRuntime) -> Result<()> {
     let (alloc, files) = (rt.alloc(), SystemFiles(&rt));
     let path = env::args(&rt)?.nth(1).context("no schema")?;
     let keys = HashKeys::drawn(&rt)?;
-    let options = CompileOptions::none();
-    let loaded = load_schema(alloc, keys, options, &files, &[path.as_str()])?;
+    let loaded = load_schema(
+        alloc,
+        keys,
+        CompileOptions::none(),
+        &files,
+        &[path.as_str()],
+    )?;
     rt.print(loaded.reports(alloc)?)?;
     let schema = loaded.schema.context("the schema is refused")?;
     rt.print(small_names(alloc, &schema)?)?;
