@@ -3,3 +3,4 @@ pub mod RowLemmas
 pub mod StepLemmas
 pub mod WalkLemmas
 pub mod NamingLemmas
+pub mod RefusalLemmas

@@ -14,3 +14,4 @@ pub mod refusal;
 mod rows;
 pub mod walks;
 pub mod wanted;
+pub mod with_refusals;

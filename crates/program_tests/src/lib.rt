@@ -6,6 +6,8 @@
 #[cfg(test)]
 mod for_people;
 #[cfg(test)]
+mod named;
+#[cfg(test)]
 mod over_notation;
 #[cfg(test)]
 mod tools;
