@@ -1,5 +1,6 @@
 -- Patterns that may match below a folder.
-use Rattle.std.proofs.Common.{◌≡◌, ◌≢◌, ℕ, ◌==◌, Bool, true, false, ◌&&◌, List, [], ◌∷◌, ◌++◌, if◌then◌else◌, length, map, refl, arith, ap, sym, ◌∙◌, cond}
+use Rattle.std.proofs.Common.{◌≡◌, ◌≢◌, ℕ, ◌==◌, Bool, true, false, ◌&&◌, List, [], ◌∷◌, ◌++◌}
+use Rattle.std.proofs.Common.{if◌then◌else◌, length, map, refl, arith, ap, sym, ◌∙◌, cond}
 use Rattle.std.proofs.Common.{◌≤◌, drop, not, IfOk, Result, Ok, Err, Vec}
 use Rattle.std.proofs.Math.ListN.{drop_of_length-le}
 use Rattle.std.proofs.lemmas.Bool.Decides.{nat_tests}
@@ -8,7 +9,8 @@ use Rattle.std.specs.List.{onto_first, slice_split}
 use Rattle.std.specs.Str.{chars}
 use Rattle.std.proofs.lemmas.List.{map-append}
 use Rattle.std.proofs.lemmas.List.Splits.{length-slice_split, slice_split-cons_yes}
-use Rattle.named_files.specs.Patterns.{is_any_parts, matches, may_match_below, one_and_others, part_matches, parts, parts_begin, parts_match, some_end, texts}
+use Rattle.named_files.specs.Patterns.{is_any_parts, matches, may_match_below, one_and_others, part_matches}
+use Rattle.named_files.specs.Patterns.{parts, parts_begin, parts_match, some_end, texts}
 
 -- what is put onto the first part stays in front of what is behind
 onto_front : (x : ℕ) (one two : List (List ℕ)) → length one ≢ 0

@@ -1,5 +1,7 @@
 -- What words name.
-use Rattle.std.proofs.Common.{◌≡◌, ℕ, ◌<◌, ◌≤◌, Bool, true, false, List, [], ◌∷◌, ◌++◌, Option, None, Some, Result, Ok, Err, OnOk, length, refl, sym, ap, subst, ◌∙◌, arith, string_bytes, Bor}
+use Rattle.std.proofs.Common.{◌≡◌, ℕ, ◌<◌, ◌≤◌, Bool, true, false, List, [], ◌∷◌, ◌++◌, Option, None, Some}
+use Rattle.std.proofs.Common.{Result, Ok, Err, OnOk, length, refl, sym, ap, subst, ◌∙◌, arith, string_bytes}
+use Rattle.std.proofs.Common.{Bor}
 use Rattle.std.specs.Cmp.{IsStrictWeakOrder}
 use Rattle.std.specs.Cmp.Lexicographic.{slice_cmp}
 use Rattle.std.specs.Fn.{Called, ComparesAs}
@@ -27,7 +29,8 @@ use Rattle.std.proofs.Common.{map, take}
 use Rattle.std.proofs.lemmas.List.{take_all}
 use Rattle.named_files.specs.declared.naming.NamedFiles.{NamedFiles}
 use Rattle.named_files.specs.Naming.{AreNamed, NamesWord, first_ones, parts_of}
-use Rattle.named_files.specs.Naming.{FindsSome, IsBase, IsInOrder, NamesKind, as_prefix, is_before, is_named, most_nested}
+use Rattle.named_files.specs.Naming.{FindsSome, IsBase, IsInOrder, NamesKind, as_prefix, is_before}
+use Rattle.named_files.specs.Naming.{is_named, most_nested}
 use Rattle.named_files.specs.Patterns.{matches, may_be_pattern, may_match_below}
 use Rattle.named_files.specs.Seen.{Tracks}
 use Rattle.named_files.specs.Wanted.{is_graphql}

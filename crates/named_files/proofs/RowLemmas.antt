@@ -1,5 +1,6 @@
 -- What rows say: where a flag is set, what is left of the list may pass.
-use Rattle.std.proofs.Common.{◌≡◌, ◌+◌, ◌-◌, Bool, true, false, ◌&&◌, ◌||◌, List, [], ◌∷◌, length, map, refl, arith, get_or, ap, ◌∙◌}
+use Rattle.std.proofs.Common.{◌≡◌, ◌+◌, ◌-◌, Bool, true, false, ◌&&◌, ◌||◌, List, [], ◌∷◌, length, map}
+use Rattle.std.proofs.Common.{refl, arith, get_or, ap, ◌∙◌}
 use Rattle.named_files.specs.Patterns.{nothing, one_and_others, some_end}
 use Rattle.named_files.specs.Rows.{any_more, both_flags, one_more, unbegun}
 
@@ -137,7 +138,7 @@ reaches-nothing (true ∷ []) [] long = refl
 reaches-nothing (false ∷ []) [] long = refl
 reaches-nothing (here ∷ (next ∷ row)) [] long = absurd (omega arith)
 reaches-nothing (here ∷ []) (x ∷ xs) long = absurd (omega arith)
-reaches-nothing (true ∷ (next ∷ row)) (x ∷ xs) long
-    = grind (arith, reaches-nothing (next ∷ row) xs (omega arith))
-reaches-nothing (false ∷ (next ∷ row)) (x ∷ xs) long
-    = grind (arith, reaches-nothing (next ∷ row) xs (omega arith))
+reaches-nothing (true ∷ (next ∷ row)) (x ∷ xs) long =
+    grind (arith, reaches-nothing (next ∷ row) xs (omega arith))
+reaches-nothing (false ∷ (next ∷ row)) (x ∷ xs) long =
+    grind (arith, reaches-nothing (next ∷ row) xs (omega arith))

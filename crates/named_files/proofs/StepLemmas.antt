@@ -1,10 +1,14 @@
 -- A sign or a part of a pattern more.
-use Rattle.std.proofs.Common.{◌≡◌, ℕ, suc, ◌+◌, ◌-◌, ◌==◌, ◌<◌, ◌≤◌, Bool, true, false, List, [], ◌∷◌, length, map, refl, get_or, ap, sym, ◌∙◌, drop, drop-cons, add-one, if◌then◌else◌, Vec}
+use Rattle.std.proofs.Common.{◌≡◌, ℕ, suc, ◌+◌, ◌-◌, ◌==◌, ◌<◌, ◌≤◌, Bool, true, false, List, [], ◌∷◌}
+use Rattle.std.proofs.Common.{length, map, refl, get_or, ap, sym, ◌∙◌, drop, drop-cons, add-one}
+use Rattle.std.proofs.Common.{if◌then◌else◌, Vec}
 use Rattle.std.proofs.Math.ListN.{drop_of_length-le}
 use Rattle.std.specs.declared.alloc.Global.{Global}
-use Rattle.named_files.specs.Patterns.{is_any_parts, nothing, one_and_others, part_matches, parts_match, sign_matches, some_end, texts}
+use Rattle.named_files.specs.Patterns.{is_any_parts, nothing, one_and_others, part_matches, parts_match}
+use Rattle.named_files.specs.Patterns.{sign_matches, some_end, texts}
 use Rattle.named_files.specs.Rows.{any_more, one_more, row_behind_part, row_behind_sign, unbegun}
-use Rattle.named_files.proofs.RowLemmas.{IsFor, for-any_more, for-one_more, reaches, reaches-any_more, reaches-nothing, reaches-one_more}
+use Rattle.named_files.proofs.RowLemmas.{IsFor, for-any_more, for-one_more, reaches, reaches-any_more}
+use Rattle.named_files.proofs.RowLemmas.{reaches-nothing, reaches-one_more}
 
 -- behind so many the next one stands
 cut_at : {X : Type 0} (xs : List X) (i : ℕ) (x : X) → i < length xs → x ≡ get_or xs i x

@@ -1,5 +1,7 @@
 -- What is found, one after the other.
-use Rattle.std.proofs.Common.{◌≡◌, ◌≢◌, inl, inr, ℕ, suc, ◌+◌, ◌-◌, ◌<◌, Bool, List, [], ◌∷◌, ◌++◌, Option, Some, get_or, length, take, map, refl, sym, ap, subst, ◌∙◌, append_assoc, arith, string_bytes}
+use Rattle.std.proofs.Common.{◌≡◌, ◌≢◌, inl, inr, ℕ, suc, ◌+◌, ◌-◌, ◌<◌, Bool, List, [], ◌∷◌, ◌++◌, Option}
+use Rattle.std.proofs.Common.{Some, get_or, length, take, map, refl, sym, ap, subst, ◌∙◌, append_assoc}
+use Rattle.std.proofs.Common.{arith, string_bytes}
 use Rattle.std.proofs.lemmas.List.{append-nil, take_more}
 use Rattle.program_io.specs.declared.file_error.FileError.{FileError}
 use Rattle.named_files.specs.declared.found.Found.{Found}
@@ -148,8 +150,8 @@ module _ (takes enters : List ℕ → Bool) (lists : List ℕ → List (List ℕ
           listed,
           each-map _ named_entry entries added
               (subst (λ l. FindsEach (λ entry finds. FindsAt takes enters
-              (FindsBelow takes enters lists may_hide (depth - 1)) prefix (named_entry entry) finds) l
-              added) whole each),
+              (FindsBelow takes enters lists may_hide (depth - 1)) prefix (named_entry entry) finds) l added)
+              whole each),
         ),
       )) are)
 

@@ -1,5 +1,6 @@
 -- Which paths a pattern matches.
-use Rattle.std.specs.Prelude.{true, ◌==◌, ◌&&◌, ◌||◌, ℕ, Bool, false, List, [], ◌∷◌, codes, if◌then◌else◌, map}
+use Rattle.std.specs.Prelude.{true, ◌==◌, ◌&&◌, ◌||◌, ℕ, Bool, false, List, [], ◌∷◌, codes, if◌then◌else◌}
+use Rattle.std.specs.Prelude.{map}
 use Rattle.std.specs.Prelude.{Vec, nat_eq}
 use Rattle.std.specs.declared.alloc.Global.{Global}
 use Rattle.std.specs.Cmp.Lexicographic.{pointwise}

@@ -1,5 +1,5 @@
--- How far the beginnings of a pattern reach in a list: rows, in which the place of a flag says behind how
--- many.
+-- How far the beginnings of a pattern reach in a list: rows of flags. The flag at a place says whether they
+-- match so many of the list's first ones.
 use Rattle.std.specs.Prelude.{◌==◌, ◌&&◌, ◌||◌, ℕ, Bool, true, false, List, [], ◌∷◌, if◌then◌else◌, map}
 use Rattle.std.specs.List.{zip}
 use Rattle.named_files.specs.Patterns.{is_any_parts, part_matches, sign_matches}

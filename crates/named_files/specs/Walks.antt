@@ -1,5 +1,6 @@
 -- What is found below folders.
-use Rattle.std.specs.Prelude.{◌≡◌, ◌⊎◌, ℕ, zero, suc, Bool, List, [], ◌∷◌, ◌++◌, Option, None, Some, MatchBool}
+use Rattle.std.specs.Prelude.{◌≡◌, ◌⊎◌, ℕ, zero, suc, Bool, List, [], ◌∷◌, ◌++◌, Option, None, Some}
+use Rattle.std.specs.Prelude.{MatchBool}
 use Rattle.std.specs.Prelude.{string_bytes}
 use Rattle.program_io.specs.declared.file_error.FileError.{FileError}
 use Rattle.named_files.specs.Wanted.{is_hidden}

@@ -77,8 +77,8 @@ fn add_kind<F: Folders>(
     all: &mut Vec<Found>,
 ) -> Result<(), AllocError>
     ensures { OnOk result (Adds
-        (NamesKind (F.lists folders.now) (F.may_hide folders.now) word.now kind) all.old.items
-        all.new.items) }
+        (NamesKind (F.lists folders.now) (F.may_hide folders.now) word.now kind)
+        all.old.items all.new.items) }
 {
     match kind {
         PathKind::File => add_one(alloc, word, None, all),

@@ -3,7 +3,8 @@
 //! The parts of a pattern stand between its slashes, as those of a path do. In a part `*` stands for any
 //! characters, `?` for one character, and any other for itself. The part `**` stands for any parts, also for
 //! none.
-ghost use Rattle.std.specs.Prelude.{◌≡◌, ◌==◌, ◌-◌, ℕ, List, ◌∷◌, ◌++◌, IfOk, false, length, map, slice_index_or};
+ghost use Rattle.std.specs.Prelude.{◌≡◌, ◌==◌, ◌-◌, ℕ, List, ◌∷◌, ◌++◌, IfOk, false, length, map};
+ghost use Rattle.std.specs.Prelude.{slice_index_or};
 ghost use Rattle.std.specs.List.{slice_split};
 ghost use Rattle.std.specs.Str.{chars};
 ghost use Rattle.named_files.specs.Patterns.{is_any_parts, matches, may_be_pattern, may_match_below};
@@ -24,8 +25,8 @@ pub fn matches(alloc: Global, pattern: &str, path: &str) -> Result<bool, AllocEr
     parts_match(alloc, wanted.as_slice(), there.as_slice())
 }
 
-/// Whether a pattern may match a path below the folder of this one. Where it answers `false`, there is none.
-/// The error is out of memory.
+/// Whether a pattern may match a path below the folder of this one. Where it answers `false`, it matches
+/// none. The error is out of memory.
 pub fn may_match_below(alloc: Global, pattern: &str, folder: &str) -> Result<bool, AllocError>
     ensures may { IfOk result (λ answer. answer ≡ may_match_below pattern.now folder.now) }
     ensures none { IfOk result (λ answer. answer ≡ false

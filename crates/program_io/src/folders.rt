@@ -9,7 +9,7 @@ use std::alloc::Global;
 pub enum PathKind {
     /// Nothing.
     Nothing,
-    /// A file, or what is read as one: whatever is no folder. What keeps it from being read isn't asked here.
+    /// A file, or what is read as one: whatever is no folder. It may be that it can't be read.
     File,
     /// A folder, or a link to one.
     Folder,

@@ -62,7 +62,7 @@ fn expect<F: Folders>(
     Ok(())
 }
 
-/// A folder stands for its files of GraphQL text, in the order of their paths, and what is hidden is left out.
+/// A folder stands for its files of GraphQL text, in the order of their paths, without what is hidden.
 #[test]
 fn folders_stand_for_their_files(rt: HostRuntime) -> Result<(), Fail> {
     let schema = "schema/old.gql schema/query.graphqls schema/types/book.graphql |";

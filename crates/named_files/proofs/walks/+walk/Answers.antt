@@ -2,7 +2,8 @@ use Rattle.std.proofs.Common.{ap, sym, ◌∙◌, ◌++◌}
 use Rattle.program_io.specs.Entries.{named_entry}
 use Rattle.named_files.specs.Wanted.{enters, is_hidden, takes}
 use Rattle.named_files.specs.Walks.{FindsBelow}
-use Rattle.named_files.proofs.WalkLemmas.{at-file, at-hidden, at-unentered, below-listed, below-unlisted, each-next, ok-adds-then, ok-both}
+use Rattle.named_files.proofs.WalkLemmas.{at-file, at-hidden, at-unentered, below-listed, below-unlisted}
+use Rattle.named_files.proofs.WalkLemmas.{each-next, ok-adds-then, ok-both}
 use Rattle.named_files.proofs.walks.+walk.Goals as goal
 
 pub add_below-loop-entry-preserved : goal.add_below-loop-entry-preserved
@@ -29,7 +30,8 @@ add_entry-returns-then-is_hidden g t c =
     at-hidden (takes c.args.wanted.now) (enters c.args.wanted.now)
     (FindsBelow (takes c.args.wanted.now) (enters c.args.wanted.now)
     (g.F.Folders.lists c.args.folders.now) (g.F.Folders.may_hide c.args.folders.now) c.args.depth)
-    c.args.prefix.now (named_entry c.args.entry.now) c.args.found.now.items
+    c.args.prefix.now
+    (named_entry c.args.entry.now) c.args.found.now.items
     (ap is_hidden (sym c.as_str-name.ensures.value) ∙ sym c.is_hidden.ensures ∙ c.if-is_hidden.true)
 
 pub add_entry-returns-then-not-entry : goal.add_entry-returns-then-not-entry
@@ -38,7 +40,8 @@ add_entry-returns-then-not-entry g t c =
     (λ added finds. at-file (takes c.args.wanted.now) (enters c.args.wanted.now)
     (FindsBelow (takes c.args.wanted.now) (enters c.args.wanted.now)
     (g.F.Folders.lists c.args.folders.now) (g.F.Folders.may_hide c.args.folders.now) c.args.depth)
-    c.args.prefix.now (named_entry c.args.entry.now) c.as_str.result.now added
+    c.args.prefix.now
+    (named_entry c.args.entry.now) c.as_str.result.now added
     (ap is_hidden (sym c.as_str-name.ensures.value) ∙ sym c.is_hidden.ensures ∙ c.if-is_hidden.false)
     c.if-not-entry.true (c.as_str.ensures.value ∙ c.in_ok-path.ensures
     ∙ ap (λ n. c.args.prefix.now ++ n) c.as_str-name.ensures.value) finds) c.add_file.ensures
@@ -48,8 +51,8 @@ add_entry-returns-then-not-branch g t c =
     at-unentered (takes c.args.wanted.now) (enters c.args.wanted.now)
     (FindsBelow (takes c.args.wanted.now) (enters c.args.wanted.now)
     (g.F.Folders.lists c.args.folders.now) (g.F.Folders.may_hide c.args.folders.now) c.args.depth)
-    c.args.prefix.now (named_entry c.args.entry.now) c.args.found.now.items c.as_str-2.result.now
-    c.in_ok-enters.field-0
+    c.args.prefix.now
+    (named_entry c.args.entry.now) c.args.found.now.items c.as_str-2.result.now c.in_ok-enters.field-0
     (ap is_hidden (sym c.as_str-name.ensures.value) ∙ sym c.is_hidden.ensures ∙ c.if-is_hidden.false)
     c.if-not-entry.false (c.as_str-2.ensures.value ∙ c.in_ok-path.ensures
     ∙ ap (λ n. c.args.prefix.now ++ n) c.as_str-name.ensures.value) c.in_ok-enters.ensures

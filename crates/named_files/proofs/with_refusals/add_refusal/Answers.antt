@@ -11,5 +11,6 @@ returns c = λ path.
     btree_map_updates_text (string_bytes c.in_ok-path.path) c.args.refused.now c.insert.new.self
     (Some c.in-Some.refusal) c.in_ok-insert.ensures.updates path
     ∙ ap (λ key. cond (bytes_eq key path) (Some c.in-Some.refusal) before) c.in_ok-path.ensures.cases
-    ∙ ap (λ refusal. cond (bytes_eq (string_bytes c.args.one.now.path) path) (refusal_or refusal before) before)
+    ∙ ap (λ refusal. cond (bytes_eq (string_bytes c.args.one.now.path) path) (refusal_or refusal before)
+    before)
     (sym c.in-Some.is)

@@ -1,6 +1,6 @@
 use Rattle.std.proofs.Common.{ap, refl, ◌∙◌}
 use Rattle.program_io.proofs.EntryLemmas.{with_known, with_new}
-use Rattle.program_io.specs.Entries.{named, shown_by}
+use Rattle.program_io.specs.Entries.{named}
 use Rattle.program_io.proofs.folders_in_memory.add_entry.Goals as goal
 
 pub returns-then-is_among : goal.returns-then-is_among
