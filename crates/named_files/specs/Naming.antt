@@ -1,7 +1,8 @@
 -- Which files words name.
 use Rattle.std.specs.Prelude.{◌≡◌, ◌==◌, ◌⊎◌, ℕ, Bool, false, List, [], ◌∷◌, ◌++◌, None, Some, MatchBool}
 use Rattle.std.specs.Prelude.{if◌then◌else◌, map, string_bytes, true}
-use Rattle.std.specs.Cmp.Lexicographic.{slice_cmp}
+use Rattle.std.specs.Cmp.Lexicographic.{pointwise, slice_cmp}
+use Rattle.std.specs.Prelude.{◌||◌, codes, nat_eq}
 use Rattle.std.specs.List.{before_first, fold, list_any}
 use Rattle.std.specs.List.Sorted.{IsPermutation, IsSortedBy}
 use Rattle.std.specs.Ordering.{is_lt, nat_cmp}
@@ -39,9 +40,14 @@ abbrev pub FindsSome : (List ℕ → Bool) → (List ℕ → Bool) → (List ℕ
 FindsSome takes enters lists may_hide word prefix found = (there : List Found)
     × (FindsBelow takes enters lists may_hide most_nested prefix there × IsInOrder word there found)
 
--- the prefix of a folder: its path, with a slash at its end
+-- the path is that of the folder that the program runs in
+abbrev pub is_here : List ℕ → Bool
+is_here path = pointwise nat_eq path (codes ".") || pointwise nat_eq path (codes "./")
+
+-- the prefix of a folder: its path, with a slash at its end; and nothing for the folder that the program runs
+-- in
 abbrev pub as_prefix : List ℕ → List ℕ
-as_prefix path = if ends_with_slash path then path else path ++ 47 ∷ []
+as_prefix path = if is_here path then [] else (if ends_with_slash path then path else path ++ 47 ∷ [])
 
 -- what a pattern has before the first sign that stands for others
 abbrev pub before_wild : List ℕ → List ℕ

@@ -1,20 +1,30 @@
 //! The prefixes of paths: of a folder, and of what a pattern matches.
 ghost use Rattle.std.specs.Prelude.{◌≡◌, IfOk, string_bytes};
 ghost use Rattle.program_io.specs.Entries.{ends_with_slash};
-ghost use Rattle.named_files.specs.Naming.{IsBase, as_prefix, before_wild};
+ghost use Rattle.named_files.specs.Naming.{IsBase, as_prefix, before_wild, is_here};
 
 use crate::walks::joined;
 use std::alloc::{AllocError, Global};
 
-/// The prefix of a folder: its path, with a slash at its end. The error is out of memory.
+/// The prefix of a folder: its path, with a slash at its end; and nothing for the folder that the program runs
+/// in. The error is out of memory.
 pub(crate) fn as_prefix(alloc: Global, path: &str) -> Result<String, AllocError>
     ensures { IfOk result (λ prefix. string_bytes prefix ≡ as_prefix path.now) }
 {
-    if ends_with_slash(path) {
+    if is_here(path) {
+        Ok(String::new(alloc))
+    } else if ends_with_slash(path) {
         String::from_str(alloc, path)
     } else {
         joined(alloc, path, "/")
     }
+}
+
+/// Whether a path is that of the folder that the program runs in.
+fn is_here(path: &str) -> bool
+    ensures { result ≡ is_here path.now }
+{
+    path == "." || path == "./"
 }
 
 /// Whether a slash is at the end of a path.
