@@ -1,6 +1,5 @@
 -- Comments behind what is passed over.
-use Rattle.std.proofs.Common.{◌≡◌, ◌≢◌, ◌<◌, ◌-◌, ℕ, zero, suc, Bool, true, false, List, [], ◌∷◌, Ok, drop}
-use Rattle.std.proofs.Common.{length, refl, sym, ap, ◌∙◌, arith, get_or, if◌then◌else◌, nat_eq}
+use Rattle.std.proofs.Common.{◌≡◌, ◌≢◌, ◌<◌, ◌-◌, ℕ, zero, suc, Bool, true, false, List, [], ◌∷◌, Ok, drop, length, refl, sym, ap, ◌∙◌, arith, get_or, if◌then◌else◌, nat_eq}
 use Rattle.std.proofs.lemmas.Bool.Decides.{nat_tests}
 use Rattle.graphql_tokens.specs.declared.lexemes.Lexeme.{Lexeme}
 use Rattle.graphql_tokens.specs.Comments.{behind_token, comment_from}

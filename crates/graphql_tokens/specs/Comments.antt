@@ -27,6 +27,6 @@ has_comment text = comment_from 0 text
 -- what stands at the front has so many bytes, and a comment stands in the text just where one stands behind
 -- it; or the answer is this
 abbrev pub Passes : List ℕ → Result ℕ Bool → Type 0
-Passes text (Ok size) =
-    (0 < size) × (size ≤ length text) × (comment_from 0 text ≡ comment_from 0 (drop size text))
+Passes text (Ok size) = (0 < size) × (size ≤ length text)
+    × (comment_from 0 text ≡ comment_from 0 (drop size text))
 Passes text (Err answer) = comment_from 0 text ≡ answer

@@ -6,8 +6,8 @@ ghost use Rattle.named_files.specs.Naming.{IsBase, as_prefix, before_wild, is_he
 use crate::walks::joined;
 use std::alloc::{AllocError, Global};
 
-/// The prefix of a folder: its path, with a slash at its end; and nothing for the folder that the program runs
-/// in. The error is out of memory.
+/// The prefix of a folder: its path, with a slash at its end; and nothing for the folder that the program
+/// runs in. The error is out of memory.
 pub(crate) fn as_prefix(alloc: Global, path: &str) -> Result<String, AllocError>
     ensures { IfOk result (λ prefix. string_bytes prefix ≡ as_prefix path.now) }
 {

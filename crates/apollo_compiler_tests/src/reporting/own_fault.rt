@@ -14,7 +14,7 @@ use apollo_reporting::detail::Detail;
 use apollo_reporting::fault_json::to_json;
 use apollo_reporting::report::{report, report_text};
 use apollo_reporting::reported::Reported;
-use apollo_reporting::spaced_reports::reports_text;
+use apollo_reporting::spaced_reports::{push_report, reports_text};
 use std::alloc::{AllocError, Global};
 use std::fmt;
 
@@ -103,15 +103,27 @@ fn a_fault_of_ones_own_is_reported(rt: HostRuntime) {
     assert_eq!(rt; json.as_str(), object);
 }
 
-#[test]
-fn reports_in_one_text_stand_apart(rt: HostRuntime) {
-    let alloc = rt.alloc();
-    let sources = sources_of(alloc, "wide.graphql", "type A").expect(&rt, "memory");
+/// The reports of two faults in a list, and of one behind them.
+fn three_reports(alloc: Global) -> Result<String, AllocError> {
+    let sources = sources_of(alloc, "wide.graphql", "type A")?;
     let faults = [
         (None, TooWide { fields: 301 }),
         (None, TooWide { fields: 302 }),
     ];
-    let text = reports_text(alloc, &sources, &faults).expect(&rt, "memory");
-    let wanted = "error: 301 fields are too many\n\nerror: 302 fields are too many\n\n";
+    let mut text = reports_text(alloc, &sources, &faults)?;
+    push_report(alloc, &mut text, &sources, None, &TooWide { fields: 303 })?;
+    Ok(text)
+}
+
+#[test]
+fn reports_in_one_text_stand_apart(rt: HostRuntime) {
+    let text = three_reports(rt.alloc()).expect(&rt, "memory");
+    let wanted = "error: 301 fields are too many
+
+error: 302 fields are too many
+
+error: 303 fields are too many
+
+";
     assert_eq!(rt; text.as_str(), wanted);
 }
