@@ -1,4 +1,5 @@
 pub mod DocumentLemmas
+pub mod EchoLemmas
 pub mod SaidOfAll
 pub mod ReportLemmas
 pub mod RunLemmas

@@ -15,6 +15,7 @@ use Rattle.leafcheck.specs.LeafFaults.{leaf_faults}
 use Rattle.peglinden_run.specs.declared.typed_documents.TypedDocument.{TypedDocument}
 use Rattle.peglinden_run.specs.Documents.{AreDocumentsAt, texts_of}
 use Rattle.peglinden_run.specs.TypedDocuments.{AreBothAt, IsTyped, document_part, schema_part}
+use Rattle.peglinden_run.specs.Echoes.{IsEcho, LeavesOut}
 use Rattle.peglinden_run.proofs.DocumentLemmas.{documents-length}
 
 -- there are as many texts as words
@@ -47,7 +48,8 @@ pub typed-of : (held : List ℕ → List ℕ → Type 0) (schema_paths document_
     → typed.findings.schema_faults.items ≡ faults_of given.adopt_orphan_extensions (schema_list given first)
     → IsDocumentOf (Some schema) (executable_list true second) typed.document
     → typed.findings.document_faults.items ≡ document_faults (Some schema) (executable_list true second)
-    → typed.findings.leaf_faults.items ≡ leaf_faults schema typed.document
+    → LeavesOut (IsEcho typed.findings.document_faults.items) (leaf_faults schema typed.document)
+    typed.findings.leaf_faults.items
     → typed.findings.sources ≡ merged (all_sources first) (all_sources second)
     → IsTyped held schema_paths document_paths typed
 typed-of held schema_paths document_paths documents first second given schema typed same front back read means

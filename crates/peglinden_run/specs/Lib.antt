@@ -1,5 +1,6 @@
 pub mod DocumentCommands
 pub mod Documents
+pub mod Echoes
 pub mod Ended
 pub mod FieldsCommand
 pub mod Findings

@@ -16,6 +16,7 @@ use Rattle.peglinden_run.specs.declared.failure.Failure.{Failure}
 use Rattle.peglinden_run.specs.declared.failure.Failure.TheVariants as failures
 use Rattle.peglinden_run.specs.declared.typed_documents.TypedDocument.{TypedDocument}
 use Rattle.peglinden_run.specs.Documents.{AreDocumentsAt}
+use Rattle.peglinden_run.specs.Echoes.{IsEcho, LeavesOut}
 use Rattle.peglinden_run.specs.RefusedFiles.{IsFilesReport}
 
 -- In all of this `held` says which bytes the file of a path may hold, and `may_fail` whether reading it may
@@ -35,8 +36,8 @@ abbrev pub document_part : List (List ℕ) → List Document → List Document
 document_part schema_paths documents = drop (length schema_paths) documents
 
 -- the typed document of files over the schema of files, which has no options. Then the faults of that schema,
--- and those of the document, in which definitions of the type system are at fault. Last those of its leaves,
--- and the source files of both
+-- and those of the document, in which definitions of the type system are at fault. Last those of its leaves
+-- that don't only repeat these, and the source files of both
 pub record IsTyped (held : List ℕ → List ℕ
     → Type 0) (schema_paths document_paths : List (List ℕ)) (typed : TypedDocument) : Type 0 where
   pub schema : Schema
@@ -50,7 +51,8 @@ pub record IsTyped (held : List ℕ → List ℕ
       ≡ faults_of false (schema_list no_options (schema_part schema_paths documents))
   pub are : typed.findings.document_faults.items
       ≡ document_faults (Some schema) (executable_list true (document_part schema_paths documents))
-  pub leaves_are : typed.findings.leaf_faults.items ≡ leaf_faults schema typed.document
+  pub leaves_are : LeavesOut (IsEcho typed.findings.document_faults.items) (leaf_faults schema typed.document)
+      typed.findings.leaf_faults.items
   pub sources : typed.findings.sources
       ≡ merged (all_sources (schema_part schema_paths documents))
       (all_sources (document_part schema_paths documents))

@@ -12,6 +12,7 @@ pub mod answering;
 mod coordinates;
 mod document_commands;
 pub mod documents;
+mod echoes;
 mod ended;
 pub mod failure;
 mod fields_command;

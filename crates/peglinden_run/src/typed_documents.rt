@@ -4,6 +4,7 @@ ghost use Rattle.peglinden_run.specs.Documents.{texts_of};
 ghost use Rattle.peglinden_run.specs.TypedDocuments.{IsTyped, IsTypedCause};
 
 use crate::documents::read_documents;
+use crate::echoes::without_echoes;
 use crate::failure::Failure;
 use crate::findings::Findings;
 use apollo_compiler::building::build_schema;
@@ -26,7 +27,7 @@ pub(crate) struct TypedDocument {
 
 /// The documents of files as one typed document, over the schema of other files, which has no options.
 /// Definitions of the type system in the documents are at fault. The files of the schema are numbered
-/// from 1, and the others after them.
+/// from 1, and the others after them. Leaf faults that only repeat other faults are left out.
 ///
 /// `Files` comes where a file of either sort can't be read or is no document. `Exhausted` comes where memory
 /// ran out, or where the numbers don't suffice for the extensions of the schema. There is no other error.
@@ -55,7 +56,8 @@ pub(crate) fn type_documents<F: Files>(
     let (document, document_faults) = build_executable_document(
         alloc, &schema, options, executable,
     )?;
-    let leaf_faults = leaf_faults(alloc, &schema, &document)?;
+    let leaves = leaf_faults(alloc, &schema, &document)?;
+    let leaf_faults = without_echoes(alloc, leaves, document_faults.as_slice())?;
     let mut sources = schema.sources.clone()?;
     merge_sources(&mut sources, &document.sources)?;
     let findings = Findings {

@@ -3,7 +3,7 @@
 use crate::for_people::rows::{expect_done, expect_faults, expect_refused};
 use std::test::Fail;
 
-/// The field that isn't there, and the one that is left without selections.
+/// The field that isn't there. That another is left without selections is not said besides.
 const MISSING_FIELD: &str = "error: type `Book` does not have a field `pages`
   --> faulty.graphql:3:5
    |
@@ -11,19 +11,11 @@ const MISSING_FIELD: &str = "error: type `Book` does not have a field `pages`
    |     ^^^^^
    = path: query Page → book → pages
 
-error: `book`: a field of object, interface or union type must have subselections
-  --> faulty.graphql:2:3
-   |
- 2 |   book {
-   |   ^^^^^^
-   = path: query Page → book
-
-2 faults
+1 fault
 ";
 
 const MISSING_FIELD_JSON: &str =
     "{\"kind\":\"UndefinedField\",\"message\":\"type `Book` does not have a field `pages`\",\"file\":\"faulty.graphql\",\"line\":3,\"column\":5,\"end_line\":3,\"end_column\":10,\"path\":[\"query Page\",\"book\",\"pages\"],\"type_name\":\"Book\",\"field_name\":\"pages\"}
-{\"kind\":\"MissingSubselection\",\"message\":\"`book`: a field of object, interface or union type must have subselections\",\"file\":\"faulty.graphql\",\"line\":2,\"column\":3,\"end_line\":4,\"end_column\":4,\"path\":[\"query Page\",\"book\"],\"response_key\":\"book\",\"parent_type\":\"Query\"}
 ";
 
 const SECOND_BOOK: &str = "error: the type `Book` is defined multiple times in the schema

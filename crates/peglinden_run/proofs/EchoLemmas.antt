@@ -1,0 +1,27 @@
+-- What is left out of a list with one element more.
+use Rattle.std.proofs.Common.{◌≡◌, ◌⊎◌, List, [], ◌∷◌, ◌++◌, inl, inr, refl, ap}
+use Rattle.peglinden_run.specs.Echoes.{LeavesOut}
+
+-- one that is so
+pub leaves_out-so : {A : Type 0} (IsSo : A → Type 0) (xs kept : List A) (x : A) → LeavesOut IsSo xs kept
+    → IsSo x → LeavesOut IsSo (xs ++ x ∷ []) kept
+leaves_out-so IsSo [] kept x out so = inl (so, out)
+leaves_out-so IsSo (y ∷ xs) kept x (inl out) so = inl (out.0, leaves_out-so IsSo xs kept x out.1 so)
+leaves_out-so IsSo (y ∷ xs) kept x (inr out) so = inr (
+  out.0,
+  (out.1.0, (out.1.1.0, leaves_out-so IsSo xs out.1.0 x out.1.1.1 so)),
+)
+
+-- one that is not so
+pub leaves_out-other : {A : Type 0} (IsSo : A → Type 0) (xs kept : List A) (x : A) → LeavesOut IsSo xs kept
+    → (¬ IsSo x) → LeavesOut IsSo (xs ++ x ∷ []) (kept ++ x ∷ [])
+leaves_out-other IsSo [] kept x out other = inr (other, ([], (ap (λ l. l ++ x ∷ []) out, refl)))
+leaves_out-other IsSo (y ∷ xs) kept x (inl out) other =
+    inl (out.0, leaves_out-other IsSo xs kept x out.1 other)
+leaves_out-other IsSo (y ∷ xs) kept x (inr out) other = inr (
+  out.0,
+  (
+    out.1.0 ++ x ∷ [],
+    (ap (λ l. l ++ x ∷ []) out.1.1.0, leaves_out-other IsSo xs out.1.0 x out.1.1.1 other),
+  ),
+)
