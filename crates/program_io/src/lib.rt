@@ -4,7 +4,8 @@
 //! Proved: a file is read whole, or refused for a cause; a text is written whole, or a beginning of it where
 //! the writer fails. Folders of files in memory have what the paths of the files say.
 //!
-//! No clause: what the system has in its files and folders, and what it does when a file is replaced.
+//! No clause: `open_to_end`, `is_device`, `system_entries`, `entry`, `replace_file`, `folder_of`, `create`,
+//! `put` and `fill`, which ask the system, and nothing is known of what that answers.
 #![tactic(auto)]
 
 pub mod file_error;
