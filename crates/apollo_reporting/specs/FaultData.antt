@@ -2,6 +2,7 @@
 use Rattle.std.specs.Prelude.{ℕ, List, [], ◌∷◌, ◌++◌, map, Option, None, Some, codes, option_and_then}
 use Rattle.std.specs.Prelude.{option_map}
 use Rattle.graphql_nodes.specs.NameView.{NameView}
+use Rattle.graphql_nodes.specs.OperationTexts.{operation_text}
 use Rattle.graphql_nodes.specs.Sources.{Files, same_file}
 use Rattle.graphql_nodes.specs.Tables.{lookup}
 use Rattle.graphql_nodes.specs.declared.line_column.LineColumn.{LineColumn}
@@ -12,7 +13,10 @@ use Rattle.serde_json.specs.Data.{unsigned}
 use Rattle.serde_json.specs.View.{items_of}
 use Rattle.apollo_reporting.specs.Abouts.{AboutView}
 use Rattle.apollo_reporting.specs.Places.{ends, starts}
-use Rattle.apollo_document.specs.PathTexts.{definition_name_text}
+use Rattle.apollo_document.specs.declared.selection_path.ExecutableDefinitionName.{ExecutableDefinitionName}
+use Rattle.apollo_document.specs.declared.selection_path.ExecutableDefinitionName.TheVariants.{AnonymousOperation}
+use Rattle.apollo_document.specs.declared.selection_path.ExecutableDefinitionName.TheVariants.{NamedOperation}
+use Rattle.apollo_document.specs.declared.selection_path.ExecutableDefinitionName.TheVariants.{Fragment}
 use Rattle.apollo_reporting.specs.declared.detail.Detail.{Detail}
 use Rattle.apollo_reporting.specs.declared.detail.DetailValue.{DetailValue}
 use Rattle.apollo_reporting.specs.declared.detail.DetailValue.TheVariants.{Place, Words}
@@ -71,13 +75,28 @@ abbrev pub location_data : Option SourceSpan → Files → Data
 location_data None files = null
 location_data (Some span) files = span_data span files
 
+-- a definition as an object: what it is, as `query` or `fragment`, and its name, if it has one
+abbrev pub definition_data : List ℕ → Option (List ℕ) → Data
+definition_data kind name = object_of ((codes "kind", string kind) ∷ (codes "name", text_data name) ∷ [])
+
+-- the definition that a path begins with
+abbrev pub root_data : ExecutableDefinitionName → Data
+root_data (AnonymousOperation kind) = definition_data (operation_text kind) None
+root_data (NamedOperation kind name) = definition_data (operation_text kind) (Some name.text)
+root_data (Fragment name) = definition_data (codes "fragment") (Some name.text)
+
 -- response keys as strings
 abbrev pub keys_data : List NameView → List Data
 keys_data keys = map (λ (key : NameView). string key.text) keys
 
--- a path as an array: the definition, then the response keys
+-- response keys as an array
+abbrev pub key_array : List NameView → Data
+key_array keys = array (items_of (keys_data keys))
+
+-- a path as an object: the definition, and the response keys
 abbrev pub steps_data : SelectionPath → Data
-steps_data path = array (items_of (string (definition_name_text path.root) ∷ keys_data path.nested_fields))
+steps_data path = object_of ((codes "root", root_data path.root)
+    ∷ (codes "keys", key_array path.nested_fields) ∷ [])
 
 -- the same, or null where there is none
 abbrev pub path_data : Option SelectionPath → Data
@@ -97,10 +116,14 @@ value_data files (Place location) = location_data location files
 abbrev pub detail_member : Files → Detail → Member
 detail_member files detail = (detail.name, value_data files detail.value)
 
--- a fault, of which this is said in a sentence, with these details
-unfoldable pub fault_data : Files → Option SourceSpan → AboutView → List ℕ → List Detail → Data
-fault_data files location about said details =
+-- the member that says what an object is
+abbrev pub type_member : List ℕ → Member
+type_member of_type = (codes "type", string of_type)
+
+-- a fault, or what else is such an object, of which this is said in a sentence, with these details
+unfoldable pub fault_data : List ℕ → Files → Option SourceSpan → AboutView → List ℕ → List Detail → Data
+fault_data of_type files location about said details =
     object_of
-    ((codes "kind", string about.kind)
-    ∷ (((codes "message", string said) ∷ file_member location files ∷ [])
+    (type_member of_type
+    ∷ (((codes "kind", string about.kind) ∷ (codes "message", string said) ∷ file_member location files ∷ [])
     ++ (span_members location files ++ (path_members about.path ++ map (detail_member files) details))))

@@ -4,6 +4,8 @@ pub mod Details
 pub mod DocumentFaults
 pub mod Excerpts
 pub mod FaultData
+pub mod GithubCommands
+pub mod JsonObjects
 pub mod MemberTexts
 pub mod Places
 pub mod Reports

@@ -22,11 +22,11 @@ IsReport sentence_of about_of files location fault text =
     OfSaid (sentence_of fault) (λ sentence. text
     ≡ report_text files location (about_of fault) (visible sentence))
 
--- a text is the JSON of a fault at a location: of its sentence, of what else reports say of it, and of its
--- details
-abbrev pub IsFaultJson : {E : Type 0} → (E → Option (List ℕ)) → (E → AboutView) → (E → Option (List Detail))
-    → Files → Option SourceSpan → E → List ℕ → Type 0
-IsFaultJson sentence_of about_of details_of files location fault text =
+-- a text is the JSON of a fault at a location, an object of this type: of its sentence, of what else reports
+-- say of it, and of its details
+abbrev pub IsFaultJson : {E : Type 0} → List ℕ → (E → Option (List ℕ)) → (E → AboutView)
+    → (E → Option (List Detail)) → Files → Option SourceSpan → E → List ℕ → Type 0
+IsFaultJson of_type sentence_of about_of details_of files location fault text =
     OfSaid (sentence_of fault)
     (λ sentence. OfSaid (details_of fault)
-    (λ details. text ≡ compact_text (fault_data files location (about_of fault) sentence details)))
+    (λ details. text ≡ compact_text (fault_data of_type files location (about_of fault) sentence details)))

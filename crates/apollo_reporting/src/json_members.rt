@@ -1,17 +1,19 @@
 //! What JSON has of faults, added to its text. The error of each call is out of memory.
 ghost use Rattle.std.specs.Prelude.{◌≡◌, ◌++◌, OnOk, map, option_map, string_bytes};
 ghost use Rattle.apollo_reporting.specs.Abouts.{about_view};
-ghost use Rattle.apollo_reporting.specs.FaultData.{detail_member, fault_data, file_member, keys_data};
-ghost use Rattle.apollo_reporting.specs.FaultData.{path_members, path_of_file, place_members, span_data};
-ghost use Rattle.apollo_reporting.specs.FaultData.{span_members, steps_data, value_data};
+ghost use Rattle.apollo_reporting.specs.FaultData.{detail_member, fault_data, file_member, key_array};
+ghost use Rattle.apollo_reporting.specs.FaultData.{keys_data, path_members, path_of_file, place_members};
+ghost use Rattle.apollo_reporting.specs.FaultData.{root_data, span_data, span_members, steps_data, value_data};
 ghost use Rattle.apollo_reporting.specs.MemberTexts.{data_text, items_behind, member_text, members_behind};
 
 use crate::about::About;
 use crate::detail::{Detail, DetailValue};
-use crate::json_values::{push_key, push_number, push_string, push_string_member, push_text};
+use crate::json_values::{
+    push_definition, push_key, push_number, push_string, push_string_member, push_text,
+};
 use crate::places::{end, start};
 use crate::sources::Sources;
-use apollo_document::selection_path::SelectionPath;
+use apollo_document::selection_path::{ExecutableDefinitionName, SelectionPath};
 use graphql_nodes::line_column::LineColumn;
 use graphql_nodes::name::Name;
 use graphql_nodes::source::SourceSpan;
@@ -19,7 +21,7 @@ use graphql_nodes::take_apart;
 use std::alloc::{AllocError, Global};
 
 /// The path of the file of a location, where the sources have the file.
-fn file_path<S: Sources>(sources: &S, location: Option<SourceSpan>) -> Option<&str>
+pub(crate) fn file_path<S: Sources>(sources: &S, location: Option<SourceSpan>) -> Option<&str>
     ensures { option_map (λ path. path.now) result ≡ path_of_file location (S.files sources.now) }
 {
     Some(sources.file(location?.file)?.path.as_str())
@@ -42,6 +44,30 @@ fn push_place(
     push_number(text, at.map(|at| at.column))
 }
 
+/// Adds the definition that a path begins with, as an object.
+fn push_root(
+    alloc: Global,
+    text: &mut String,
+    root: &ExecutableDefinitionName,
+) -> Result<(), AllocError>
+    ensures { OnOk result (string_bytes text.new ≡ string_bytes text.old ++ data_text (root_data root.now)) }
+{
+    match root {
+        ExecutableDefinitionName::AnonymousOperation(kind) => {
+            push_definition(alloc, text, kind.name(), None)
+        }
+        ExecutableDefinitionName::NamedOperation(kind, name) => push_definition(
+            alloc,
+            text,
+            kind.name(),
+            Some(name.as_str()),
+        ),
+        ExecutableDefinitionName::Fragment(name) => {
+            push_definition(alloc, text, "fragment", Some(name.as_str()))
+        }
+    }
+}
+
 /// Adds response keys, each behind a comma.
 fn push_keys(alloc: Global, text: &mut String, keys: &[Name]) -> Result<(), AllocError>
     ensures { OnOk result (string_bytes text.new
@@ -54,15 +80,31 @@ fn push_keys(alloc: Global, text: &mut String, keys: &[Name]) -> Result<(), Allo
     Ok(())
 }
 
-/// Adds a path as an array.
-#[tactic(auto, using(crate::proofs::JsonLemmas::array_written))]
+/// Adds response keys as an array.
+#[tactic(auto, unfolding(crate::specs::MemberTexts::data_text), using(crate::proofs::JsonLemmas::array_written))]
+fn push_key_array(alloc: Global, text: &mut String, keys: &[Name]) -> Result<(), AllocError>
+    ensures { OnOk result (string_bytes text.new ≡ string_bytes text.old ++ data_text (key_array keys.now)) }
+{
+    match keys {
+        [] => text.push_str("[]"),
+        [first, others @ ..] => {
+            text.push_str("[")?;
+            push_string(alloc, text, first.as_str())?;
+            push_keys(alloc, text, others)?;
+            text.push_str("]")
+        }
+    }
+}
+
+/// Adds a path as an object.
 fn push_steps(alloc: Global, text: &mut String, path: &SelectionPath) -> Result<(), AllocError>
     ensures { OnOk result (string_bytes text.new ≡ string_bytes text.old ++ data_text (steps_data path.now)) }
 {
-    text.push_str("[")?;
-    push_string(alloc, text, path.root.to_string(alloc)?.as_str())?;
-    push_keys(alloc, text, path.nested_fields.as_slice())?;
-    text.push_str("]")
+    push_key(alloc, text, "{", "root")?;
+    push_root(alloc, text, &path.root)?;
+    push_key(alloc, text, ",", "keys")?;
+    push_key_array(alloc, text, path.nested_fields.as_slice())?;
+    text.push_str("}")
 }
 
 /// What writes JSON of faults that stand in these sources.
@@ -79,7 +121,7 @@ impl<S> Drop for JsonOfSources<'_, S> {
 
 impl<S: Sources> JsonOfSources<'_, S> {
     /// Adds the file of a location, behind a sign.
-    fn push_file(
+    pub fn push_file(
         &self,
         text: &mut String,
         sign: &str,
@@ -93,7 +135,11 @@ impl<S: Sources> JsonOfSources<'_, S> {
     }
 
     /// Adds where a location starts and ends.
-    fn push_span(&self, text: &mut String, location: Option<SourceSpan>) -> Result<(), AllocError>
+    pub fn push_span(
+        &self,
+        text: &mut String,
+        location: Option<SourceSpan>,
+    ) -> Result<(), AllocError>
         ensures { OnOk result (string_bytes text.new ≡ string_bytes text.old
             ++ members_behind (span_members location (S.files self.now.sources.now))) }
     {
@@ -158,20 +204,22 @@ impl<S: Sources> JsonOfSources<'_, S> {
         Ok(())
     }
 
-    /// Adds a fault as an object.
+    /// Adds a fault as an object of this type.
     pub fn push_fault(
         &self,
         text: &mut String,
+        of_type: &str,
         location: Option<SourceSpan>,
         about: &About<'_>,
         said: &str,
         details: &[Detail],
     ) -> Result<(), AllocError>
         ensures { OnOk result (string_bytes text.new ≡ string_bytes text.old
-            ++ data_text (fault_data (S.files self.now.sources.now) location (about_view about.now)
-            said.now details.now)) }
+            ++ data_text (fault_data of_type.now (S.files self.now.sources.now) location
+            (about_view about.now) said.now details.now)) }
     {
-        push_string_member(self.alloc, text, "{", "kind", about.kind.as_str())?;
+        push_string_member(self.alloc, text, "{", "type", of_type)?;
+        push_string_member(self.alloc, text, ",", "kind", about.kind.as_str())?;
         push_string_member(self.alloc, text, ",", "message", said)?;
         self.push_file(text, ",", location)?;
         self.push_span(text, location)?;

@@ -1,7 +1,7 @@
 //! Values and members of JSON, added to its text. The error of each call is out of memory.
 ghost use Rattle.std.specs.Prelude.{◌≡◌, ◌++◌, OnOk, option_map, string_bytes};
 ghost use Rattle.serde_json.specs.Data.{string};
-ghost use Rattle.apollo_reporting.specs.FaultData.{number_data, text_data};
+ghost use Rattle.apollo_reporting.specs.FaultData.{definition_data, number_data, text_data};
 ghost use Rattle.apollo_reporting.specs.MemberTexts.{data_text, key_text, member_text, members_behind};
 
 use serde_json::Value;
@@ -71,4 +71,20 @@ pub(crate) fn push_string_member(
 {
     push_key(alloc, text, sign, key)?;
     push_string(alloc, text, value)
+}
+
+/// Adds a definition as an object: what it is, and its name, or null where it has none.
+pub(crate) fn push_definition(
+    alloc: Global,
+    text: &mut String,
+    kind: &str,
+    name: Option<&str>,
+) -> Result<(), AllocError>
+    ensures { OnOk result (string_bytes text.new ≡ string_bytes text.old
+        ++ data_text (definition_data kind.now (option_map (λ name. name.now) name.entry))) }
+{
+    push_string_member(alloc, text, "{", "kind", kind)?;
+    push_key(alloc, text, ",", "name")?;
+    push_text(alloc, text, name)?;
+    text.push_str("}")
 }

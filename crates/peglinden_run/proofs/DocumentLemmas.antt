@@ -17,7 +17,7 @@ use Rattle.graphql_text.specs.Parses.{IsRefused}
 use Rattle.graphql_text.specs.declared.parse_error.ParseError.{ParseError}
 use Rattle.graphql_text.specs.declared.parse_error.ParseErrorKind.TheVariants as kinds
 use Rattle.graphql_text.specs.declared.parsing.ParseOptions.{ParseOptions}
-use Rattle.apollo_reporting.specs.TextErrors.{parse_error_about}
+use Rattle.apollo_reporting.specs.TextErrors.{parse_error_about, parse_error_details}
 use Rattle.program_io.specs.Files.{CannotBeRead, IsFileCause}
 use Rattle.program_io.specs.declared.file_error.FileError.{FileError}
 use Rattle.program_io.specs.declared.file_error.FileError.TheVariants as errors
@@ -25,7 +25,9 @@ use Rattle.peglinden_run.specs.Documents.{AreDocumentsAt, IsDocumentAt, IsDocume
 use Rattle.peglinden_run.specs.Documents.{texts_of}
 use Rattle.peglinden_run.specs.RefusedFiles.{AreReported, IsRefusedFile, IsRefusedText, IsReported}
 use Rattle.peglinden_run.specs.RefusedFiles.{if_reported}
-use Rattle.peglinden_run.specs.Reports.{IsReport}
+use Rattle.peglinden_run.specs.declared.form.Form.{Form}
+use Rattle.peglinden_run.specs.declared.reports.Subject.TheVariants as subjects
+use Rattle.peglinden_run.specs.Reports.{IsSaid}
 
 -- there is one document for each file
 pub documents-length : (held : List ℕ → List ℕ → Type 0) (number : ℕ) (paths : List (List ℕ))
@@ -57,7 +59,7 @@ the_last (inr (inl b)) no_a no_b = absurd (no_b b)
 the_last (inr (inr c)) no_a no_b = c
 
 -- the report of why a text is refused, which has no document, and where it is, in a file that has a number
-pub refused-text : (number : FileId) (path text : List ℕ) (options : ParseOptions) (source : SourceFile)
+pub refused-text : (form : Form) (number : FileId) (path text : List ℕ) (options : ParseOptions) (source : SourceFile)
     (error : ParseError) (report : List ℕ) → source ≡ record { path = path; text = text } → options ≡ usual
     → number.0 ≢ 0
     → ((definitions : List Definition) → spells_document number options.max_depth definitions
@@ -65,9 +67,10 @@ pub refused-text : (number : FileId) (path text : List ℕ) (options : ParseOpti
     → IsRefused (document number options.max_depth) (spells_document number options.max_depth)
     (document number (suc options.max_depth)).spells number (length source.text) (words_of options.max_tokens
     source.text) error → error.kind ≢ kinds.Memory
-    → IsReport ((number, source) ∷ []) (Some error.location) (parse_error_about error) report
-    → IsRefusedText number.0 path text report
-refused-text number path text options source error report is most some only refused other reports =
+    → IsSaid subjects.Refusal form ((number, source) ∷ []) (Some error.location) (parse_error_about error)
+    (Some (parse_error_details error)) report
+    → IsRefusedText form number.0 path text report
+refused-text form number path text options source error report is most some only refused other reports =
     let there = the_last refused other (λ (none : (number.0 ≡ 0) × (error.kind ≡ kinds.BuiltInFile)). some
     none.0) in (
       λ definitions spelled. other ((rw (most, is) at only) definitions spelled),
@@ -75,15 +78,15 @@ refused-text number path text options source error report is most some only refu
     )
 
 -- what is read of a text that a file may hold
-pub read-text : {B E : Type 0} (bytes_of : B → List ℕ) (held : List ℕ → List ℕ → Type 0) (may_fail : List ℕ
+pub read-text : {B E : Type 0} (form : Form) (bytes_of : B → List ℕ) (held : List ℕ → List ℕ → Type 0) (may_fail : List ℕ
     → Type 0) (number : ℕ) (path text : List ℕ) (r : Result (Result Document B) E) → held path text
-    → IfOk r (λ read. MatchResult read (IsDocumentOf number path text) (λ report. IsRefusedText number path
+    → IfOk r (λ read. MatchResult read (IsDocumentOf number path text) (λ report. IsRefusedText form number path
     text (bytes_of report)))
-    → IfOk r (λ read. MatchResult read (IsDocumentAt held number path) (λ report. IsRefusedFile held may_fail
+    → IfOk r (λ read. MatchResult read (IsDocumentAt held number path) (λ report. IsRefusedFile form held may_fail
     number path (bytes_of report)))
-read-text bytes_of held may_fail number path text (Ok (Ok document)) holds is = (text, (holds, is))
-read-text bytes_of held may_fail number path text (Ok (Err report)) holds is = inr (text, (holds, is))
-read-text bytes_of held may_fail number path text (Err error) holds is = tt
+read-text form bytes_of held may_fail number path text (Ok (Ok document)) holds is = (text, (holds, is))
+read-text form bytes_of held may_fail number path text (Ok (Err report)) holds is = inr (text, (holds, is))
+read-text form bytes_of held may_fail number path text (Err error) holds is = tt
 
 -- what keeps a file from being read, unless memory ran out
 pub unread : (held : List ℕ → Type 0) (may_fail : Type 0) (error : FileError)
@@ -109,16 +112,16 @@ documents-more held number (first ∷ paths) documents path document are is =
     (are.0, (are.1.0 ++ document ∷ [], (ap (λ l. l ++ document ∷ []) are.1.1.0, (are.1.1.1.0, rest))))
 
 -- and what is reported of it
-pub reported-more : (held : List ℕ → List ℕ → Type 0) (may_fail : List ℕ → Type 0) (number : ℕ)
+pub reported-more : (form : Form) (held : List ℕ → List ℕ → Type 0) (may_fail : List ℕ → Type 0) (number : ℕ)
     (paths : List (List ℕ)) (reports : List (Option (List ℕ))) (path : List ℕ) (report : Option (List ℕ))
-    → AreReported held may_fail number paths reports
-    → IsReported held may_fail (number + length paths) path report
-    → AreReported held may_fail number (paths ++ path ∷ []) (reports ++ report ∷ [])
-reported-more held may_fail number [] reports path report are is =
+    → AreReported form held may_fail number paths reports
+    → IsReported form held may_fail (number + length paths) path report
+    → AreReported form held may_fail number (paths ++ path ∷ []) (reports ++ report ∷ [])
+reported-more form held may_fail number [] reports path report are is =
     let one = rw (add-zero number) at is in
     (report, ([], (ap (λ l. l ++ report ∷ []) are, (one, refl))))
-reported-more held may_fail number (first ∷ paths) reports path report are is =
-    let rest = reported-more held may_fail _ paths are.1.0 path report are.1.1.1.1
+reported-more form held may_fail number (first ∷ paths) reports path report are is =
+    let rest = reported-more form held may_fail _ paths are.1.0 path report are.1.1.1.1
     (rw (next number (length paths)) at is) in
     (are.0, (are.1.0 ++ report ∷ [], (ap (λ l. l ++ report ∷ []) are.1.1.0, (are.1.1.1.0, rest))))
 
@@ -150,10 +153,10 @@ pub matched-err : {A B : Type 0} (r : Result A B) (y : B) (P : A → Type 0) (Q 
 matched-err r y P Q is fact = rw is at fact
 
 -- what is reported of so many of the files: this text, of so many that are refused
-pub record Reported (held : List ℕ → List ℕ → Type 0) (may_fail : List ℕ
+pub record Reported (form : Form) (held : List ℕ → List ℕ → Type 0) (may_fail : List ℕ
     → Type 0) (paths : List (Bor (List ℕ))) (upto : ℕ) (text : List ℕ) (count : ℕ) : Type 0 where
   pub reports : List (Option (List ℕ))
-  pub are : AreReported held may_fail 1 (texts_of (take upto paths)) reports
+  pub are : AreReported form held may_fail 1 (texts_of (take upto paths)) reports
   pub says : text ≡ flat_map if_reported reports
   pub counts : count ≡ count_by is_some reports
 
@@ -173,15 +176,15 @@ module _ (held : List ℕ → List ℕ → Type 0) (may_fail : List ℕ → Type
       (get_or paths i d).now document are placed)
 
   -- what is reported of the next file
-  pub next-reported : (report : Option (List ℕ)) (text after : List ℕ) (count more : ℕ)
-      → (i + 1 ≢ 0 → IsReported held may_fail (i + 1) (get_or paths i d).now report)
-      → Reported held may_fail paths i text count → after ≡ text ++ if_reported report
-      → more ≡ count + count_by is_some (report ∷ []) → Reported held may_fail paths (i + 1) after more
-  next-reported report text after count more is was adds counts =
+  pub next-reported : (form : Form) (report : Option (List ℕ)) (text after : List ℕ) (count more : ℕ)
+      → (i + 1 ≢ 0 → IsReported form held may_fail (i + 1) (get_or paths i d).now report)
+      → Reported form held may_fail paths i text count → after ≡ text ++ if_reported report
+      → more ≡ count + count_by is_some (report ∷ []) → Reported form held may_fail paths (i + 1) after more
+  next-reported form report text after count more is was adds counts =
       let placed = rw (numbered paths i below) at (is some_number) in
       record {
         reports = was.reports ++ report ∷ [];
-        are = rw (texts-more paths i d below) (reported-more held may_fail 1 (texts_of (take i paths))
+        are = rw (texts-more paths i d below) (reported-more form held may_fail 1 (texts_of (take i paths))
             was.reports (get_or paths i d).now report was.are placed);
         says = adds ∙ ap (λ l. l ++ if_reported report) was.says ∙ ap (λ l. flat_map if_reported was.reports
             ++ l) (sym (append-nil _)) ∙ sym (flat_map-append if_reported was.reports _);

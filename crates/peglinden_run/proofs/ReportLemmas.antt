@@ -8,13 +8,17 @@ use Rattle.graphql_nodes.specs.VisibleTexts.{visible}
 use Rattle.graphql_nodes.specs.declared.source.SourceSpan.{SourceSpan}
 use Rattle.serde_json.specs.Written.{compact_text}
 use Rattle.apollo_reporting.specs.Abouts.{AboutView}
-use Rattle.apollo_reporting.specs.FaultData.{fault_data}
+use Rattle.apollo_reporting.specs.FaultData.{fault_data, path_of_file}
+use Rattle.apollo_reporting.specs.GithubCommands.{command_text}
+use Rattle.apollo_reporting.specs.Places.{starts}
 use Rattle.apollo_reporting.specs.Reports.{report_text}
 use Rattle.apollo_reporting.specs.Said.{OfSaid}
 use Rattle.apollo_reporting.specs.declared.detail.Detail.{Detail}
-use Rattle.peglinden_run.specs.declared.reports.Form.{Form}
-use Rattle.peglinden_run.specs.declared.reports.Form.TheVariants as forms
-use Rattle.peglinden_run.specs.Reports.{Adds, IsFaultSaid, IsFormText, IsJsonLine, IsReport, SaysEach}
+use Rattle.peglinden_run.specs.declared.form.Form.{Form}
+use Rattle.peglinden_run.specs.declared.form.Form.TheVariants as forms
+use Rattle.peglinden_run.specs.declared.reports.Subject.{Subject}
+use Rattle.peglinden_run.specs.Reports.{Adds, IsCommandLine, IsFormText, IsJsonLine, IsReport, IsSaid, SaysEach}
+use Rattle.peglinden_run.specs.Reports.{type_of}
 
 -- what is a fact of what is said, or of something, is a fact of something
 some_said : {A : Type 0} (said : Option A) (Fact : A → Type 0) → OfSaid said Fact → (x : A) × Fact x
@@ -42,28 +46,46 @@ report_added sentence files location about report old middle new is one two =
     (report ++ codes "\n", (behind old report middle new one two, (says.0, ap (λ l. l ++ codes "\n") says.1)))
 
 -- and a line of JSON
-json_added : (sentence : Option (List ℕ)) (of_details : Option (List Detail)) (files : Files)
+json_added : (subject : Subject) (sentence : Option (List ℕ)) (of_details : Option (List Detail)) (files : Files)
     (location : Option SourceSpan) (about : AboutView) (json old middle new : List ℕ)
     → OfSaid sentence (λ s. OfSaid of_details (λ details. json
-    ≡ compact_text (fault_data files location about s details))) → middle ≡ old ++ json
-    → new ≡ middle ++ codes "\n" → Adds (IsJsonLine files location about of_details) old new
-json_added sentence of_details files location about json old middle new is one two =
+    ≡ compact_text (fault_data (type_of subject) files location about s details))) → middle ≡ old ++ json
+    → new ≡ middle ++ codes "\n" → Adds (IsJsonLine subject files location about of_details) old new
+json_added subject sentence of_details files location about json old middle new is one two =
     let says = some_said sentence _ is in
     let line = said_then of_details _ _ (λ details same. ap (λ l. l ++ codes "\n") same) says.1 in
     (json ++ codes "\n", (behind old json middle new one two, (says.0, line)))
 
+-- and a workflow command
+command_added : (sentence : Option (List ℕ)) (files : Files) (location : Option SourceSpan)
+    (command old middle new : List ℕ)
+    → OfSaid sentence (λ s. command ≡ command_text (path_of_file location files) (starts location files) s)
+    → middle ≡ old ++ command → new ≡ middle ++ codes "\n" → Adds (IsCommandLine files location) old new
+command_added sentence files location command old middle new is one two =
+    let says = some_said sentence _ is in
+    (
+      command ++ codes "\n",
+      (behind old command middle new one two, (says.0, ap (λ l. l ++ codes "\n") says.1)),
+    )
+
 -- what a form says, with its line end
-pub said_added : {E : Type 0} (form : Form) (sentence_of : E → Option (List ℕ)) (about_of : E → AboutView)
-    (details_of : E → Option (List Detail)) (files : Files) (location : Option SourceSpan) (fault : E)
-    (text old middle new : List ℕ)
-    → IsFormText form sentence_of about_of details_of files location fault text → middle ≡ old ++ text
-    → new ≡ middle ++ codes "\n"
-    → Adds (IsFaultSaid form files location (about_of fault) (details_of fault)) old new
-said_added forms.Words sentence_of about_of details_of files location fault text old middle new is one two =
-    report_added (sentence_of fault) files location (about_of fault) text old middle new is one two
-said_added forms.Json sentence_of about_of details_of files location fault text old middle new is one two =
-    json_added (sentence_of fault) (details_of fault) files location (about_of fault) text old middle new is
-    one two
+pub said_added : {E : Type 0} (subject : Subject) (form : Form) (sentence_of : E → Option (List ℕ))
+    (about_of : E → AboutView) (details_of : E → Option (List Detail)) (files : Files)
+    (location : Option SourceSpan) (fault : E) (text old middle new : List ℕ)
+    → IsFormText subject form sentence_of about_of details_of files location fault text
+    → middle ≡ old ++ text → new ≡ middle ++ codes "\n"
+    → Adds (IsSaid subject form files location (about_of fault) (details_of fault)) old new
+said_added subject forms.Words sentence_of about_of details_of files location fault text old middle new is one
+    two = report_added (sentence_of fault) files location (about_of fault) text old middle new is one two
+said_added subject forms.Json sentence_of about_of details_of files location fault text old middle new is one
+    two = json_added subject (sentence_of fault) (details_of fault) files location (about_of fault) text old
+    middle new is one two
+said_added subject forms.Github sentence_of about_of details_of files location fault text old middle new is
+    one two = command_added (sentence_of fault) files location text old middle new is one two
+
+-- what is added behind nothing
+pub added_alone : (P : List ℕ → Type 0) (old new : List ℕ) → old ≡ [] → Adds P old new → P new
+added_alone P old new none added = subst P (sym (added.1.0 ∙ ap (λ l. l ++ added.0) none)) added.1.1
 
 says-more : {A : Type 0} (Says : A → List ℕ → Type 0) (xs : List A) (x : A) (text said : List ℕ)
     → SaysEach Says xs text → Says x said → SaysEach Says (xs ++ x ∷ []) (text ++ said)

@@ -1,10 +1,10 @@
 -- What is said of all that is at fault.
-use Rattle.std.proofs.Common.{◌≡◌, ℕ, List, [], ◌∷◌, false, refl, subst, arith}
+use Rattle.std.proofs.Common.{◌≡◌, ℕ, List, [], ◌∷◌, Option, None, Some, false, refl, subst, arith}
 use Rattle.apollo_document.specs.Typable.{Fault as DocumentFault}
 use Rattle.apollo_meaning.specs.Faults.Collisions.{Fault}
 use Rattle.leafcheck.specs.declared.leaf_fault.LeafFault.{LeafFault}
-use Rattle.peglinden_run.specs.declared.reports.Form.{Form}
-use Rattle.peglinden_run.specs.Findings.{AreSaid, Found, SaysAll, any_fault}
+use Rattle.peglinden_run.specs.declared.form.Form.{Form}
+use Rattle.peglinden_run.specs.Findings.{AreSaid, Found, SaysAll, any_fault, first_of}
 use Rattle.peglinden_run.specs.Reports.{Adds, SaysEach}
 use Rattle.peglinden_run.proofs.ReportLemmas.{three-added}
 
@@ -36,8 +36,24 @@ module _ (OfSchema : Fault → List ℕ → Type 0) (OfDocument : DocumentFault 
   says-nothing [] (y ∷ ys) zs it a b c is = absurd (grind (arith, is, b))
   says-nothing [] [] (z ∷ zs) it a b c is = absurd (grind (arith, is, c))
 
+-- of nothing nothing is taken
+none-taken : (most : ℕ) (xs : List Fault) (ys : List DocumentFault) (zs : List LeafFault) (it : Found)
+    → xs ≡ it.schema → ys ≡ it.document → zs ≡ it.leaves → any_fault it ≡ false
+    → any_fault (first_of (Some most) it) ≡ false
+none-taken most [] [] [] it a b c is = rw (← a, ← b, ← c) refl
+none-taken most (x ∷ xs) ys zs it a b c is = absurd (grind (arith, is, a))
+none-taken most [] (y ∷ ys) zs it a b c is = absurd (grind (arith, is, b))
+none-taken most [] [] (z ∷ zs) it a b c is = absurd (grind (arith, is, c))
+
+-- of nothing the first is nothing
+none-first : (most : Option ℕ) (it : Found) → any_fault it ≡ false → any_fault (first_of most it) ≡ false
+none-first None it is = is
+none-first (Some most) it is = none-taken most it.schema it.document it.leaves it refl refl refl is
+
 -- no form says anything
-pub nothing_said : (form : Form) (it : Found) (text : List ℕ) → any_fault it ≡ false → text ≡ []
-    → AreSaid form it text
-nothing_said form it text is none = rw none (says-nothing _ _ _ it.schema it.document it.leaves it refl refl
-    refl is)
+pub nothing_said : (form : Form) (most : Option ℕ) (it : Found) (text : List ℕ) → any_fault it ≡ false
+    → text ≡ [] → AreSaid form (first_of most it) text
+nothing_said form most it text is none =
+    let first = first_of most it in
+    rw none (says-nothing _ _ _ first.schema first.document first.leaves first refl refl refl (none-first most
+    it is))

@@ -4,7 +4,6 @@ use Rattle.std.proofs.lemmas.List.{length-map, map-append}
 use Rattle.std.specs.Borrow.{Bor}
 use Rattle.graphql_nodes.specs.Sources.{merged}
 use Rattle.graphql_ast.specs.declared.document.Document.{Document}
-use Rattle.apollo_schema.specs.declared.schema.Schema.{Schema}
 use Rattle.apollo_schema.specs.MeantSchema.{MeansSchema}
 use Rattle.apollo_meaning.specs.Faults.ListFaults.{faults_of}
 use Rattle.apollo_document.specs.Documents.{IsDocumentOf}
@@ -41,20 +40,19 @@ first-fits held first second documents are = omega (
 
 -- what was built of both parts
 pub typed-of : (held : List ℕ → List ℕ → Type 0) (schema_paths document_paths : List (List ℕ)) (documents
-    first second : List Document) (given : CompileOptions) (schema : Schema) (typed : TypedDocument)
+    first second : List Document) (given : CompileOptions) (typed : TypedDocument)
     → given ≡ no_options → first ≡ schema_part schema_paths documents
     → second ≡ document_part schema_paths documents → AreBothAt held schema_paths document_paths documents
-    → MeansSchema 0 given.adopt_orphan_extensions (schema_list given first) schema
+    → MeansSchema 0 given.adopt_orphan_extensions (schema_list given first) typed.schema
     → typed.findings.schema_faults.items ≡ faults_of given.adopt_orphan_extensions (schema_list given first)
-    → IsDocumentOf (Some schema) (executable_list true second) typed.document
-    → typed.findings.document_faults.items ≡ document_faults (Some schema) (executable_list true second)
-    → LeavesOut (IsEcho typed.findings.document_faults.items) (leaf_faults schema typed.document)
+    → IsDocumentOf (Some typed.schema) (executable_list true second) typed.document
+    → typed.findings.document_faults.items ≡ document_faults (Some typed.schema) (executable_list true second)
+    → LeavesOut (IsEcho typed.findings.document_faults.items) (leaf_faults typed.schema typed.document)
     typed.findings.leaf_faults.items
     → typed.findings.sources ≡ merged (all_sources first) (all_sources second)
     → IsTyped held schema_paths document_paths typed
-typed-of held schema_paths document_paths documents first second given schema typed same front back read means
+typed-of held schema_paths document_paths documents first second given typed same front back read means
     schema_are is are leaves_are sources = record {
-      schema = schema;
       documents = documents;
       read = read;
       means = rw (same, front) at means;

@@ -2,12 +2,16 @@ pub mod DocumentCommands
 pub mod Documents
 pub mod Echoes
 pub mod Ended
+pub mod FieldLines
 pub mod FieldsCommand
 pub mod Findings
+pub mod Forms
 pub mod FormatCommand
+pub mod Lines
 pub mod LookedUp
 pub mod LookupCommand
 pub mod Naming
+pub mod Printed
 pub mod RefusedFiles
 pub mod Reports
 pub mod Requests

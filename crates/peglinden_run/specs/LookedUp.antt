@@ -6,10 +6,17 @@ use Rattle.graphql_nodes.specs.Sources.{Files}
 use Rattle.graphql_nodes.specs.declared.source.SourceSpan.{SourceSpan}
 use Rattle.graphql_ast.specs.declared.definition.Definition.TheVariants as d
 use Rattle.graphql_printing.specs.Members.{enum_value_text, field_text, input_value_text}
+use Rattle.apollo_coordinate.specs.CoordinateText.{coordinate_text}
+use Rattle.apollo_coordinate.specs.declared.schema_coordinate.SchemaCoordinate.{SchemaCoordinate}
+use Rattle.apollo_reporting.specs.FaultData.{text_data}
+use Rattle.apollo_reporting.specs.JsonObjects.{placed_members}
 use Rattle.apollo_types.specs.TypeWriteOut.{type_location, write_type}
 use Rattle.apollo_coordinate.specs.declared.lookup_answers.SchemaCoordinateLookup.{SchemaCoordinateLookup}
 use Rattle.apollo_coordinate.specs.declared.lookup_answers.SchemaCoordinateLookup.TheVariants as answers
+use Rattle.peglinden_run.specs.declared.form.Form.{Form}
+use Rattle.peglinden_run.specs.declared.form.Form.TheVariants as forms
 use Rattle.peglinden_run.specs.Ended.{ended}
+use Rattle.peglinden_run.specs.Lines.{object_line}
 
 -- where what a coordinate points to stands
 abbrev pub found_location : SchemaCoordinateLookup → Option SourceSpan
@@ -39,3 +46,20 @@ found_definition (answers.Argument found) = input_value_text found.now.value ++ 
 -- what is written of what a coordinate points to: where that stands, and its definition
 abbrev pub found_text : Files → SchemaCoordinateLookup → List ℕ
 found_text files found = place_comment files (found_location found) ++ found_definition found
+
+-- the line of JSON of a definition: its coordinate, its text, and where it stands
+abbrev pub definition_line : Files → List ℕ → List ℕ → Option SourceSpan → List ℕ
+definition_line files coordinate text location = object_line (codes "definition")
+    (((codes "coordinate", text_data (Some coordinate)) ∷ (codes "text", text_data (Some text)) ∷ [])
+    ++ placed_members location files)
+
+-- that of what a coordinate points to
+abbrev pub found_line : Files → SchemaCoordinate → SchemaCoordinateLookup → List ℕ
+found_line files coordinate found =
+    definition_line files (coordinate_text coordinate) (found_definition found) (found_location found)
+
+-- what a form has of what a coordinate points to
+abbrev pub form_found : Form → Files → SchemaCoordinate → SchemaCoordinateLookup → List ℕ
+form_found forms.Json files coordinate found = found_line files coordinate found
+form_found forms.Words files coordinate found = found_text files found
+form_found forms.Github files coordinate found = found_text files found

@@ -17,9 +17,9 @@ type_input typing = any_input typing.schema.items || any_input typing.documents.
 
 -- the request names standard input among its files
 abbrev pub names_input : Request → Bool
-names_input (requests.Schema adopt ignore_builtin json files) = any_input files.items
+names_input (requests.Schema adopt ignore_builtin reporting files) = any_input files.items
 names_input (requests.Check typing) = type_input typing
 names_input (requests.Typed typing) = type_input typing
 names_input (requests.Fields typing) = type_input typing
-names_input (requests.Lookup coordinate files) = any_input files.items
-names_input (requests.Format check files) = any_input files.items
+names_input (requests.Lookup coordinate reporting files) = any_input files.items
+names_input (requests.Format check reporting files) = any_input files.items

@@ -1,5 +1,5 @@
 -- How a run ends.
-use Rattle.std.specs.Prelude.{◌≡◌, ◌⊎◌, ℕ, Bool, true, false, List, Option, None, Some, string_bytes}
+use Rattle.std.specs.Prelude.{◌≡◌, ◌⊎◌, ℕ, Bool, true, false, List, [], Option, None, Some, string_bytes}
 use Rattle.std.specs.Io.KnownBytes.{Appends}
 use Rattle.clap.specs.Walk.{Text}
 use Rattle.program_io.specs.Files.{may_fail_with_input, with_input}
@@ -7,13 +7,15 @@ use Rattle.program_io.specs.Writing.{IsBegun}
 use Rattle.program_io.specs.declared.status.Status.{Status}
 use Rattle.program_io.specs.declared.status.Status.TheVariants as s
 use Rattle.peglinden_words.specs.Refusals.{are_mistaken, call_for_help}
-use Rattle.peglinden_words.specs.Requests.{asked, asked_of}
+use Rattle.peglinden_words.specs.Requests.{Asked, asked, asked_of, reporting_of}
 use Rattle.peglinden_words.specs.declared.request.Request.{Request}
 use Rattle.peglinden_run.specs.declared.answer.Answer.{Answer}
 use Rattle.peglinden_run.specs.declared.failure.Failure.{Failure}
+use Rattle.peglinden_run.specs.declared.form.Form.TheVariants as forms
+use Rattle.peglinden_run.specs.Forms.{form_of}
 use Rattle.peglinden_run.specs.Naming.{names_input}
 use Rattle.peglinden_run.specs.Requests.{IsAnswerTo, IsCauseTo}
-use Rattle.peglinden_run.specs.Status.{message_of, status_of}
+use Rattle.peglinden_run.specs.Status.{message_of, output_of, status_of}
 
 -- In all of this `held` says which bytes the file of a path may hold, and `may_fail` whether reading it may
 -- fail. `old` is what stood on standard output before, and `new` what stands there now, if these bytes are
@@ -24,6 +26,19 @@ abbrev pub IsUnanswered : Status → Type 0
 IsUnanswered s.Refused = Unit {0}
 IsUnanswered s.Exhausted = Unit {0}
 IsUnanswered _ = ⊥
+
+-- the request asks for reports in words
+abbrev pub IsInWords : Asked → Type 0
+IsInWords wanted = form_of (reporting_of wanted) ≡ forms.Words
+
+-- if words ask for something, it is in words
+abbrev pub AsksForWords : Option Asked → Type 0
+AsksForWords None = Unit {0}
+AsksForWords (Some wanted) = IsInWords wanted
+
+-- a text is appended, unless it is empty
+abbrev pub AppendsAny : Option (List ℕ) → Option (List ℕ) → List ℕ → Type 0
+AppendsAny old new text = (text ≡ []) ⊎ Appends old new text
 
 -- a run that has its whole text ends so. The text is appended. Or the writer failed, or its flush did, and a
 -- beginning of it is appended
@@ -38,11 +53,11 @@ IsTextWritten text old new _ = ⊥
 abbrev pub IsWritten : Answer → Option (List ℕ) → Option (List ℕ) → Option (List ℕ) → Option (List ℕ) → Status
     → Type 0
 IsWritten answer old new old_errors new_errors s.Done = (answer.has_faults ≡ false)
-    × Appends old new (string_bytes answer.output)
+    × Appends old new (string_bytes answer.printed.output)
 IsWritten answer old new old_errors new_errors s.Faults = (answer.has_faults ≡ true)
-    × Appends old new (string_bytes answer.output)
-    × IsBegun (string_bytes answer.errors) old_errors new_errors
-IsWritten answer old new old_errors new_errors s.NotWritten = IsBegun (string_bytes answer.output) old new
+    × Appends old new (string_bytes answer.printed.output)
+    × IsBegun (string_bytes answer.printed.errors) old_errors new_errors
+IsWritten answer old new old_errors new_errors s.NotWritten = IsBegun (string_bytes answer.printed.output) old new
 IsWritten answer old new old_errors new_errors _ = ⊥
 
 -- the request has an answer, and a run that has it ends so
@@ -51,22 +66,33 @@ abbrev pub WritesAnswer : Request → (List ℕ → List ℕ → Type 0) → Opt
 WritesAnswer request held old new old_errors new_errors status = (answer : Answer)
     × (IsAnswerTo request held answer × IsWritten answer old new old_errors new_errors status)
 
--- there is a cause for which the request has no answer, and it ends a run so. A beginning of what is reported
--- of it is appended on standard error, and all of it unless that writer fails
+-- a run that has no answer for this cause ends so. What standard output is to say of it is appended there.
+-- Then a beginning of what is reported is appended on standard error, and all of it unless that writer fails.
+-- Or a beginning of what standard output is to say is appended
+abbrev pub IsFailureWritten : Failure → Option (List ℕ) → Option (List ℕ) → Option (List ℕ) → Option (List ℕ)
+    → Status → Type 0
+IsFailureWritten failure old new old_errors new_errors s.NotWritten = IsBegun (output_of failure) old new
+IsFailureWritten failure old new old_errors new_errors status = (status_of failure ≡ status)
+    × AppendsAny old new (output_of failure) × IsBegun (message_of failure) old_errors new_errors
+
+-- there is a cause for which the request has no answer, and a run that has none for this ends so
 abbrev pub HasCause : Request → (List ℕ → List ℕ → Type 0) → (List ℕ → Type 0) → Option (List ℕ)
-    → Option (List ℕ) → Status → Type 0
-HasCause request held may_fail old_errors new_errors status = (failure : Failure)
-    × ((status_of failure ≡ status) × IsCauseTo request held may_fail failure
-    × IsBegun (message_of failure) old_errors new_errors)
+    → Option (List ℕ) → Option (List ℕ) → Option (List ℕ) → Status → Type 0
+HasCause request held may_fail old new old_errors new_errors status = (failure : Failure)
+    × (IsCauseTo request held may_fail failure
+    × IsFailureWritten failure old new old_errors new_errors status)
 
 -- a run on the request over these files may end so. There is a cause for which it has no answer, or its
--- answer is written, to its end or in part
+-- answer is written. Either is written to its end or in part
 abbrev pub MayEnd : Request → (List ℕ → List ℕ → Type 0) → (List ℕ → Type 0) → Option (List ℕ)
     → Option (List ℕ) → Option (List ℕ) → Option (List ℕ) → Status → Type 0
 MayEnd request held may_fail old new old_errors new_errors s.Refused =
-    HasCause request held may_fail old_errors new_errors s.Refused
+    HasCause request held may_fail old new old_errors new_errors s.Refused
 MayEnd request held may_fail old new old_errors new_errors s.Exhausted =
-    HasCause request held may_fail old_errors new_errors s.Exhausted
+    HasCause request held may_fail old new old_errors new_errors s.Exhausted
+MayEnd request held may_fail old new old_errors new_errors s.NotWritten =
+    WritesAnswer request held old new old_errors new_errors s.NotWritten
+    ⊎ HasCause request held may_fail old new old_errors new_errors s.NotWritten
 MayEnd request held may_fail old new old_errors new_errors status =
     WritesAnswer request held old new old_errors new_errors status
 

@@ -1,5 +1,5 @@
 -- What the command `schema` answers: GraphQL specification of October 2021, section 3.
-use Rattle.std.specs.Prelude.{◌≡◌, ℕ, Bool, List, string_bytes}
+use Rattle.std.specs.Prelude.{◌≡◌, ℕ, List, length}
 use Rattle.graphql_ast.specs.declared.document.Document.{Document}
 use Rattle.apollo_schema.specs.declared.schema.Schema.{Schema}
 use Rattle.apollo_schema.specs.MeantSchema.{MeansSchema}
@@ -13,9 +13,13 @@ use Rattle.apollo_compiler.specs.declared.compile_error.CompileError.TheVariants
 use Rattle.peglinden_run.specs.declared.answer.Answer.{Answer}
 use Rattle.peglinden_run.specs.declared.failure.Failure.{Failure}
 use Rattle.peglinden_run.specs.declared.failure.Failure.TheVariants as failures
+use Rattle.peglinden_run.specs.declared.form.Form.{Form}
+use Rattle.peglinden_words.specs.declared.request.Reporting.{Reporting}
 use Rattle.peglinden_run.specs.Documents.{AreDocumentsAt}
 use Rattle.peglinden_run.specs.Ended.{ended}
 use Rattle.peglinden_run.specs.Findings.{IsAnswerOf, of_schema}
+use Rattle.peglinden_run.specs.Forms.{form_of}
+use Rattle.peglinden_run.specs.Lines.{form_text}
 use Rattle.peglinden_run.specs.RefusedFiles.{IsFilesReport}
 
 -- In all of this `held` says which bytes the file of a path may hold, and `may_fail` whether reading it may
@@ -33,24 +37,25 @@ pub record IsSchemaOf (held : List ℕ → List ℕ
   pub sources : schema.sources ≡ all_sources documents
   pub are : faults ≡ faults_of options.adopt_orphan_extensions (schema_list options documents)
 
--- the answer is the write-out of that schema, or with the flag what JSON says of its faults
+-- the answer is the write-out of that schema, in the form that is asked for, and what is said of its faults
 pub record IsSchemaAnswer (held : List ℕ → List ℕ
-    → Type 0) (options : CompileOptions) (json : Bool) (paths : List (List ℕ)) (answer : Answer) :
+    → Type 0) (options : CompileOptions) (reporting : Reporting) (paths : List (List ℕ)) (answer : Answer) :
     Type 0 where
   pub schema : Schema
   pub faults : List Fault
   pub means : IsSchemaOf held options paths schema faults
-  pub is : IsAnswerOf json (of_schema schema.sources faults) (ended (write_schema schema)) answer
+  pub is : IsAnswerOf reporting (length paths) (of_schema schema.sources faults)
+      (form_text (form_of reporting) (ended (write_schema schema))) answer
 
 -- why there is no such answer: a file is refused, or the extensions spend the numbers; that memory ran out
 -- says nothing of the files
-abbrev pub IsSchemaCause : (List ℕ → List ℕ → Type 0) → (List ℕ → Type 0) → CompileOptions → List (List ℕ)
-    → Failure → Type 0
-IsSchemaCause held may_fail options paths (failures.Files reports) =
-    IsFilesReport held may_fail paths (string_bytes reports)
-IsSchemaCause held may_fail options paths (failures.Exhausted spent.Memory) = Unit {0}
-IsSchemaCause held may_fail options paths (failures.Exhausted spent.ExtensionIds) =
+abbrev pub IsSchemaCause : Form → (List ℕ → List ℕ → Type 0) → (List ℕ → Type 0) → CompileOptions
+    → List (List ℕ) → Failure → Type 0
+IsSchemaCause form held may_fail options paths (failures.Files printed) =
+    IsFilesReport form held may_fail paths printed
+IsSchemaCause form held may_fail options paths (failures.Exhausted spent.Memory) = Unit {0}
+IsSchemaCause form held may_fail options paths (failures.Exhausted spent.ExtensionIds) =
     (documents : List Document)
     × (AreDocumentsAt held 1 paths documents
     × SpendsIds 0 options.adopt_orphan_extensions (schema_list options documents))
-IsSchemaCause held may_fail options paths _ = ⊥
+IsSchemaCause form held may_fail options paths _ = ⊥

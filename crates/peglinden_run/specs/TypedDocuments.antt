@@ -1,9 +1,8 @@
 -- Documents of files, typed over the schema of files: GraphQL specification of October 2021, sections 2.2 to
 -- 2.8 and 3.
-use Rattle.std.specs.Prelude.{◌≡◌, ◌++◌, ℕ, true, false, List, Some, length, take, drop, string_bytes}
+use Rattle.std.specs.Prelude.{◌≡◌, ◌++◌, ℕ, true, false, List, Some, length, take, drop}
 use Rattle.graphql_nodes.specs.Sources.{merged}
 use Rattle.graphql_ast.specs.declared.document.Document.{Document}
-use Rattle.apollo_schema.specs.declared.schema.Schema.{Schema}
 use Rattle.apollo_schema.specs.MeantSchema.{MeansSchema}
 use Rattle.apollo_meaning.specs.Faults.ListFaults.{faults_of}
 use Rattle.apollo_meaning.specs.Order.SpentIds.{SpendsIds}
@@ -14,6 +13,7 @@ use Rattle.leafcheck.specs.LeafFaults.{leaf_faults}
 use Rattle.apollo_compiler.specs.declared.compile_error.CompileError.TheVariants as spent
 use Rattle.peglinden_run.specs.declared.failure.Failure.{Failure}
 use Rattle.peglinden_run.specs.declared.failure.Failure.TheVariants as failures
+use Rattle.peglinden_run.specs.declared.form.Form.{Form}
 use Rattle.peglinden_run.specs.declared.typed_documents.TypedDocument.{TypedDocument}
 use Rattle.peglinden_run.specs.Documents.{AreDocumentsAt}
 use Rattle.peglinden_run.specs.Echoes.{IsEcho, LeavesOut}
@@ -40,32 +40,31 @@ document_part schema_paths documents = drop (length schema_paths) documents
 -- that don't only repeat these, and the source files of both
 pub record IsTyped (held : List ℕ → List ℕ
     → Type 0) (schema_paths document_paths : List (List ℕ)) (typed : TypedDocument) : Type 0 where
-  pub schema : Schema
   -- the documents of all files
   pub documents : List Document
   pub read : AreBothAt held schema_paths document_paths documents
-  pub means : MeansSchema 0 false (schema_list no_options (schema_part schema_paths documents)) schema
-  pub is : IsDocumentOf (Some schema) (executable_list true (document_part schema_paths documents))
+  pub means : MeansSchema 0 false (schema_list no_options (schema_part schema_paths documents)) typed.schema
+  pub is : IsDocumentOf (Some typed.schema) (executable_list true (document_part schema_paths documents))
       typed.document
   pub schema_are : typed.findings.schema_faults.items
       ≡ faults_of false (schema_list no_options (schema_part schema_paths documents))
   pub are : typed.findings.document_faults.items
-      ≡ document_faults (Some schema) (executable_list true (document_part schema_paths documents))
-  pub leaves_are : LeavesOut (IsEcho typed.findings.document_faults.items) (leaf_faults schema typed.document)
-      typed.findings.leaf_faults.items
+      ≡ document_faults (Some typed.schema) (executable_list true (document_part schema_paths documents))
+  pub leaves_are : LeavesOut (IsEcho typed.findings.document_faults.items)
+      (leaf_faults typed.schema typed.document) typed.findings.leaf_faults.items
   pub sources : typed.findings.sources
       ≡ merged (all_sources (schema_part schema_paths documents))
       (all_sources (document_part schema_paths documents))
 
 -- why there is no such document. A file is refused, or the extensions of the schema spend the numbers. That
 -- memory ran out says nothing of the files
-abbrev pub IsTypedCause : (List ℕ → List ℕ → Type 0) → (List ℕ → Type 0) → List (List ℕ) → List (List ℕ)
-    → Failure → Type 0
-IsTypedCause held may_fail schema_paths document_paths (failures.Files reports) =
-    IsFilesReport held may_fail (schema_paths ++ document_paths) (string_bytes reports)
-IsTypedCause held may_fail schema_paths document_paths (failures.Exhausted spent.Memory) = Unit {0}
-IsTypedCause held may_fail schema_paths document_paths (failures.Exhausted spent.ExtensionIds) =
+abbrev pub IsTypedCause : Form → (List ℕ → List ℕ → Type 0) → (List ℕ → Type 0) → List (List ℕ)
+    → List (List ℕ) → Failure → Type 0
+IsTypedCause form held may_fail schema_paths document_paths (failures.Files printed) =
+    IsFilesReport form held may_fail (schema_paths ++ document_paths) printed
+IsTypedCause form held may_fail schema_paths document_paths (failures.Exhausted spent.Memory) = Unit {0}
+IsTypedCause form held may_fail schema_paths document_paths (failures.Exhausted spent.ExtensionIds) =
     (documents : List Document)
     × (AreBothAt held schema_paths document_paths documents
     × SpendsIds 0 false (schema_list no_options (schema_part schema_paths documents)))
-IsTypedCause held may_fail schema_paths document_paths _ = ⊥
+IsTypedCause form held may_fail schema_paths document_paths _ = ⊥

@@ -18,7 +18,7 @@ use std::alloc::Global;
 /// any.
 ///
 /// `NoCoordinate` comes for `lookup` with a text that is no coordinate, before a file is read. `Files` comes
-/// where a file can't be read or is no document, and reports each. `Exhausted` comes with `ExtensionIds` only
+/// where a file can't be read or is no document, and says so of each, in the form that is asked for. `Exhausted` comes with `ExtensionIds` only
 /// where the numbers don't suffice for the extensions of the schema. With `Memory` it comes where memory ran
 /// out, and says nothing of the files. There is no other error.
 pub fn answer_to<F: Files>(
@@ -34,25 +34,27 @@ pub fn answer_to<F: Files>(
         Request::Schema {
             adopt,
             ignore_builtin,
-            json,
+            reporting,
             files: paths,
         } => {
             let options = CompileOptions {
                 adopt_orphan_extensions: *adopt,
                 ignore_builtin_redefinitions: *ignore_builtin,
             };
-            schema_answer(alloc, keys, options, *json, files, paths.as_slice())
+            schema_answer(alloc, keys, options, reporting, files, paths.as_slice())
         }
         Request::Check(typing) => document_answer(alloc, keys, Shown::Nothing, typing, files),
         Request::Typed(typing) => document_answer(alloc, keys, Shown::WriteOut, typing, files),
         Request::Fields(typing) => document_answer(alloc, keys, Shown::Fields, typing, files),
         Request::Lookup {
             coordinate,
+            reporting,
             files: paths,
-        } => lookup_answer(alloc, keys, coordinate, files, paths.as_slice()),
+        } => lookup_answer(alloc, keys, coordinate, reporting, files, paths.as_slice()),
         Request::Format {
             check,
+            reporting,
             files: paths,
-        } => format_answer(alloc, *check, files, paths.as_slice()),
+        } => format_answer(alloc, *check, reporting, files, paths.as_slice()),
     }
 }

@@ -1,13 +1,17 @@
 //! The commands on documents over a schema: `check`, `typed` and `fields`.
 ghost use Rattle.std.specs.Prelude.{◌≡◌, IfErr, IfOk, string_bytes};
-ghost use Rattle.peglinden_run.specs.DocumentCommands.{IsDocumentAnswer, IsTypingCause, output_of};
+ghost use Rattle.peglinden_run.specs.DocumentCommands.{IsDocumentAnswer, IsTypingCause, form_fields};
+ghost use Rattle.peglinden_run.specs.DocumentCommands.{output_of};
 
 use crate::answer::Answer;
 use crate::ended::ended_text;
 use crate::failure::Failure;
+use crate::field_lines::field_lines;
 use crate::fields_command::fields_text;
-use crate::typed_documents::type_documents;
-use apollo_executable::document::ExecutableDocument;
+use crate::form::{Form, form_of};
+use crate::lines::form_text;
+use crate::typed_documents::{TypedDocument, type_documents};
+use apollo_reporting::source_lines::SourceLines;
 use graphql_nodes::collections::hash_keys::HashKeys;
 use peglinden_words::request::Typing;
 use program_io::files::Files;
@@ -25,7 +29,7 @@ pub enum Shown {
 }
 
 /// The answer of a command that types these documents over their schema. It is what it shows of the typed
-/// document, or with `json` the JSON of all faults in place of that.
+/// document, and what is said of its faults.
 ///
 /// The errors are those of [`type_documents`].
 pub(crate) fn document_answer<F: Files>(
@@ -40,25 +44,49 @@ pub(crate) fn document_answer<F: Files>(
 {
     let schema_paths = typing.schema.as_slice();
     let document_paths = typing.documents.as_slice();
-    let typed = type_documents(alloc, keys, files, schema_paths, document_paths)?;
-    let output = shown_text(alloc, shown, &typed.document)?;
-    Ok(typed.findings.answer(alloc, typing.json, output)?)
+    let form = form_of(&typing.reporting);
+    let typed = type_documents(alloc, keys, form, files, schema_paths, document_paths)?;
+    let output = shown_text(alloc, form, shown, &typed)?;
+    let count = schema_paths.len().saturating_add(document_paths.len());
+    Ok(
+        typed
+            .findings
+            .answer(alloc, &typing.reporting, count, output)?,
+    )
 }
 
-/// What goes to standard output of a typed document. The error is out of memory.
+/// What a command shows of a typed document, in a form. The error is out of memory.
 fn shown_text(
     alloc: Global,
+    form: Form,
     shown: Shown,
-    document: &ExecutableDocument,
+    typed: &TypedDocument,
 ) -> Result<String, AllocError>
-    ensures { IfOk result (λ text. string_bytes text ≡ output_of shown document.now) }
+    ensures { IfOk result (λ text. string_bytes text ≡ output_of form shown typed.now) }
 {
     match shown {
         Shown::Nothing => Ok(String::new(alloc)),
         Shown::WriteOut => {
-            let written = document.to_ast(alloc)?;
-            ended_text(alloc, written.definitions.as_slice())
+            let written = typed.document.to_ast(alloc)?;
+            form_text(
+                alloc,
+                form,
+                ended_text(alloc, written.definitions.as_slice())?,
+            )
         }
-        Shown::Fields => fields_text(alloc, document),
+        Shown::Fields => form_fields(alloc, form, typed),
+    }
+}
+
+/// The fields that the operations of a typed document reach, in a form. The error is out of memory.
+fn form_fields(alloc: Global, form: Form, typed: &TypedDocument) -> Result<String, AllocError>
+    ensures { IfOk result (λ text. string_bytes text ≡ form_fields form typed.now) }
+{
+    match form {
+        Form::Json => {
+            let lines = SourceLines::new(alloc, &typed.findings.sources)?;
+            field_lines(alloc, &lines, &typed.schema, &typed.document)
+        }
+        Form::Words | Form::Github => fields_text(alloc, &typed.document),
     }
 }

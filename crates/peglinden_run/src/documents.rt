@@ -6,7 +6,9 @@ ghost use Rattle.peglinden_run.specs.Documents.{texts_of};
 ghost use Rattle.peglinden_run.specs.RefusedFiles.{IsFilesCause, IsRefusedFile, IsRefusedText};
 
 use crate::failure::Failure;
-use crate::reports::{parse_report, push_count, unread_report};
+use crate::form::Form;
+use crate::printed::{Tally, arranged};
+use crate::reports::{parse_report, unread_report};
 use apollo_compiler::text::{ParseErrorKind, ParseOptions, parse_document};
 use graphql_ast::document::Document;
 use graphql_nodes::collections::shared::Shared;
@@ -18,24 +20,25 @@ use std::alloc::{AllocError, Global};
 
 /// The documents of the files of these paths, each under its place among them as its number, from 1 on.
 ///
-/// `Files` reports each file that can't be read or is no document, and how many they are; all files are
-/// looked at. `Exhausted` comes where memory ran out. There is no other error.
+/// `Files` says in this form of each file that it can't be read or is no document, and how many they are; all
+/// files are looked at. `Exhausted` comes where memory ran out. There is no other error.
 pub fn read_documents<F: Files>(
     alloc: Global,
+    form: Form,
     files: &F,
     paths: &[&str],
 ) -> Result<Vec<Document>, Failure>
     ensures documents { IfOk result (λ documents.
         AreDocumentsAt (F.holds files.now) 1 (texts_of paths.now) documents.items) }
     ensures causes { IfErr result
-        (IsFilesCause (F.holds files.now) (F.may_fail files.now) (texts_of paths.now)) }
+        (IsFilesCause form (F.holds files.now) (F.may_fail files.now) (texts_of paths.now)) }
 {
     let mut documents = Vec::new(alloc);
     let mut reports = String::new(alloc);
     let mut refused: usize = 0;
     for index in 0..paths.len() {
         let number = FileId(index as u64 + 1);
-        match read_file(alloc, files, number, paths[index])? {
+        match read_file(alloc, form, files, number, paths[index])? {
             Ok(document) => push_document(&mut documents, document)?,
             Err(report) => {
                 reports.push_str(report.as_str())?;
@@ -46,14 +49,20 @@ pub fn read_documents<F: Files>(
     if refused == 0 {
         return Ok(documents);
     }
-    push_count(alloc, &mut reports, refused)?;
-    Err(Failure::Files(reports))
+    let tally = Tally {
+        faults: refused,
+        shown: refused,
+        files: paths.len(),
+    };
+    let printed = arranged(alloc, form, tally, String::new(alloc), reports)?;
+    Err(Failure::Files(printed))
 }
 
-/// The document of the file of this path, under this number; or the report of why the file can't be read or
-/// is no document. The error is out of memory.
+/// The document of the file of this path, under this number; or what the form says of why the file can't be
+/// read or is no document. The error is out of memory.
 fn read_file<F: Files>(
     alloc: Global,
+    form: Form,
     files: &F,
     number: FileId,
     path: &str,
@@ -61,19 +70,20 @@ fn read_file<F: Files>(
     ensures { number.0 ≢ 0
         → IfOk result (λ read.
         MatchResult read (IsDocumentAt (F.holds files.now) number.0 path.now) (λ report.
-        IsRefusedFile (F.holds files.now) (F.may_fail files.now) number.0 path.now (string_bytes report))) }
+        IsRefusedFile form (F.holds files.now) (F.may_fail files.now) number.0 path.now (string_bytes report))) }
 {
     match files.read(alloc, path) {
-        Ok(text) => parse_text(alloc, number, path, text),
+        Ok(text) => parse_text(alloc, form, number, path, text),
         Err(FileError::Memory) => Err(AllocError),
-        Err(error) => Ok(Err(unread_report(alloc, path, &error)?)),
+        Err(error) => Ok(Err(unread_report(alloc, form, path, &error)?)),
     }
 }
 
-/// The document of a text, under this path and number; or the report of why it is none. The error is out of
-/// memory.
+/// The document of a text, under this path and number; or what the form says of why it is none. The error is
+/// out of memory.
 fn parse_text(
     alloc: Global,
+    form: Form,
     number: FileId,
     path: &str,
     text: String,
@@ -81,7 +91,7 @@ fn parse_text(
     ensures { number.0 ≢ 0
         → IfOk result (λ read.
         MatchResult read (IsDocumentOf number.0 path.now (string_bytes text)) (λ report.
-        IsRefusedText number.0 path.now (string_bytes text) (string_bytes report))) }
+        IsRefusedText form number.0 path.now (string_bytes text) (string_bytes report))) }
 {
     let file = SourceFile {
         path: Text::from_str(alloc, path)?,
@@ -91,7 +101,7 @@ fn parse_text(
     match parse_document(alloc, number, &source, ParseOptions::new()) {
         Ok(document) => Ok(Ok(document)),
         Err(error) if is_memory(&error.kind) => Err(AllocError),
-        Err(error) => Ok(Err(parse_report(alloc, number, &source, &error)?)),
+        Err(error) => Ok(Err(parse_report(alloc, form, number, &source, &error)?)),
     }
 }
 

@@ -1,83 +1,220 @@
 //! The command `format`.
-ghost use Rattle.std.specs.Prelude.{◌≡◌, ◌++◌, IfErr, IfOk, OnOk, string_bytes};
+ghost use Rattle.std.specs.Prelude.{◌≡◌, IfErr, IfOk, option_map, string_bytes};
 ghost use Rattle.std.specs.List.{flat_map};
 ghost use Rattle.peglinden_run.specs.Documents.{texts_of};
-ghost use Rattle.peglinden_run.specs.FormatCommand.{IsFormatAnswer, changed_line, formatted};
+ghost use Rattle.peglinden_run.specs.FormatCommand.{IsChecked, IsFormatAnswer, all_definitions, changed_in};
+ghost use Rattle.peglinden_run.specs.FormatCommand.{changed_paths, document_line, form_documents, rest_line};
+ghost use Rattle.peglinden_run.specs.FormatCommand.{IsCheckShown, changed_path, document_path};
+ghost use Rattle.peglinden_run.specs.Forms.{form_of};
 ghost use Rattle.peglinden_run.specs.RefusedFiles.{IsFilesCause};
 
 use crate::answer::Answer;
 use crate::documents::read_documents;
 use crate::ended::ended_text;
 use crate::failure::Failure;
+use crate::findings::at_most;
+use crate::form::{Form, form_of};
+use crate::lines::{changed_line, on_a_line, text_line};
+use crate::printed::{Printed, Tally, arranged, tally_line};
+use apollo_reporting::github::github_command;
+use graphql_ast::definition::Definition;
 use graphql_ast::document::Document;
+use graphql_nodes::collections::items::Items;
 use graphql_nodes::visible_text::visible;
+use peglinden_words::request::Reporting;
 use program_io::files::Files;
 use std::alloc::{AllocError, Global};
 
-/// The answer of `format` to files: the text of each in our layout, one behind the other, each with a line
-/// end. With `check` it is the name of each file whose text differs from that, as [`visible`] shows it, each
-/// on a line. Such a file is at fault.
+/// What is said of a file whose text differs.
+const DIFFERS: &str = "the text differs from its layout";
+
+/// The answer of `format` to files: the text of all their definitions in our layout, with a line end. It is
+/// read again as one document. In JSON it is the text of each file. With `check` it says in this form of each
+/// file whose text differs from its layout; for people that is its name, as [`visible`] shows it, on a line.
+/// Such a file is at fault.
 ///
 /// `Files` comes where a file can't be read or is no document, and `Exhausted` where memory ran out. There
 /// is no other error.
 pub(crate) fn format_answer<F: Files>(
     alloc: Global,
     check: bool,
+    reporting: &Reporting,
     files: &F,
     paths: &[&str],
 ) -> Result<Answer, Failure>
-    ensures means { IfOk result (IsFormatAnswer (F.holds files.now) check (texts_of paths.now)) }
-    ensures causes { IfErr result
-        (IsFilesCause (F.holds files.now) (F.may_fail files.now) (texts_of paths.now)) }
+    ensures means { IfOk result
+        (IsFormatAnswer (F.holds files.now) check reporting.now (texts_of paths.now)) }
+    ensures causes { IfErr result (IsFilesCause (form_of reporting.now) (F.holds files.now)
+        (F.may_fail files.now) (texts_of paths.now)) }
 {
-    let documents = read_documents(alloc, files, paths)?;
-    let output = if check {
-        changed_names(alloc, documents.as_slice())?
-    } else {
-        all_formatted(alloc, documents.as_slice())?
+    let form = form_of(reporting);
+    let documents = read_documents(alloc, form, files, paths)?;
+    if check {
+        return Ok(check_answer(alloc, form, reporting.max_faults, paths.len(), &documents)?);
+    }
+    let tally = Tally {
+        faults: 0,
+        shown: 0,
+        files: paths.len(),
     };
+    let output = form_documents(alloc, form, documents.as_slice())?;
     Ok(Answer {
-        has_faults: check && !output.is_empty(),
-        output,
-        errors: String::new(alloc),
+        printed: arranged(alloc, form, tally, output, String::new(alloc))?,
+        has_faults: false,
     })
 }
 
-/// The texts of documents in our layout, one behind the other. The error is out of memory.
-fn all_formatted(alloc: Global, documents: &[Document]) -> Result<String, AllocError>
-    ensures { IfOk result (λ text. string_bytes text ≡ flat_map formatted documents.now) }
+/// What a form has of documents in our layout. The error is out of memory.
+fn form_documents(alloc: Global, form: Form, documents: &[Document]) -> Result<String, AllocError>
+    ensures { IfOk result (λ text. string_bytes text ≡ form_documents form documents.now) }
+{
+    match form {
+        Form::Json => document_lines(alloc, documents),
+        Form::Words | Form::Github => {
+            let definitions = all_definitions(alloc, documents)?;
+            ended_text(alloc, definitions.as_slice())
+        }
+    }
+}
+
+/// The definitions of documents, one behind the other. The error is out of memory.
+fn all_definitions(alloc: Global, documents: &[Document]) -> Result<Items<Definition>, AllocError>
+    ensures { IfOk result (λ all. all ≡ all_definitions documents.now) }
+{
+    let mut all = Items::new(alloc);
+    for document in documents {
+        let mut definitions = document.definitions.clone()?;
+        all.append(&mut definitions)?;
+    }
+    Ok(all)
+}
+
+/// A line of JSON for each document, with its text in our layout. The error is out of memory.
+fn document_lines(alloc: Global, documents: &[Document]) -> Result<String, AllocError>
+    ensures { IfOk result (λ lines. string_bytes lines ≡ flat_map document_line documents.now) }
+{
+    let mut lines = String::new(alloc);
+    for document in documents {
+        lines.push_str(document_line(alloc, document)?.as_str())?;
+    }
+    Ok(lines)
+}
+
+/// The line of JSON of a document, with its text in our layout. The error is out of memory.
+fn document_line(alloc: Global, document: &Document) -> Result<String, AllocError>
+    ensures { IfOk result (λ line. string_bytes line ≡ document_line document.now) }
+{
+    let formatted = ended_text(alloc, document.definitions.as_slice())?;
+    text_line(alloc, document_path(document), formatted.as_str())
+}
+
+/// The path of the first file of a document.
+fn document_path(document: &Document) -> Option<&str>
+    ensures { option_map (λ path. path.now) result ≡ document_path document.now }
+{
+    let (_, file) = document.sources.first()?;
+    Some(file.path.as_str())
+}
+
+/// The answer of `format --check` to so many files of these documents, in a form, with at most so many faults.
+/// The error is out of memory.
+fn check_answer(
+    alloc: Global,
+    form: Form,
+    most: Option<usize>,
+    files: usize,
+    documents: &[Document],
+) -> Result<Answer, AllocError>
+    ensures { IfOk result (IsChecked form most files documents.now) }
+{
+    let changed = changed_paths(alloc, documents)?;
+    let shown = at_most(changed.as_slice(), most);
+    let tally = Tally {
+        faults: changed.len(),
+        shown: shown.len(),
+        files,
+    };
+    let said = changed_text(alloc, form, shown)?;
+    Ok(Answer {
+        printed: checked_printed(alloc, form, tally, said)?,
+        has_faults: !changed.is_empty(),
+    })
+}
+
+/// What is printed of what a form says of the files that differ. The error is out of memory.
+fn checked_printed(
+    alloc: Global,
+    form: Form,
+    tally: Tally,
+    said: String,
+) -> Result<Printed, AllocError>
+    ensures { IfOk result (IsCheckShown form tally (string_bytes said)) }
+{
+    match form {
+        Form::Words => Ok(Printed {
+            output: said,
+            errors: rest_line(alloc, tally)?,
+        }),
+        Form::Json | Form::Github => arranged(alloc, form, tally, String::new(alloc), said),
+    }
+}
+
+/// How many files differ, on a line, where not all of them are shown. The error is out of memory.
+fn rest_line(alloc: Global, tally: Tally) -> Result<String, AllocError>
+    ensures { IfOk result (λ line. string_bytes line ≡ rest_line tally) }
+{
+    if tally.shown == tally.faults {
+        return Ok(String::new(alloc));
+    }
+    tally_line(alloc, tally)
+}
+
+/// The paths of the files whose text differs from its layout. The error is out of memory.
+fn changed_paths<'d>(alloc: Global, documents: &'d [Document]) -> Result<Vec<&'d str>, AllocError>
+    ensures { IfOk result (λ paths. texts_of paths.items ≡ changed_paths documents.now) }
+{
+    let mut paths = Vec::new(alloc);
+    for document in documents {
+        if let Some(path) = changed_path(alloc, document)? {
+            paths.push(path)?;
+        }
+    }
+    Ok(paths)
+}
+
+/// The path of a document's file, where its text differs from its layout. The error is out of memory.
+fn changed_path<'d>(alloc: Global, document: &'d Document) -> Result<Option<&'d str>, AllocError>
+    ensures { IfOk result (λ path. option_map (λ path. path.now) path ≡ changed_path document.now) }
+{
+    let Some((_, file)) = document.sources.first() else {
+        return Ok(None);
+    };
+    let formatted = ended_text(alloc, document.definitions.as_slice())?;
+    if formatted.as_str() == file.text.as_str() {
+        Ok(None)
+    } else {
+        Ok(Some(file.path.as_str()))
+    }
+}
+
+/// What a form says of files that differ. The error is out of memory.
+fn changed_text(alloc: Global, form: Form, paths: &[&str]) -> Result<String, AllocError>
+    ensures { IfOk result (λ text. string_bytes text ≡ flat_map (changed_in form) (texts_of paths.now)) }
 {
     let mut text = String::new(alloc);
-    for document in documents {
-        let formatted = ended_text(alloc, document.definitions.as_slice())?;
-        text.push_str(formatted.as_str())?;
+    for path in paths {
+        text.push_str(changed_in(alloc, form, path)?.as_str())?;
     }
     Ok(text)
 }
 
-/// The names of the files whose text differs from its layout, each on a line. The error is out of memory.
-fn changed_names(alloc: Global, documents: &[Document]) -> Result<String, AllocError>
-    ensures { IfOk result (λ names. string_bytes names ≡ flat_map changed_line documents.now) }
+/// What a form says of a file that differs. The error is out of memory.
+fn changed_in(alloc: Global, form: Form, path: &str) -> Result<String, AllocError>
+    ensures { IfOk result (λ text. string_bytes text ≡ changed_in form path.now) }
 {
-    let mut names = String::new(alloc);
-    for document in documents {
-        push_if_changed(alloc, &mut names, document)?;
+    match form {
+        Form::Words => on_a_line(visible(path).to_string(alloc)?),
+        Form::Json => changed_line(alloc, path),
+        Form::Github => on_a_line(github_command(alloc, Some(path), None, DIFFERS)?),
     }
-    Ok(names)
-}
-
-/// Adds the name of a document's file, where its text differs from its layout. The error is out of memory.
-fn push_if_changed(alloc: Global, names: &mut String, document: &Document) -> Result<(), AllocError>
-    ensures { OnOk result (string_bytes names.new ≡ string_bytes names.old ++ changed_line document.now) }
-{
-    let Some((_, file)) = document.sources.first() else {
-        return Ok(());
-    };
-    let formatted = ended_text(alloc, document.definitions.as_slice())?;
-    if formatted.as_str() != file.text.as_str() {
-        let name = visible(file.path.as_str()).to_string(alloc)?;
-        names.push_str(name.as_str())?;
-        names.push_str("\n")?;
-    }
-    Ok(())
 }

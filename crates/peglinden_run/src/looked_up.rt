@@ -1,11 +1,15 @@
 //! What is written of what a coordinate points to.
-ghost use Rattle.std.specs.Prelude.{◌≡◌, ◌++◌, ◌∷◌, [], IfOk, OnOk, codes, string_bytes};
+ghost use Rattle.std.specs.Prelude.{◌≡◌, ◌++◌, ◌∷◌, [], IfOk, OnOk, string_bytes};
 ghost use Rattle.peglinden_run.specs.Ended.{ended};
-ghost use Rattle.peglinden_run.specs.LookedUp.{found_definition, found_location, found_text, place_comment};
+ghost use Rattle.peglinden_run.specs.LookedUp.{definition_line, found_definition, found_line, found_location, found_text};
+ghost use Rattle.peglinden_run.specs.LookedUp.{place_comment};
 
 use crate::ended::ended_text;
+use crate::lines::{on_a_line, placed_line};
 use apollo_compiler::text::{enum_value_text, field_text, input_value_text};
+use apollo_coordinate::SchemaCoordinate;
 use apollo_coordinate::lookup_answers::SchemaCoordinateLookup;
+use apollo_reporting::json_object::JsonValue;
 use graphql_ast::definition::Definition;
 use graphql_ast::type_system::DirectiveDefinition;
 use graphql_nodes::node::Node;
@@ -88,10 +92,47 @@ fn directive_text(alloc: Global, node: &Node<DirectiveDefinition>) -> Result<Str
     ended_text(alloc, &[definition])
 }
 
-/// A text with a line end behind it. The error is out of memory.
-fn on_a_line(mut text: String) -> Result<String, AllocError>
-    ensures { IfOk result (λ line. string_bytes line ≡ string_bytes text ++ codes "\n") }
+/// The line of JSON of what a coordinate points to: the coordinate, its definition, and where that stands. The
+/// error is out of memory.
+pub(crate) fn found_line(
+    alloc: Global,
+    sources: &SourceMap,
+    coordinate: &SchemaCoordinate,
+    found: SchemaCoordinateLookup<'_>,
+) -> Result<String, AllocError>
+    ensures { IfOk result (λ line.
+        string_bytes line ≡ found_line sources.now coordinate.now found.entry) }
 {
-    text.push_str("\n")?;
-    Ok(text)
+    let shown = coordinate.to_string(alloc)?;
+    let text = found_definition(alloc, found)?;
+    definition_line(
+        alloc,
+        sources,
+        shown.as_str(),
+        text.as_str(),
+        found_location(found),
+    )
+}
+
+/// The line of JSON of a definition, under its coordinate. The error is out of memory.
+fn definition_line<'x>(
+    alloc: Global,
+    sources: &SourceMap,
+    coordinate: &'x str,
+    text: &'x str,
+    location: Option<SourceSpan>,
+) -> Result<String, AllocError>
+    ensures { IfOk result (λ line. string_bytes line
+        ≡ definition_line sources.now coordinate.now text.now location) }
+{
+    placed_line(
+        alloc,
+        "definition",
+        &[
+            ("coordinate", JsonValue::Words(Some(coordinate))),
+            ("text", JsonValue::Words(Some(text))),
+        ],
+        sources,
+        location,
+    )
 }

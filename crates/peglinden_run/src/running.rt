@@ -1,10 +1,12 @@
 //! The run of the program.
-ghost use Rattle.std.specs.Prelude.{◌≡◌, false};
+ghost use Rattle.std.specs.Prelude.{◌≡◌, [], OnErr, OnOk};
 ghost use Rattle.clap.specs.Walk.{texts};
 ghost use Rattle.program_io.specs.Writing.{IsBegun};
 ghost use Rattle.peglinden_run.specs.Naming.{names_input};
-ghost use Rattle.peglinden_run.specs.Runs.{EndsAs, IsRunOn, IsTextWritten, IsUnanswered, IsWritten, MayEnd};
-ghost use Rattle.peglinden_run.specs.Status.{message_of, status_of};
+ghost use Rattle.peglinden_words.specs.Requests.{asked, asked_of};
+ghost use Rattle.peglinden_run.specs.Runs.{AppendsAny, AsksForWords, EndsAs, IsFailureWritten, IsInWords, IsRunOn};
+ghost use Rattle.peglinden_run.specs.Runs.{IsTextWritten, IsUnanswered, IsWritten, MayEnd};
+ghost use Rattle.peglinden_run.specs.Status.{output_of};
 
 use crate::answer::Answer;
 use crate::answering::answer_to;
@@ -28,15 +30,18 @@ use std::io::{self, ErrorKind, Write};
 ///
 /// `Done` and `Faults`: exactly the answer to the request that the words make stands on `output`, behind what
 /// was there. Or with `Done` it is the text of `--help` or of `--version`. With `Done` nothing was written on
-/// `errors`. With `Faults` there are the reports of what is at fault, but with `--json` and for `format`,
-/// which say it on `output`. The output is written only once all of it is there.
+/// `errors`. With `Faults` there are the reports of what is at fault, and how many faults there are. With
+/// `--json` all that stands on `output`, one object a line, a summary last, and nothing on `errors`. With
+/// `--github` there are commands on `output`, and on `errors` how many faults there are. The output is written
+/// only once all of it is there.
 ///
-/// `Refused` and `Exhausted`: nothing was written on `output`, and `errors` says which of these it is. The
-/// words make no request. A file, or standard input, can't be read or is no document; each such file is
-/// reported. A text is no coordinate. Memory or the numbers of extensions ran out.
+/// `Refused`: the words make no request, or a text is no coordinate, which `errors` says, or a file, or
+/// standard input, can't be read or is no document. Each such file is said, in words on `errors`, with `--json`
+/// or `--github` on `output`, as faults are. `Exhausted`: memory or the numbers of extensions ran out, which
+/// `errors` says. Nothing else was written on `output`.
 ///
-/// `NotWritten`: there was an answer, and the writer failed, or its flush did. What went out is a beginning
-/// of the output, perhaps all of it. `errors` says so, unless the writer is a closed pipe.
+/// `NotWritten`: something was to be written on `output`, and the writer failed, or its flush did. What went
+/// out is a beginning of it, perhaps all. `errors` says so, unless the writer is a closed pipe.
 ///
 /// Where `errors` fails, a beginning of what it should say stands there, and that changes nothing else. All
 /// tables hash by these keys, and what is written is the same under any.
@@ -52,7 +57,8 @@ pub fn run<F: Files, R: Input, O: Write, E: Write>(
     ensures run { IsRunOn (texts words.now) (R.holds reader.old) (R.may_fail reader.old) (F.holds files.now)
         (F.may_fail files.now) reader.old reader.new (O.contents output.old) (O.contents output.new)
         (E.contents errors.old) (E.contents errors.new) result }
-    ensures unanswered { IsUnanswered result → output.new ≡ output.old }
+    ensures unanswered { IsUnanswered result → AsksForWords (asked (texts words.now))
+        → output.new ≡ output.old }
     ensures quiet { result ≡ Status.Done → errors.new ≡ errors.old }
 {
     match read_words(alloc, words) {
@@ -60,7 +66,7 @@ pub fn run<F: Files, R: Input, O: Write, E: Write>(
         Err(WordsError::Help(text)) => end_with_help(text.as_str(), output, errors),
         Err(WordsError::Usage(text)) => end_with_usage(text.as_str(), errors),
         Err(WordsError::Memory) => {
-            end_with_failure(&Failure::Exhausted(CompileError::Memory), errors)
+            end_with_failure(&Failure::Exhausted(CompileError::Memory), output, errors)
         }
     }
 }
@@ -79,7 +85,7 @@ pub fn run_request<F: Files, R: Input, O: Write, E: Write>(
     ensures ends { EndsAs (names_input request.now) request.now (R.holds reader.old) (R.may_fail reader.old)
         (F.holds files.now) (F.may_fail files.now) reader.old reader.new (O.contents output.old)
         (O.contents output.new) (E.contents errors.old) (E.contents errors.new) result }
-    ensures unanswered { IsUnanswered result → output.new ≡ output.old }
+    ensures unanswered { IsUnanswered result → IsInWords (asked_of request.now) → output.new ≡ output.old }
     ensures quiet { result ≡ Status.Done → errors.new ≡ errors.old }
 {
     if !names_input(request) {
@@ -107,12 +113,12 @@ fn run_over<F: Files, O: Write, E: Write>(
 ) -> Status
     ensures ends { MayEnd request.now (F.holds files.now) (F.may_fail files.now) (O.contents output.old)
         (O.contents output.new) (E.contents errors.old) (E.contents errors.new) result }
-    ensures unanswered { IsUnanswered result → output.new ≡ output.old }
+    ensures unanswered { IsUnanswered result → IsInWords (asked_of request.now) → output.new ≡ output.old }
     ensures quiet { result ≡ Status.Done → errors.new ≡ errors.old }
 {
     match answer_to(alloc, keys, request, files) {
         Ok(answer) => end_with_answer(&answer, output, errors),
-        Err(failure) => end_with_failure(&failure, errors),
+        Err(failure) => end_with_failure(&failure, output, errors),
     }
 }
 
@@ -122,9 +128,9 @@ fn end_with_answer<O: Write, E: Write>(answer: &Answer, output: &mut O, errors: 
         (E.contents errors.old) (E.contents errors.new) result }
     ensures quiet { result ≡ Status.Done → errors.new ≡ errors.old }
 {
-    match write_out(output, answer.output.as_str()) {
+    match write_out(output, answer.printed.output.as_str()) {
         Ok(()) if answer.has_faults => {
-            write_report(answer.errors.as_str(), errors);
+            write_report(answer.printed.errors.as_str(), errors);
             Status::Faults
         }
         Ok(()) => Status::Done,
@@ -154,12 +160,30 @@ fn end_unwritten<E: Write>(error: io::Error, errors: &mut E) -> Status
 }
 
 /// Says why a request has no answer, and ends so.
-fn end_with_failure<E: Write>(failure: &Failure, errors: &mut E) -> Status
-    ensures status { result ≡ status_of failure.now }
-    ensures reported { IsBegun (message_of failure.now) (E.contents errors.old) (E.contents errors.new) }
+fn end_with_failure<O: Write, E: Write>(failure: &Failure, output: &mut O, errors: &mut E) -> Status
+    ensures written { IsFailureWritten failure.now (O.contents output.old) (O.contents output.new)
+        (E.contents errors.old) (E.contents errors.new) result }
+    ensures unwritten { output_of failure.now ≡ [] → output.new ≡ output.old }
+    ensures quiet { result ≡ Status.Done → errors.new ≡ errors.old }
 {
+    if let Err(error) = write_if_any(output, failure.output()) {
+        return end_unwritten(error, errors);
+    }
     write_report(failure.message(), errors);
     failure.status()
+}
+
+/// Writes all of a text, and has it written through, where it isn't empty. The error is the writer's, after
+/// which a beginning of the text is written.
+fn write_if_any<O: Write>(output: &mut O, text: &str) -> io::Result<()>
+    ensures written { OnOk result (AppendsAny (O.contents output.old) (O.contents output.new) text.now) }
+    ensures begun { OnErr result (IsBegun text.now (O.contents output.old) (O.contents output.new)) }
+    ensures unwritten { text.now ≡ [] → output.new ≡ output.old }
+{
+    if text.is_empty() {
+        return Ok(());
+    }
+    write_out(output, text)
 }
 
 /// Says in which way the words are a mistake, and ends so.

@@ -2,6 +2,7 @@
 ghost use Rattle.std.specs.Prelude.{◌≡◌, IfErr, IfOk};
 ghost use Rattle.apollo_schema.specs.SchemaWriteOut.{write_schema};
 ghost use Rattle.peglinden_run.specs.Documents.{texts_of};
+ghost use Rattle.peglinden_run.specs.Forms.{form_of};
 ghost use Rattle.peglinden_run.specs.SchemaCommand.{IsSchemaAnswer, IsSchemaCause, IsSchemaOf};
 
 use crate::answer::Answer;
@@ -9,6 +10,8 @@ use crate::documents::read_documents;
 use crate::ended::ended_text;
 use crate::failure::Failure;
 use crate::findings::Findings;
+use crate::form::{Form, form_of};
+use crate::lines::form_text;
 use apollo_compiler::building::build_schema;
 use apollo_compiler::compile_options::CompileOptions;
 use apollo_meaning::build_error::Faults;
@@ -16,11 +19,12 @@ use apollo_schema::schema::Schema;
 use graphql_ast::definition::Definition;
 use graphql_nodes::collections::hash_keys::HashKeys;
 use graphql_nodes::source::SourceMap;
+use peglinden_words::request::Reporting;
 use program_io::files::Files;
 use std::alloc::{AllocError, Global};
 
 /// The answer of `schema` with these options to files. It is the write-out of the schema of their documents,
-/// as text, or with `json` the JSON of its faults in place of that.
+/// and what is said of its faults.
 ///
 /// `Files` comes where a file can't be read or is no document. `Exhausted` comes where memory ran out, or
 /// where the numbers don't suffice for the extensions. There is no other error.
@@ -28,19 +32,21 @@ pub(crate) fn schema_answer<F: Files>(
     alloc: Global,
     keys: HashKeys,
     options: CompileOptions,
-    json: bool,
+    reporting: &Reporting,
     files: &F,
     paths: &[&str],
 ) -> Result<Answer, Failure>
-    ensures means { IfOk result (IsSchemaAnswer (F.holds files.now) options json (texts_of paths.now)) }
+    ensures means { IfOk result (IsSchemaAnswer (F.holds files.now) options reporting.now (texts_of paths.now)) }
     ensures causes { IfErr result
-        (IsSchemaCause (F.holds files.now) (F.may_fail files.now) options (texts_of paths.now)) }
+        (IsSchemaCause (form_of reporting.now) (F.holds files.now) (F.may_fail files.now) options
+        (texts_of paths.now)) }
 {
-    let (schema, faults) = read_schema(alloc, keys, options, files, paths)?;
+    let form = form_of(reporting);
+    let (schema, faults) = read_schema(alloc, keys, options, form, files, paths)?;
     let (written, sources) = written_out(alloc, schema)?;
-    let output = ended_text(alloc, written.as_slice())?;
+    let output = form_text(alloc, form, ended_text(alloc, written.as_slice())?)?;
     let findings = Findings::of_schema(alloc, sources, faults);
-    Ok(findings.answer(alloc, json, output)?)
+    Ok(findings.answer(alloc, reporting, paths.len(), output)?)
 }
 
 /// The schema of the documents of files with these options, and its faults. The documents are freed. The
@@ -49,15 +55,16 @@ fn read_schema<F: Files>(
     alloc: Global,
     keys: HashKeys,
     options: CompileOptions,
+    form: Form,
     files: &F,
     paths: &[&str],
 ) -> Result<(Schema, Faults), Failure>
     ensures means { IfOk result (λ built.
         IsSchemaOf (F.holds files.now) options (texts_of paths.now) built.0 built.1.items) }
     ensures causes { IfErr result
-        (IsSchemaCause (F.holds files.now) (F.may_fail files.now) options (texts_of paths.now)) }
+        (IsSchemaCause form (F.holds files.now) (F.may_fail files.now) options (texts_of paths.now)) }
 {
-    let documents = read_documents(alloc, files, paths)?;
+    let documents = read_documents(alloc, form, files, paths)?;
     let (schema, faults) = build_schema(alloc, keys, options, documents.as_slice())?;
     Ok((schema, faults))
 }

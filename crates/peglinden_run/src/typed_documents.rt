@@ -7,20 +7,23 @@ use crate::documents::read_documents;
 use crate::echoes::without_echoes;
 use crate::failure::Failure;
 use crate::findings::Findings;
+use crate::form::Form;
 use apollo_compiler::building::build_schema;
 use apollo_compiler::compile_options::CompileOptions;
 use apollo_compiler::document_building::build_executable_document;
 use apollo_compiler::executable_options::ExecutableOptions;
 use apollo_executable::document::ExecutableDocument;
+use apollo_schema::schema::Schema;
 use graphql_nodes::collections::hash_keys::HashKeys;
 use graphql_nodes::source::merge_sources;
 use leafcheck::checking::leaf_faults;
 use program_io::files::Files;
 use std::alloc::Global;
 
-/// A typed document, and what is at fault in it and in its schema.
+/// A typed document over its schema, and what is at fault in both.
 #[derive(Drop)]
 pub(crate) struct TypedDocument {
+    pub schema: Schema,
     pub document: ExecutableDocument,
     pub findings: Findings,
 }
@@ -34,6 +37,7 @@ pub(crate) struct TypedDocument {
 pub(crate) fn type_documents<F: Files>(
     alloc: Global,
     keys: HashKeys,
+    form: Form,
     files: &F,
     schema_paths: &[&str],
     document_paths: &[&str],
@@ -41,13 +45,13 @@ pub(crate) fn type_documents<F: Files>(
     ensures typed { IfOk result
         (IsTyped (F.holds files.now) (texts_of schema_paths.now) (texts_of document_paths.now)) }
     ensures causes { IfErr result
-        (IsTypedCause (F.holds files.now) (F.may_fail files.now) (texts_of schema_paths.now)
+        (IsTypedCause form (F.holds files.now) (F.may_fail files.now) (texts_of schema_paths.now)
         (texts_of document_paths.now)) }
 {
     let mut paths = Vec::new(alloc);
     paths.extend_from_slice(schema_paths)?;
     paths.extend_from_slice(document_paths)?;
-    let documents = read_documents(alloc, files, paths.as_slice())?;
+    let documents = read_documents(alloc, form, files, paths.as_slice())?;
     let (of_schema, executable) = documents.as_slice().split_at(schema_paths.len());
     let (schema, schema_faults) = build_schema(alloc, keys, CompileOptions::none(), of_schema)?;
     let options = ExecutableOptions {
@@ -66,5 +70,9 @@ pub(crate) fn type_documents<F: Files>(
         document_faults,
         leaf_faults,
     };
-    Ok(TypedDocument { document, findings })
+    Ok(TypedDocument {
+        schema,
+        document,
+        findings,
+    })
 }

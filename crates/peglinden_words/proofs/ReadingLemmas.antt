@@ -16,9 +16,9 @@ use Rattle.clap.specs.Walk.{Row, Text, rows_of}
 use Rattle.clap.specs.declared.error.kind.ErrorKind.{ErrorKind}
 use Rattle.clap.specs.declared.error.kind.ErrorKind.TheVariants.{ArgumentConflict, OutOfMemory}
 use Rattle.peglinden_words.specs.Commands.{peglinden}
-use Rattle.peglinden_words.specs.Refusals.{IsErrorOf, IsRefusal, is_call, repeat_input}
+use Rattle.peglinden_words.specs.Refusals.{IsErrorOf, IsRefusal, contradict, is_call}
 use Rattle.peglinden_words.specs.Requests.{Asked, asked, asked_by, asked_unchecked}
-use Rattle.peglinden_words.specs.Requests.{names_input_again, with_one_input, without_fault}
+use Rattle.peglinden_words.specs.Requests.{if_consistent, is_contradictory, without_fault}
 use Rattle.peglinden_words.proofs.CommandLemmas.{program_is_free, program_is_simple}
 use Rattle.peglinden_words.specs.declared.words_error.WordsError.{WordsError}
 use Rattle.peglinden_words.specs.declared.words_error.WordsError.TheVariants as error
@@ -59,8 +59,8 @@ request_is command words m sub met wanted app none found name rows is wants =
     no_fault below ∙ ap Some (sym wants)
 
 pub asked_is : (words : List Text) (wanted : Asked) → asked_unchecked words ≡ Some wanted
-    → names_input_again wanted ≡ false → asked words ≡ Some wanted
-asked_is words wanted is once = ap (option_and_then with_one_input) is ∙ rw once refl
+    → is_contradictory wanted ≡ false → asked words ≡ Some wanted
+asked_is words wanted is once = ap (option_and_then if_consistent) is ∙ rw once refl
 
 no_request : (found : ErrorKind) (faults : Kinds) (wanted : Option Asked) → IsAmong found faults
     → without_fault faults wanted ≡ None
@@ -70,7 +70,7 @@ no_request found (k ∷ ks) wanted among = refl
 nothing_asked : (words : List Text) (found : ErrorKind) → IsAmong found (fault_of peglinden words)
     → asked words ≡ None
 unfolding asked_unchecked
-nothing_asked words found among = ap (option_and_then with_one_input)
+nothing_asked words found among = ap (option_and_then if_consistent)
     (no_request found (fault_of peglinden words) _ among)
 
 any_among : (p : ErrorKind → Bool) (k : ErrorKind) (ks : Kinds) → IsAmong k ks → p k ≡ true
@@ -90,18 +90,18 @@ refused_is words found (error.Help text) (inr among) of =
 refused_is words found (error.Usage text) (inl memory) of = absurd (of.1 memory)
 refused_is words found (error.Usage text) (inr among) of = (
   nothing_asked words found among,
-  ap (λ b. b || repeat_input words)
+  ap (λ b. b || contradict words)
       (any_among (λ k. not (is_call k)) found _ among (ap not of.0)),
 )
 
--- and so is the error of standard input that is named again
-pub repeated_is : (words : List Text) (wanted : Asked) (found : ErrorKind) (e : WordsError)
+-- and so is the error of a request that contradicts itself
+pub contradicted_is : (words : List Text) (wanted : Asked) (found : ErrorKind) (e : WordsError)
     → asked_unchecked words ≡ Some wanted
-    → names_input_again wanted ≡ true → found ≡ ArgumentConflict → IsErrorOf found e → IsRefusal words e
-repeated_is words wanted found error.Memory is again kind of = tt
-repeated_is words wanted found (error.Help text) is again kind of = absurd
+    → is_contradictory wanted ≡ true → found ≡ ArgumentConflict → IsErrorOf found e → IsRefusal words e
+contradicted_is words wanted found error.Memory is again kind of = tt
+contradicted_is words wanted found (error.Help text) is again kind of = absurd
     (true≢false (sym of ∙ ap is_call kind))
-repeated_is words wanted found (error.Usage text) is again kind of = (
-  ap (option_and_then with_one_input) is ∙ rw again refl,
-  or_right _ _ (ap (λ o. option_map_or names_input_again o false) is ∙ again),
+contradicted_is words wanted found (error.Usage text) is again kind of = (
+  ap (option_and_then if_consistent) is ∙ rw again refl,
+  or_right _ _ (ap (λ o. option_map_or is_contradictory o false) is ∙ again),
 )

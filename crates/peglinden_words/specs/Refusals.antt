@@ -8,7 +8,7 @@ use Rattle.clap.specs.declared.error.kind.ErrorKind.{ErrorKind}
 use Rattle.clap.specs.declared.error.kind.ErrorKind.TheVariants.{DisplayHelp, DisplayVersion}
 use Rattle.clap.specs.declared.error.kind.ErrorKind.TheVariants.{OutOfMemory}
 use Rattle.peglinden_words.specs.Commands.{peglinden}
-use Rattle.peglinden_words.specs.Requests.{asked, asked_unchecked, names_input_again}
+use Rattle.peglinden_words.specs.Requests.{asked, asked_unchecked, is_contradictory}
 use Rattle.peglinden_words.specs.declared.words_error.WordsError.{WordsError}
 use Rattle.peglinden_words.specs.declared.words_error.WordsError.TheVariants as error
 
@@ -22,14 +22,14 @@ is_call _ = false
 abbrev pub call_for_help : List Text → Bool
 call_for_help words = list_any is_call (fault_of peglinden words)
 
--- the words ask for something, but name standard input more than once
-abbrev pub repeat_input : List Text → Bool
-repeat_input words = option_map_or names_input_again (asked_unchecked words) false
+-- the words ask for something that contradicts itself
+abbrev pub contradict : List Text → Bool
+contradict words = option_map_or is_contradictory (asked_unchecked words) false
 
 -- the words are a mistake
 abbrev pub are_mistaken : List Text → Bool
 are_mistaken words =
-    list_any (λ found. not (is_call found)) (fault_of peglinden words) || repeat_input words
+    list_any (λ found. not (is_call found)) (fault_of peglinden words) || contradict words
 
 -- the words ask for nothing, for this reason; out of memory says nothing of them
 abbrev pub IsRefusal : List Text → WordsError → Type 0

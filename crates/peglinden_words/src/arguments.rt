@@ -1,8 +1,9 @@
 //! The arguments of the commands.
 ghost use Rattle.std.specs.Prelude.{◌≡◌, codes, false};
 ghost use Rattle.clap.specs.Walk.{rule_of};
-ghost use Rattle.peglinden_words.specs.Commands.{flag, other_word, other_words, repeated_option};
+ghost use Rattle.peglinden_words.specs.Commands.{flag, number_option, other_word, other_words, repeated_option};
 
+use clap::builder::ValueParser;
 use clap::{Arg, ArgAction};
 use std::alloc::Global;
 
@@ -25,8 +26,32 @@ pub fn json_flag<'w>(alloc: Global) -> Arg<'w>
     flag(
         alloc,
         "json",
-        "Write faults to standard output, one JSON object a line, and nothing else there",
+        "Write JSON to standard output, one object a line, and nothing else there",
     )
+}
+
+/// `--github`.
+pub fn github_flag<'w>(alloc: Global) -> Arg<'w>
+    ensures rule { rule_of result ≡ flag (codes "github") }
+    ensures local { result.global ≡ false }
+{
+    flag(
+        alloc,
+        "github",
+        "Write a workflow command of GitHub for each fault to standard output, and nothing else there",
+    )
+}
+
+/// `--max-faults N`.
+pub fn max_faults_option<'w>(alloc: Global) -> Arg<'w>
+    ensures rule { rule_of result ≡ number_option (codes "max-faults") }
+    ensures local { result.global ≡ false }
+{
+    Arg::new(alloc, "max-faults")
+        .long("max-faults")
+        .value_parser(ValueParser::unsigned(0, u64::MAX))
+        .value_name("N")
+        .help("Report N faults at most, and count the others")
 }
 
 /// `--schema FILE`, which is given at least once.

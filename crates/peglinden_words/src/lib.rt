@@ -6,7 +6,7 @@
 mod arguments;
 pub mod command_line;
 mod commands;
-mod input_names;
+mod contradictions;
 pub mod laws;
 pub mod request;
 mod values;

@@ -1,5 +1,18 @@
 //! What the words of the command line ask for.
 
+/// How a run reports what is at fault.
+///
+/// Words ask for one form at most. Where both flags are set, the form is JSON.
+#[derive(Debug, Clone, Copy, PartialEq, Eq)]
+pub struct Reporting {
+    /// `--json`: standard output has JSON alone, one object a line.
+    pub json: bool,
+    /// `--github`: standard output has a workflow command of GitHub for each fault, and nothing else.
+    pub github: bool,
+    /// `--max-faults N`: so many faults are reported at most, and the others counted.
+    pub max_faults: Option<usize>,
+}
+
 /// What the words of the command line ask for.
 ///
 /// A file is named as the words name it, and `-` is standard input, which is named at most once. Files stand
@@ -12,8 +25,8 @@ pub enum Request<'w> {
         adopt: bool,
         /// `--ignore-builtin`: further definitions of built-in types are passed over.
         ignore_builtin: bool,
-        /// `--json`: faults go to standard output, one JSON object a line.
-        json: bool,
+        /// How faults are reported.
+        reporting: Reporting,
         /// The files of the schema.
         files: Vec<&'w str>,
     },
@@ -27,6 +40,8 @@ pub enum Request<'w> {
     Lookup {
         /// The text of the coordinate, as the words have it.
         coordinate: &'w str,
+        /// How it is reported that the coordinate points to nothing.
+        reporting: Reporting,
         /// The files of the schema.
         files: Vec<&'w str>,
     },
@@ -34,6 +49,8 @@ pub enum Request<'w> {
     Format {
         /// `--check`: only the names of the files whose text differs.
         check: bool,
+        /// How the files are reported.
+        reporting: Reporting,
         /// The files.
         files: Vec<&'w str>,
     },
@@ -42,8 +59,8 @@ pub enum Request<'w> {
 /// The documents that a command types, and the schema that it types them over.
 #[derive(Debug, Drop)]
 pub struct Typing<'w> {
-    /// `--json`: faults go to standard output, one JSON object a line.
-    pub json: bool,
+    /// How faults are reported.
+    pub reporting: Reporting,
     /// The files of the schema, at least one.
     pub schema: Vec<&'w str>,
     /// The files of the documents, at least one.

@@ -2,7 +2,7 @@
 ghost use Rattle.std.specs.Prelude.{◌≡◌, IfOk};
 ghost use Rattle.clap.specs.Matches.{found_of};
 ghost use Rattle.clap.specs.Walk.{rows_of, texts};
-ghost use Rattle.peglinden_words.specs.Requests.{is_set, value_of, values_of};
+ghost use Rattle.peglinden_words.specs.Requests.{is_set, number_of, read_number, value_of, values_of};
 
 use clap::ArgMatches;
 use std::alloc::{AllocError, Global};
@@ -19,6 +19,21 @@ pub fn value<'w>(found: &ArgMatches<'w>, name: &str) -> &'w str
     ensures { result.now ≡ value_of name.now (rows_of (found_of found.now)) }
 {
     found.get_str(name).unwrap_or("")
+}
+
+/// The number that is the value of the argument of this name, where it has one.
+pub fn number(found: &ArgMatches<'_>, name: &str) -> Option<usize>
+    ensures { result ≡ number_of name.now (rows_of (found_of found.now)) }
+{
+    let text = found.get_str(name)?;
+    read_number(text)
+}
+
+/// The number that a text is in decimal digits, where it is one.
+fn read_number(text: &str) -> Option<usize>
+    ensures { result ≡ read_number text.now }
+{
+    text.parse::<usize>().ok()
 }
 
 /// The values of the argument of this name. The error is out of memory.

@@ -10,7 +10,7 @@ pub(crate) static ROWS: [Row; 11] = [
         message: "type `Book` does not have a field `pages`",
         at: At(4, 5, "    pages", "    ^^^^^"),
         under: "   = path: query Page → book → pages\n",
-        json: "'end_line':4,'end_column':10,'path':['query Page','book','pages'],'type_name':'Book','field_name':'pages'",
+        json: "'end_line':4,'end_column':10,'path':{'root':{'kind':'query','name':'Page'},'keys':['book','pages']},'type_name':'Book','field_name':'pages'",
     },
     Row {
         text: "type A",
@@ -74,7 +74,7 @@ pub(crate) static ROWS: [Row; 11] = [
         message: "type condition `A` of inline fragment is not a type defined in the schema",
         at: At(1, 17, "{ book { ... on A { b } } }", "                ^"),
         under: "   = path: query → book\n",
-        json: "'end_line':1,'end_column':18,'path':['query','book'],'type_name':'A'",
+        json: "'end_line':1,'end_column':18,'path':{'root':{'kind':'query','name':null},'keys':['book']},'type_name':'A'",
     },
     Row {
         text: "{ book { title { a } } }",
@@ -82,7 +82,7 @@ pub(crate) static ROWS: [Row; 11] = [
         message: "field selection of scalar type `String` must not have subselections",
         at: At(1, 10, "{ book { title { a } } }", "         ^^^^^^^^^^^"),
         under: "   = path: query → book → title\n",
-        json: "'end_line':1,'end_column':21,'path':['query','book','title'],'type_name':'String'",
+        json: "'end_line':1,'end_column':21,'path':{'root':{'kind':'query','name':null},'keys':['book','title']},'type_name':'String'",
     },
     Row {
         text: "{ book { sort {\n a } } }",
@@ -90,6 +90,6 @@ pub(crate) static ROWS: [Row; 11] = [
         message: "field selection of enum type `Sort` must not have subselections",
         at: At(1, 10, "{ book { sort {", "         ^^^^^^"),
         under: "   = path: query → book → sort\n",
-        json: "'end_line':2,'end_column':5,'path':['query','book','sort'],'type_name':'Sort'",
+        json: "'end_line':2,'end_column':5,'path':{'root':{'kind':'query','name':null},'keys':['book','sort']},'type_name':'Sort'",
     },
 ];

@@ -14,7 +14,7 @@ pub(crate) static MISSING: [Row; 1] = [Row {
     message: "`book`: a field of object, interface or union type must have subselections",
     at: At(5, 3, "  book", "  ^^^^"),
     under: "   = path: query Page → book\n",
-    json: "'end_line':5,'end_column':7,'path':['query Page','book'],'response_key':'book','parent_type':'Query'",
+    json: "'end_line':5,'end_column':7,'path':{'root':{'kind':'query','name':'Page'},'keys':['book']},'response_key':'book','parent_type':'Query'",
 }];
 
 /// A field of a fragment with subselections that it must not have.
@@ -61,5 +61,5 @@ pub(crate) static ON_LEAF: [Row; 1] = [Row {
         "                         ^^^^^^^^^^^^",
     ),
     under: "   = path: fragment Cover → name\n",
-    json: "'end_line':1,'end_column':38,'path':['fragment Cover','name'],'response_key':'name','parent_type':'Book'",
+    json: "'end_line':1,'end_column':38,'path':{'root':{'kind':'fragment','name':'Cover'},'keys':['name']},'response_key':'name','parent_type':'Book'",
 }];

@@ -99,7 +99,7 @@ fn a_fault_of_ones_own_is_reported(rt: HostRuntime) {
     assert_eq!(rt; shown.as_str(), wanted);
     let json = json_of(alloc, &sources, location, &fault).expect(&rt, "memory");
     let object =
-        r#"{"kind":"TooWide","message":"301 fields are too many","file":"wide.graphql","line":1,"column":6,"end_line":1,"end_column":7,"path":null,"fields":"301"}"#;
+        r#"{"type":"fault","kind":"TooWide","message":"301 fields are too many","file":"wide.graphql","line":1,"column":6,"end_line":1,"end_column":7,"path":null,"fields":"301"}"#;
     assert_eq!(rt; json.as_str(), object);
 }
 

@@ -42,7 +42,7 @@ static SENTENCE: &str = "error: must not have multiple `schema` definitions\n";
 
 /// How the JSON of each begins.
 static KIND: &str =
-    r#"{"kind":"SchemaDefinitionCollision","message":"must not have multiple `schema` definitions","#;
+    r#"{"type":"fault","kind":"SchemaDefinitionCollision","message":"must not have multiple `schema` definitions","#;
 
 /// A fault at a location, with an earlier place, how the report of it goes on, and how its JSON does, with `'`
 /// for each of its quotes.

@@ -89,7 +89,7 @@ fn json_of(alloc: Global, file: &str, row: &Row) -> Result<String, AllocError> {
     let mut text = String::new(alloc);
     write!(
         text,
-        r#"{{"kind":"{kind}","message":"{message}","file":"{file}","line":{line},"column":{column},"#
+        r#"{{"type":"fault","kind":"{kind}","message":"{message}","file":"{file}","line":{line},"column":{column},"#
     )?;
     text.push_str(quoted(alloc, row.json)?.as_str())?;
     text.push_str("}")?;

@@ -53,7 +53,7 @@ fn a_control_character_at_fault_is_not_written(rt: HostRuntime) {
     let json = reported_of_text(rt.alloc(), Form::Json, "{\u{9b}}");
     assert!(rt;
         json.is_some_and(|text| text.as_str()
-            == "{\"kind\":\"UnexpectedCharacter\",\"message\":\"unexpected character `\u{9b}`\",\"file\":\"refused.graphql\",\"line\":1,\"column\":2,\"end_line\":1,\"end_column\":2,\"path\":null,\"character\":\"\u{9b}\",\"shown\":\"`\u{9b}`\"}")
+            == "{\"type\":\"fault\",\"kind\":\"UnexpectedCharacter\",\"message\":\"unexpected character `\u{9b}`\",\"file\":\"refused.graphql\",\"line\":1,\"column\":2,\"end_line\":1,\"end_column\":2,\"path\":null,\"character\":\"\u{9b}\",\"shown\":\"`\u{9b}`\"}")
     );
 }
 

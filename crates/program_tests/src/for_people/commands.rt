@@ -15,8 +15,12 @@ const MISSING_FIELD: &str = "error: type `Book` does not have a field `pages`
 ";
 
 const MISSING_FIELD_JSON: &str =
-    "{\"kind\":\"UndefinedField\",\"message\":\"type `Book` does not have a field `pages`\",\"file\":\"faulty.graphql\",\"line\":3,\"column\":5,\"end_line\":3,\"end_column\":10,\"path\":[\"query Page\",\"book\",\"pages\"],\"type_name\":\"Book\",\"field_name\":\"pages\"}
+    "{\"type\":\"fault\",\"kind\":\"UndefinedField\",\"message\":\"type `Book` does not have a field `pages`\",\"file\":\"faulty.graphql\",\"line\":3,\"column\":5,\"end_line\":3,\"end_column\":10,\"path\":{\"root\":{\"kind\":\"query\",\"name\":\"Page\"},\"keys\":[\"book\",\"pages\"]},\"type_name\":\"Book\",\"field_name\":\"pages\"}
+{\"type\":\"summary\",\"faults\":1,\"files\":2}
 ";
+
+const MISSING_FIELD_COMMAND: &str =
+    "::error file=faulty.graphql,line=3,col=5::type `Book` does not have a field `pages`\n";
 
 const SECOND_BOOK: &str = "error: the type `Book` is defined multiple times in the schema
   --> twice.graphql:2:6
@@ -66,6 +70,16 @@ fn commands_with_a_fault(rt: HostRuntime) -> Result<(), Fail> {
                 "check --json --schema store.graphql faulty.graphql",
                 MISSING_FIELD_JSON,
                 "",
+            ),
+            (
+                "check --max-faults 0 --schema store.graphql faulty.graphql",
+                "",
+                "1 fault, 0 shown\n",
+            ),
+            (
+                "check --github --schema store.graphql faulty.graphql",
+                MISSING_FIELD_COMMAND,
+                "1 fault\n",
             ),
             (
                 "fields --schema store.graphql faulty.graphql",

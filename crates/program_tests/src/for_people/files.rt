@@ -88,7 +88,7 @@ note: first defined here
 /// The same file twice stands twice.
 #[test]
 fn a_file_twice(rt: HostRuntime) -> Result<(), Fail> {
-    let twice = "scalar Date\nscalar Date\n";
+    let twice = "scalar Date\n\nscalar Date\n";
     expect_done(&rt, &[("format open.graphql open.graphql", twice)])?;
     expect_faults(
         &rt,

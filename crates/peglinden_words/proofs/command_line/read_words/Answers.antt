@@ -1,11 +1,11 @@
 -- What `clap` finds is a request or a refusal.
-use Rattle.std.proofs.Common.{◌∙◌, ap, subst, sym}
+use Rattle.std.proofs.Common.{◌∙◌, ap, is_some, subst, sym}
 use Rattle.clap.specs.Faults.{fault_of, is_simple_and_free}
 use Rattle.clap.specs.Kinds.{HasKind}
 use Rattle.clap.specs.Simple.{App}
 use Rattle.clap.specs.Walk.{texts}
 use Rattle.peglinden_words.proofs.CommandLemmas.{program_is_free, program_wants_command}
-use Rattle.peglinden_words.proofs.ReadingLemmas.{asked_is, refused_is, repeated_is, request_is}
+use Rattle.peglinden_words.proofs.ReadingLemmas.{asked_is, refused_is, contradicted_is, request_is}
 use Rattle.peglinden_words.proofs.command_line.read_words.Goals as goal
 
 pub unwrap-requires : goal.unwrap-requires
@@ -25,16 +25,16 @@ returns-in-Err-clause-refused c =
     (subst (λ (a : App). HasKind (fault_of a (texts c.args.words.now)) c.in-Err.refused) app kinds)
     c.words_error.ensures
 
-pub returns-then-names_input_again-clause-refused : goal.returns-then-names_input_again-clause-refused
-returns-then-names_input_again-clause-refused c =
+pub returns-in-Some-clause-refused : goal.returns-in-Some-clause-refused
+returns-in-Some-clause-refused c =
     let is = request_is c.in_ok-command.command
     (texts c.args.words.now) c.in-Ok.matches c.subcommand.result c.unwrap.result _
     c.in_ok-command.ensures.app
     c.in-Ok.ensures.kinds c.in-Ok.ensures.ok.2 c.subcommand.ensures.name c.subcommand.ensures.rows
     c.unwrap.ensures c.in_ok-request.ensures in
-    repeated_is _ _ _ c.words_error-then-names_input_again.result is
-    (sym c.names_input_again.ensures ∙ c.if-names_input_again.true)
-    c.in_ok-refused.ensures.kind c.words_error-then-names_input_again.ensures
+    contradicted_is _ _ _ c.words_error-in-Some.result is
+    (sym c.contradiction.ensures ∙ ap is_some c.in-Some.is)
+    c.in_ok-refused.ensures.kind c.words_error-in-Some.ensures
 
 pub returns : goal.returns
 returns c =
@@ -44,7 +44,6 @@ returns c =
     c.in-Ok.ensures.kinds c.in-Ok.ensures.ok.2 c.subcommand.ensures.name c.subcommand.ensures.rows
     c.unwrap.ensures c.in_ok-request.ensures in
     record {
-      asked = asked_is _ _ is
-          (sym c.names_input_again.ensures ∙ c.if-names_input_again.false);
+      asked = asked_is _ _ is (sym c.contradiction.ensures ∙ ap is_some c.in_default.is);
       refused = tt;
     }

@@ -18,6 +18,8 @@ returns c = record {
   no_command = refl;
   no_option = refl;
   twice = refl;
+  no_number = refl;
+  two_forms = refl;
   input_twice = refl;
   none = refl;
 }
