@@ -4,7 +4,9 @@ use Rattle.std.proofs.lemmas.List.{append-nil}
 use Rattle.serde_json.specs.Data.{Data, array, string}
 use Rattle.serde_json.specs.View.{items_of}
 use Rattle.serde_json.specs.Written.{compact_text, items_text, members_text}
-use Rattle.apollo_reporting.specs.FaultData.{Member, members_from, object_of}
+use Rattle.graphql_nodes.specs.NameView.{NameView}
+use Rattle.apollo_reporting.specs.FaultData.{Member, key_array, keys_data, members_from, object_of, type_member}
+use Rattle.apollo_reporting.specs.JsonObjects.{typed_data}
 use Rattle.apollo_reporting.specs.MemberTexts.{data_text, items_behind, key_text, member_text, members_behind}
 
 items_end : (ds : List Data) → items_text true (items_of ds) ≡ items_behind ds ++ codes "]"
@@ -90,19 +92,59 @@ fault_written type kind message file span path details old t₀ t₁ t₂ t₃ t
     ((kind ∷ message ∷ file ∷ []) ++ (span ++ (path ++ details))))
 
 -- the same of an object of two members
-pub pair_written : (first second : Member) (old t₁ t₂ t₃ t₄ t₅ : List ℕ)
-    → t₁ ≡ old ++ key_text (codes "{") first.0 → t₂ ≡ t₁ ++ data_text first.1
-    → t₃ ≡ t₂ ++ key_text (codes ",") second.0 → t₄ ≡ t₃ ++ data_text second.1 → t₅ ≡ t₄ ++ codes "}"
-    → t₅ ≡ old ++ data_text (object_of (first ∷ second ∷ []))
-pair_written first second old t₁ t₂ t₃ t₄ t₅ e₁ e₂ e₃ e₄ e₅ =
-    let k = key_text (codes "{") first.0 in
-    let v = data_text first.1 in
+pub pair_written : (first second : Member) (old t₁ t₂ t₃ t₄ : List ℕ)
+    → t₁ ≡ old ++ member_text (codes "{") first → t₂ ≡ t₁ ++ key_text (codes ",") second.0
+    → t₃ ≡ t₂ ++ data_text second.1 → t₄ ≡ t₃ ++ codes "}"
+    → t₄ ≡ old ++ data_text (object_of (first ∷ second ∷ []))
+pair_written first second old t₁ t₂ t₃ t₄ e₁ e₂ e₃ e₄ =
+    let m = member_text (codes "{") first in
     let l = key_text (codes ",") second.0 in
     let w = data_text second.1 in
-    let all : t₅ ≡ old ++ k ++ v ++ l ++ w ++ codes "}" =
-    e₅ ∙ ap (λ (x : List ℕ). x ++ codes "}") (e₄ ∙ ap (λ (x : List ℕ). x ++ w) (e₃
-    ∙ ap (λ (x : List ℕ). x ++ l) (e₂ ∙ ap (λ (x : List ℕ). x ++ v) e₁))) in
-    let same : old ++ k ++ v ++ l ++ w ++ codes "}"
-    ≡ old ++ member_text (codes "{") first ++ members_behind (second ∷ []) ++ codes "}" =
-    simp (append_assoc, append-nil) in
-    all ∙ same ∙ object_written old first (second ∷ [])
+    let all : t₄ ≡ old ++ m ++ l ++ w ++ codes "}" =
+    e₄ ∙ ap (λ (x : List ℕ). x ++ codes "}") (e₃ ∙ ap (λ (x : List ℕ). x ++ w) (e₂
+    ∙ ap (λ (x : List ℕ). x ++ l) e₁)) in
+    let behind : (l ++ w) ++ [] ≡ l ++ w = append-nil (l ++ w) in
+    let same : old ++ m ++ ((l ++ w) ++ []) ++ codes "}" ≡ old ++ m ++ l ++ w ++ codes "}" =
+    ap (λ (x : List ℕ). old ++ m ++ x ++ codes "}") behind
+    ∙ ap (λ (x : List ℕ). x ++ codes "}") (sym (append_assoc (old ++ m) l w)) in
+    all ∙ sym same ∙ object_written old first (second ∷ [])
+
+-- an array of keys, its bracket, its first key, the others and its other bracket
+pub keys_written : (keys others : List NameView) (first : NameView) (shown old t₁ t₂ t₃ t₄ : List ℕ)
+    → keys ≡ first ∷ others → shown ≡ first.text → t₁ ≡ old ++ codes "[" → t₂ ≡ t₁ ++ data_text (string shown)
+    → t₃ ≡ t₂ ++ items_behind (keys_data others) → t₄ ≡ t₃ ++ codes "]"
+    → t₄ ≡ old ++ data_text (key_array keys)
+keys_written keys others first shown old t₁ t₂ t₃ t₄ are is e₁ e₂ e₃ e₄ =
+    let second : t₂ ≡ old ++ codes "[" ++ data_text (string first.text) =
+    e₂ ∙ ap (λ (x : List ℕ). x ++ data_text (string shown)) e₁
+    ∙ ap (λ (x : List ℕ). old ++ codes "[" ++ data_text (string x)) is in
+    let all : t₄ ≡ old ++ codes "[" ++ data_text (string first.text) ++ items_behind (keys_data others)
+    ++ codes "]" = e₄ ∙ ap (λ (x : List ℕ). x ++ codes "]") (e₃
+    ∙ ap (λ (x : List ℕ). x ++ items_behind (keys_data others)) second) in
+    all ∙ array_written old (string first.text) (keys_data others)
+    ∙ ap (λ (ks : List NameView). old ++ data_text (key_array ks)) (sym are)
+
+-- an object that says what it is, its members and its other brace
+pub typed_written : (of_type : List ℕ) (ms : List Member) (t₁ t₂ t₃ : List ℕ)
+    → t₁ ≡ member_text (codes "{") (type_member of_type) → t₂ ≡ t₁ ++ members_behind ms → t₃ ≡ t₂ ++ codes "}"
+    → t₃ ≡ compact_text (typed_data of_type ms)
+unfolding data_text
+typed_written of_type ms t₁ t₂ t₃ e₁ e₂ e₃ =
+    e₃ ∙ ap (λ (x : List ℕ). x ++ codes "}") (e₂ ∙ ap (λ (x : List ℕ). x ++ members_behind ms) e₁)
+    ∙ append_assoc (member_text (codes "{") (type_member of_type)) (members_behind ms) (codes "}")
+    ∙ object_text (type_member of_type) ms
+
+-- and with where something stands
+pub placed_written : (of_type : List ℕ) (ms span : List Member) (file : Member) (t₁ t₂ t₃ t₄ t₅ : List ℕ)
+    → t₁ ≡ member_text (codes "{") (type_member of_type) → t₂ ≡ t₁ ++ members_behind ms
+    → t₃ ≡ t₂ ++ member_text (codes ",") file → t₄ ≡ t₃ ++ members_behind span → t₅ ≡ t₄ ++ codes "}"
+    → t₅ ≡ compact_text (typed_data of_type (ms ++ (file ∷ span)))
+placed_written of_type ms span file t₁ t₂ t₃ t₄ t₅ e₁ e₂ e₃ e₄ e₅ =
+    let m = members_behind ms in
+    let f = member_text (codes ",") file in
+    let s = members_behind span in
+    let others : t₄ ≡ t₁ ++ members_behind (ms ++ (file ∷ span)) =
+    e₄ ∙ ap (λ (x : List ℕ). x ++ s) (e₃ ∙ ap (λ (x : List ℕ). x ++ f) e₂)
+    ∙ append_assoc (t₁ ++ m) f s ∙ append_assoc t₁ m (f ++ s)
+    ∙ ap (λ (x : List ℕ). t₁ ++ x) (sym (behind-append ms (file ∷ span))) in
+    typed_written of_type (ms ++ (file ∷ span)) t₁ t₄ t₅ e₁ others e₅

@@ -81,7 +81,7 @@ fn push_keys(alloc: Global, text: &mut String, keys: &[Name]) -> Result<(), Allo
 }
 
 /// Adds response keys as an array.
-#[tactic(auto, unfolding(crate::specs::MemberTexts::data_text), using(crate::proofs::JsonLemmas::array_written))]
+#[tactic(auto, unfolding(crate::specs::MemberTexts::data_text))]
 fn push_key_array(alloc: Global, text: &mut String, keys: &[Name]) -> Result<(), AllocError>
     ensures { OnOk result (string_bytes text.new ≡ string_bytes text.old ++ data_text (key_array keys.now)) }
 {
@@ -91,7 +91,8 @@ fn push_key_array(alloc: Global, text: &mut String, keys: &[Name]) -> Result<(),
             text.push_str("[")?;
             push_string(alloc, text, first.as_str())?;
             push_keys(alloc, text, others)?;
-            text.push_str("]")
+            text.push_str("]")?;
+            Ok(())
         }
     }
 }
@@ -104,7 +105,8 @@ fn push_steps(alloc: Global, text: &mut String, path: &SelectionPath) -> Result<
     push_root(alloc, text, &path.root)?;
     push_key(alloc, text, ",", "keys")?;
     push_key_array(alloc, text, path.nested_fields.as_slice())?;
-    text.push_str("}")
+    text.push_str("}")?;
+    Ok(())
 }
 
 /// What writes JSON of faults that stand in these sources.

@@ -86,5 +86,6 @@ pub(crate) fn push_definition(
     push_string_member(alloc, text, "{", "kind", kind)?;
     push_key(alloc, text, ",", "name")?;
     push_text(alloc, text, name)?;
-    text.push_str("}")
+    text.push_str("}")?;
+    Ok(())
 }

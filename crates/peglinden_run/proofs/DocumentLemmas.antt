@@ -1,12 +1,12 @@
 -- Documents of files, one file after another.
 use Rattle.std.proofs.Common.{◌≡◌, ◌≢◌, ◌⊎◌, ℕ, ◌+◌, suc, List, [], ◌∷◌, ◌++◌, Option, Some, Result, Ok, Err}
-use Rattle.std.proofs.Common.{IfOk, MatchResult, ◌<◌, count_by, is_some, get_or, take, length, length-take-le}
-use Rattle.std.proofs.Common.{le_of_lt, inl, inr, refl, sym, ap, ◌∙◌, add-zero, arith}
+use Rattle.std.proofs.Common.{IfOk, MatchResult, ◌<◌, ◌≤◌, count_by, is_some, get_or, take, length, length-take-le}
+use Rattle.std.proofs.Common.{le_of_lt, inl, inr, refl, sym, ap, subst, ◌∙◌, add-zero, arith}
 use Rattle.std.specs.Borrow.{Bor}
 use Rattle.std.specs.List.{flat_map}
 use Rattle.std.proofs.lemmas.Grind.{flat_map-append}
 use Rattle.std.proofs.lemmas.List.Sums.{sum_by-append}
-use Rattle.std.proofs.lemmas.List.{append-nil, length-map, map-append, take_more}
+use Rattle.std.proofs.lemmas.List.{append-nil, length-map, map-append, take_all, take_more}
 use Rattle.graphql_nodes.specs.declared.source.FileId.{FileId}
 use Rattle.graphql_nodes.specs.declared.source.SourceFile.{SourceFile}
 use Rattle.graphql_ast.specs.declared.definition.Definition.{Definition}
@@ -24,9 +24,12 @@ use Rattle.program_io.specs.declared.file_error.FileError.TheVariants as errors
 use Rattle.peglinden_run.specs.Documents.{AreDocumentsAt, IsDocumentAt, IsDocumentOf, most_open, most_tokens}
 use Rattle.peglinden_run.specs.Documents.{texts_of}
 use Rattle.peglinden_run.specs.RefusedFiles.{AreReported, IsRefusedFile, IsRefusedText, IsReported}
-use Rattle.peglinden_run.specs.RefusedFiles.{if_reported}
+use Rattle.peglinden_run.specs.RefusedFiles.{IsFilesReport, if_reported, refused_tally}
 use Rattle.peglinden_run.specs.declared.form.Form.{Form}
+use Rattle.peglinden_run.specs.declared.printed.Printed.{Printed}
+use Rattle.peglinden_run.specs.declared.printed.Tally.{Tally}
 use Rattle.peglinden_run.specs.declared.reports.Subject.TheVariants as subjects
+use Rattle.peglinden_run.specs.Printed.{IsArranged}
 use Rattle.peglinden_run.specs.Reports.{IsSaid}
 
 -- there is one document for each file
@@ -191,3 +194,36 @@ module _ (held : List ℕ → List ℕ → Type 0) (may_fail : List ℕ → Type
         counts = counts ∙ ap (λ n. n + count_by is_some (report ∷ [])) was.counts
             ∙ sym (counted-more was.reports report);
       }
+
+-- what is arranged is a fact of what is equal
+pub arranged-as : (form : Form) (tally tally₂ : Tally) (output output₂ said said₂ : List ℕ) (printed : Printed)
+    → tally ≡ tally₂ → output ≡ output₂ → said ≡ said₂ → IsArranged form tally output said printed
+    → IsArranged form tally₂ output₂ said₂ printed
+arranged-as form tally tally₂ output output₂ said said₂ printed tallies outputs saids is =
+    subst (λ (t : Tally). IsArranged form t output₂ said₂ printed) tallies
+    (subst (λ (o : List ℕ). IsArranged form tally o said₂ printed) outputs
+    (subst (λ (l : List ℕ). IsArranged form tally output l printed) saids is))
+
+-- what is printed of files, some of which are refused
+pub files-report : (form : Form) (held : List ℕ → List ℕ → Type 0) (may_fail : List ℕ
+    → Type 0) (paths : List (Bor (List ℕ))) (text output : List ℕ) (count files : ℕ) (printed : Printed)
+    → Reported form held may_fail paths (length paths) text count → count ≢ 0 → files ≡ length paths
+    → output ≡ []
+    → IsArranged form (record { faults = count; shown = count; files = files }) output text printed
+    → IsFilesReport form held may_fail (texts_of paths) printed
+files-report form held may_fail paths text output count files printed was some named none is =
+    let whole : length paths ≤ length paths = omega arith in
+    let all : take (length paths) paths ≡ paths = take_all (length paths) paths whole in
+    let many : files ≡ length (texts_of paths) = named ∙ sym (length-map paths (λ (path : Bor (List ℕ)). path.now))
+    in
+    record {
+      reports = was.reports;
+      are = rw all at was.are;
+      some = λ zero. some (was.counts ∙ zero);
+      says = arranged-as form _ (refused_tally (texts_of paths) was.reports) output [] text
+          (flat_map if_reported was.reports) printed (λ i. record {
+            faults = was.counts i;
+            shown = was.counts i;
+            files = many i;
+          }) none was.says is;
+    }
