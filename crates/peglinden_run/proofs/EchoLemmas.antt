@@ -15,12 +15,12 @@ leaves_out-so IsSo (y ∷ xs) kept x (inr out) so = inr (
 -- one that is not so
 pub leaves_out-other : {A : Type 0} (IsSo : A → Type 0) (xs kept : List A) (x : A) → LeavesOut IsSo xs kept
     → (¬ IsSo x) → LeavesOut IsSo (xs ++ x ∷ []) (kept ++ x ∷ [])
-leaves_out-other IsSo [] kept x out no = inr (no, ([], (ap (λ l. l ++ x ∷ []) out, refl)))
-leaves_out-other IsSo (y ∷ xs) kept x (inl out) no = inl (out.0, leaves_out-other IsSo xs kept x out.1 no)
-leaves_out-other IsSo (y ∷ xs) kept x (inr out) no = inr (
+leaves_out-other IsSo [] kept x out never = inr (never, ([], (ap (λ l. l ++ x ∷ []) out, refl)))
+leaves_out-other IsSo (y ∷ xs) kept x (inl out) never = inl (out.0, leaves_out-other IsSo xs kept x out.1 never)
+leaves_out-other IsSo (y ∷ xs) kept x (inr out) never = inr (
   out.0,
   (
     out.1.0 ++ x ∷ [],
-    (ap (λ l. l ++ x ∷ []) out.1.1.0, leaves_out-other IsSo xs out.1.0 x out.1.1.1 no),
+    (ap (λ l. l ++ x ∷ []) out.1.1.0, leaves_out-other IsSo xs out.1.0 x out.1.1.1 never),
   ),
 )

@@ -1,3 +1,4 @@
+pub mod AnswerLemmas
 pub mod DocumentLemmas
 pub mod EchoLemmas
 pub mod SaidOfAll

@@ -62,8 +62,7 @@ command_added : (sentence : Option (List ℕ)) (files : Files) (location : Optio
     → OfSaid sentence (λ s. command ≡ command_text (path_of_file location files) (starts location files) s)
     → middle ≡ old ++ command → new ≡ middle ++ codes "\n" → Adds (IsCommandLine files location) old new
 command_added sentence files location command old middle new is one two =
-    let says = some_said sentence _ is in
-    (
+    let says = some_said sentence _ is in (
       command ++ codes "\n",
       (behind old command middle new one two, (says.0, ap (λ l. l ++ codes "\n") says.1)),
     )

@@ -21,6 +21,8 @@ use Rattle.peglinden_run.specs.declared.form.Form.{Form}
 use Rattle.peglinden_run.specs.declared.form.Form.TheVariants as forms
 use Rattle.peglinden_run.specs.declared.printed.Printed.{Printed}
 use Rattle.peglinden_run.specs.declared.printed.Tally.{Tally}
+use Rattle.peglinden_run.specs.Documents.{texts_of}
+use Rattle.peglinden_run.specs.Forms.{form_of}
 use Rattle.peglinden_run.specs.LookupCommand.{IsLookupCause}
 use Rattle.peglinden_run.specs.Printed.{IsArranged}
 use Rattle.peglinden_run.specs.RefusedFiles.{IsFilesCause}
@@ -97,11 +99,14 @@ pub cause_in_words : (request : Request) (held : List ℕ → List ℕ → Type 
 cause_in_words (requests.Schema adopt ignore_builtin reporting files) held may_fail failure cause words =
     schema_in_words _ held may_fail _ _ failure words cause
 cause_in_words (requests.Check typing) held may_fail failure cause words =
-    typed_in_words _ held may_fail _ _ failure words cause
+    typed_in_words (form_of typing.reporting) held may_fail (texts_of typing.schema.items)
+    (texts_of typing.documents.items) failure words cause
 cause_in_words (requests.Typed typing) held may_fail failure cause words =
-    typed_in_words _ held may_fail _ _ failure words cause
+    typed_in_words (form_of typing.reporting) held may_fail (texts_of typing.schema.items)
+    (texts_of typing.documents.items) failure words cause
 cause_in_words (requests.Fields typing) held may_fail failure cause words =
-    typed_in_words _ held may_fail _ _ failure words cause
+    typed_in_words (form_of typing.reporting) held may_fail (texts_of typing.schema.items)
+    (texts_of typing.documents.items) failure words cause
 cause_in_words (requests.Lookup coordinate reporting files) held may_fail failure cause words =
     lookup_in_words _ held may_fail _ _ failure words cause
 cause_in_words (requests.Format check reporting files) held may_fail failure cause words =

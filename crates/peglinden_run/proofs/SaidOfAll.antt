@@ -1,5 +1,5 @@
 -- What is said of all that is at fault.
-use Rattle.std.proofs.Common.{◌≡◌, ℕ, List, [], ◌∷◌, Option, None, Some, false, refl, subst, arith}
+use Rattle.std.proofs.Common.{◌≡◌, ◌-◌, ℕ, zero, suc, length, take, List, [], ◌∷◌, Option, None, Some, false, refl, subst, arith}
 use Rattle.apollo_document.specs.Typable.{Fault as DocumentFault}
 use Rattle.apollo_meaning.specs.Faults.Collisions.{Fault}
 use Rattle.leafcheck.specs.declared.leaf_fault.LeafFault.{LeafFault}
@@ -36,11 +36,19 @@ module _ (OfSchema : Fault → List ℕ → Type 0) (OfDocument : DocumentFault 
   says-nothing [] (y ∷ ys) zs it a b c is = absurd (grind (arith, is, b))
   says-nothing [] [] (z ∷ zs) it a b c is = absurd (grind (arith, is, c))
 
+taken-none : {A : Type 0} (n : ℕ) → length (take {A = A} n []) ≡ 0
+taken-none zero = refl
+taken-none (suc n) = refl
+
 -- of nothing nothing is taken
 none-taken : (most : ℕ) (xs : List Fault) (ys : List DocumentFault) (zs : List LeafFault) (it : Found)
     → xs ≡ it.schema → ys ≡ it.document → zs ≡ it.leaves → any_fault it ≡ false
     → any_fault (first_of (Some most) it) ≡ false
-none-taken most [] [] [] it a b c is = rw (← a, ← b, ← c) refl
+none-taken most [] [] [] it a b c is = rw (← a, ← b, ← c) (rw (
+  taken-none {A = Fault} most,
+  taken-none {A = DocumentFault} (most - 0),
+  taken-none {A = LeafFault} (most - 0 - 0),
+) refl)
 none-taken most (x ∷ xs) ys zs it a b c is = absurd (grind (arith, is, a))
 none-taken most [] (y ∷ ys) zs it a b c is = absurd (grind (arith, is, b))
 none-taken most [] [] (z ∷ zs) it a b c is = absurd (grind (arith, is, c))

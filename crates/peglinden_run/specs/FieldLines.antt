@@ -35,13 +35,16 @@ definition_type definition = option_map (λ (n : NodeView FieldDefinition). type
 abbrev pub definition_location : Option (NodeView FieldDefinition) → Option SourceSpan
 definition_location definition = option_and_then (λ (n : NodeView FieldDefinition). n.location) definition
 
+-- the name of an operation, if it has one
+abbrev pub operation_name : Operation → Option (List ℕ)
+operation_name operation = option_map (λ (n : NameView). n.text) operation.name
+
 -- what is said of a field that an operation reaches: the operation, the coordinate, the type, and how often it
 -- stands there
 abbrev pub usage_members : Operation → List ℕ → Option (List ℕ) → ℕ → List Member
 usage_members operation coordinate ty count = (
   codes "operation",
-  definition_data (operation_text operation.operation_type)
-      (option_map (λ (n : NameView). n.text) operation.name),
+  definition_data (operation_text operation.operation_type) (operation_name operation),
 )
     ∷ (codes "coordinate", text_data (Some coordinate))
     ∷ (codes "field_type", text_data ty)

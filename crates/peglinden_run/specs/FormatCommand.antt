@@ -2,7 +2,7 @@
 use Rattle.std.specs.Prelude.{◌≡◌, ◌++◌, ◌==◌, ◌∷◌, ℕ, Bool, true, false, not, List, [], Option, None, Some}
 use Rattle.std.specs.Prelude.{codes, length, nat_eq, if◌then◌else◌, option_map, string_bytes}
 use Rattle.std.specs.Cmp.Lexicographic.{pointwise}
-use Rattle.std.specs.List.{filter_map, flat_map}
+use Rattle.std.specs.List.{flat_map}
 use Rattle.graphql_nodes.specs.Sources.{Files}
 use Rattle.graphql_nodes.specs.VisibleTexts.{visible}
 use Rattle.graphql_nodes.specs.declared.source.SourceFile.{SourceFile}
@@ -51,17 +51,17 @@ form_documents forms.Words documents = ended (all_definitions documents)
 form_documents forms.Github documents = ended (all_definitions documents)
 
 -- the path of the first of these files, where its text is not this one
-abbrev pub path_unless : List ℕ → Files → Option (List ℕ)
-path_unless text [] = None
-path_unless text (file ∷ files) = if pointwise nat_eq text file.1.text then None else Some file.1.path
+abbrev pub path_unless : List ℕ → Files → List (List ℕ)
+path_unless text [] = []
+path_unless text (file ∷ files) = if pointwise nat_eq text file.1.text then [] else file.1.path ∷ []
 
 -- the path of a document's file, where its text differs from its layout
-abbrev pub changed_path : Document → Option (List ℕ)
+abbrev pub changed_path : Document → List (List ℕ)
 changed_path document = path_unless (formatted document) document.sources
 
 -- the paths of the files whose text differs
 abbrev pub changed_paths : List Document → List (List ℕ)
-changed_paths documents = filter_map changed_path documents
+changed_paths documents = flat_map changed_path documents
 
 -- what a form says of a file whose text differs
 abbrev pub changed_in : Form → List ℕ → List ℕ

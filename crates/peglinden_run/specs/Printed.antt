@@ -1,5 +1,5 @@
 -- What a run prints.
-use Rattle.std.specs.Prelude.{◌≡◌, ◌++◌, ◌==◌, if◌then◌else◌, ℕ, List, [], codes, decimal, string_bytes}
+use Rattle.std.specs.Prelude.{◌≡◌, ◌++◌, ◌==◌, if◌then◌else◌, ℕ, zero, suc, List, [], codes, decimal, string_bytes}
 use Rattle.apollo_reporting.specs.Counts.{count_text}
 use Rattle.peglinden_run.specs.declared.form.Form.{Form}
 use Rattle.peglinden_run.specs.declared.form.Form.TheVariants as forms
@@ -12,10 +12,14 @@ abbrev pub shown_note : Tally → List ℕ
 shown_note tally = if tally.shown == tally.faults then []
     else codes ", " ++ decimal tally.shown ++ codes " shown"
 
+-- so many faults, and a note of them, on a line, or nothing where there is none
+abbrev pub count_line : ℕ → List ℕ → List ℕ
+count_line zero note = []
+count_line (suc n) note = count_text (suc n) ++ note ++ codes "\n"
+
 -- how many faults there are, on a line, or nothing where there is none
 abbrev pub tally_line : Tally → List ℕ
-tally_line tally = if tally.faults == 0 then []
-    else count_text tally.faults ++ shown_note tally ++ codes "\n"
+tally_line tally = count_line tally.faults (shown_note tally)
 
 -- what is printed of the output of a command, and of what is said of its faults, which are so many. For
 -- people it is the output, and on standard error what is said and how much that is. In JSON it is one behind

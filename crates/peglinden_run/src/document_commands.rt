@@ -1,7 +1,7 @@
 //! The commands on documents over a schema: `check`, `typed` and `fields`.
 ghost use Rattle.std.specs.Prelude.{◌≡◌, IfErr, IfOk, string_bytes};
 ghost use Rattle.peglinden_run.specs.DocumentCommands.{IsDocumentAnswer, IsTypingCause, form_fields};
-ghost use Rattle.peglinden_run.specs.DocumentCommands.{output_of};
+ghost use Rattle.peglinden_run.specs.DocumentCommands.{named_files, output_of};
 
 use crate::answer::Answer;
 use crate::ended::ended_text;
@@ -47,12 +47,19 @@ pub(crate) fn document_answer<F: Files>(
     let form = form_of(&typing.reporting);
     let typed = type_documents(alloc, keys, form, files, schema_paths, document_paths)?;
     let output = shown_text(alloc, form, shown, &typed)?;
-    let count = schema_paths.len().saturating_add(document_paths.len());
+    let count = named_files(typing);
     Ok(
         typed
             .findings
             .answer(alloc, &typing.reporting, count, output)?,
     )
+}
+
+/// How many files are named, or the greatest number where they are more.
+fn named_files(typing: &Typing<'_>) -> usize
+    ensures { result ≡ named_files typing.now }
+{
+    typing.schema.len().saturating_add(typing.documents.len())
 }
 
 /// What a command shows of a typed document, in a form. The error is out of memory.

@@ -2,7 +2,8 @@
 ghost use Rattle.std.specs.Prelude.{◌≡◌, ◌++◌, IfOk, OnOk, option_map, string_bytes};
 ghost use Rattle.std.specs.List.{flat_map};
 ghost use Rattle.peglinden_run.specs.FieldLines.{definition_at, definition_location, definition_type};
-ghost use Rattle.peglinden_run.specs.FieldLines.{field_line, field_lines, operation_lines, usage_line};
+ghost use Rattle.peglinden_run.specs.FieldLines.{field_line, field_lines, operation_lines, operation_name};
+ghost use Rattle.peglinden_run.specs.FieldLines.{usage_line};
 
 use crate::lines::placed_line;
 use apollo_executable::document::ExecutableDocument;
@@ -110,7 +111,7 @@ fn usage_line<'x, S: Sources>(
     ensures { IfOk result (λ line. string_bytes line ≡ usage_line (S.files sources.now) operation.now
         coordinate.now (option_map (λ ty. ty.now) ty.entry) count location) }
 {
-    let name = operation.name.as_ref().map(Name::as_str);
+    let name = operation_name(operation);
     placed_line(
         alloc,
         "field",
@@ -126,6 +127,13 @@ fn usage_line<'x, S: Sources>(
         sources,
         location,
     )
+}
+
+/// The name of an operation, if it has one.
+fn operation_name(operation: &Operation) -> Option<&str>
+    ensures { option_map (λ name. name.now) result ≡ operation_name operation.now }
+{
+    operation.name.as_ref().map(Name::as_str)
 }
 
 /// The definition of a field that is reached, where the schema has it.

@@ -1,5 +1,5 @@
 //! The command `format`.
-ghost use Rattle.std.specs.Prelude.{◌≡◌, IfErr, IfOk, option_map, string_bytes};
+ghost use Rattle.std.specs.Prelude.{◌≡◌, ◌++◌, IfErr, IfOk, OnOk, option_map, string_bytes};
 ghost use Rattle.std.specs.List.{flat_map};
 ghost use Rattle.peglinden_run.specs.Documents.{texts_of};
 ghost use Rattle.peglinden_run.specs.FormatCommand.{IsChecked, IsFormatAnswer, all_definitions, changed_in};
@@ -57,7 +57,7 @@ pub(crate) fn format_answer<F: Files>(
         shown: 0,
         files: paths.len(),
     };
-    let output = form_documents(alloc, form, documents.as_slice())?;
+    let output = form_documents(alloc, form, documents)?;
     Ok(Answer {
         printed: arranged(alloc, form, tally, output, String::new(alloc))?,
         has_faults: false,
@@ -65,11 +65,11 @@ pub(crate) fn format_answer<F: Files>(
 }
 
 /// What a form has of documents in our layout. The error is out of memory.
-fn form_documents(alloc: Global, form: Form, documents: &[Document]) -> Result<String, AllocError>
-    ensures { IfOk result (λ text. string_bytes text ≡ form_documents form documents.now) }
+fn form_documents(alloc: Global, form: Form, documents: Vec<Document>) -> Result<String, AllocError>
+    ensures { IfOk result (λ text. string_bytes text ≡ form_documents form documents.items) }
 {
     match form {
-        Form::Json => document_lines(alloc, documents),
+        Form::Json => document_lines(alloc, documents.as_slice()),
         Form::Words | Form::Github => {
             let definitions = all_definitions(alloc, documents)?;
             ended_text(alloc, definitions.as_slice())
@@ -78,13 +78,12 @@ fn form_documents(alloc: Global, form: Form, documents: &[Document]) -> Result<S
 }
 
 /// The definitions of documents, one behind the other. The error is out of memory.
-fn all_definitions(alloc: Global, documents: &[Document]) -> Result<Items<Definition>, AllocError>
-    ensures { IfOk result (λ all. all ≡ all_definitions documents.now) }
+fn all_definitions(alloc: Global, documents: Vec<Document>) -> Result<Items<Definition>, AllocError>
+    ensures { IfOk result (λ all. all ≡ all_definitions documents.items) }
 {
     let mut all = Items::new(alloc);
-    for document in documents {
-        let mut definitions = document.definitions.clone()?;
-        all.append(&mut definitions)?;
+    for mut document in documents {
+        all.append(&mut document.definitions)?;
     }
     Ok(all)
 }
@@ -137,7 +136,7 @@ fn check_answer(
     let said = changed_text(alloc, form, shown)?;
     Ok(Answer {
         printed: checked_printed(alloc, form, tally, said)?,
-        has_faults: !changed.is_empty(),
+        has_faults: tally.faults != 0,
     })
 }
 
@@ -175,26 +174,27 @@ fn changed_paths<'d>(alloc: Global, documents: &'d [Document]) -> Result<Vec<&'d
 {
     let mut paths = Vec::new(alloc);
     for document in documents {
-        if let Some(path) = changed_path(alloc, document)? {
-            paths.push(path)?;
-        }
+        push_changed(alloc, &mut paths, document)?;
     }
     Ok(paths)
 }
 
-/// The path of a document's file, where its text differs from its layout. The error is out of memory.
-fn changed_path<'d>(alloc: Global, document: &'d Document) -> Result<Option<&'d str>, AllocError>
-    ensures { IfOk result (λ path. option_map (λ path. path.now) path ≡ changed_path document.now) }
+/// Adds the path of a document's file, where its text differs from its layout. The error is out of memory.
+fn push_changed<'d>(
+    alloc: Global,
+    paths: &mut Vec<&'d str>,
+    document: &'d Document,
+) -> Result<(), AllocError>
+    ensures { OnOk result (texts_of paths.new.items ≡ texts_of paths.old.items ++ changed_path document.now) }
 {
     let Some((_, file)) = document.sources.first() else {
-        return Ok(None);
+        return Ok(());
     };
     let formatted = ended_text(alloc, document.definitions.as_slice())?;
-    if formatted.as_str() == file.text.as_str() {
-        Ok(None)
-    } else {
-        Ok(Some(file.path.as_str()))
+    if formatted.as_str() != file.text.as_str() {
+        paths.push(file.path.as_str())?;
     }
+    Ok(())
 }
 
 /// What a form says of files that differ. The error is out of memory.

@@ -1,5 +1,5 @@
 //! The command `lookup`.
-ghost use Rattle.std.specs.Prelude.{◌≡◌, [], false, IfErr, IfOk, string_bytes};
+ghost use Rattle.std.specs.Prelude.{◌≡◌, [], IfErr, IfOk, string_bytes};
 ghost use Rattle.apollo_coordinate.specs.CoordinateText.{coordinate_text};
 ghost use Rattle.peglinden_run.specs.Documents.{texts_of};
 ghost use Rattle.peglinden_run.specs.Forms.{form_of};
@@ -56,14 +56,17 @@ pub(crate) fn lookup_answer<F: Files>(
     let documents = read_documents(alloc, form, files, paths)?;
     let (schema, _) = build_schema(alloc, keys, CompileOptions::none(), documents.as_slice())?;
     match coordinate.lookup(&schema) {
-        Ok(found) => Ok(found_answer(
-            alloc,
-            form,
-            paths.len(),
-            &schema.sources,
-            &coordinate,
-            found,
-        )?),
+        Ok(found) => Ok(Answer {
+            printed: found_printed(
+                alloc,
+                form,
+                paths.len(),
+                &schema.sources,
+                &coordinate,
+                found,
+            )?,
+            has_faults: false,
+        }),
         Err(error) => Ok(Answer {
             printed: missing_printed(alloc, form, paths.len(), &coordinate, &error)?,
             has_faults: true,
@@ -71,18 +74,17 @@ pub(crate) fn lookup_answer<F: Files>(
     }
 }
 
-/// The answer where a coordinate points to something. The error is out of memory.
-fn found_answer(
+/// What is printed where a coordinate points to something. The error is out of memory.
+fn found_printed(
     alloc: Global,
     form: Form,
     files: usize,
     sources: &SourceMap,
     coordinate: &SchemaCoordinate,
     found: SchemaCoordinateLookup<'_>,
-) -> Result<Answer, AllocError>
-    ensures shown { IfOk result (λ answer. IsArranged form (no_faults files)
-        (form_found form sources.now coordinate.now found.entry) [] answer.printed) }
-    ensures any { IfOk result (λ answer. answer.has_faults ≡ false) }
+) -> Result<Printed, AllocError>
+    ensures { IfOk result (IsArranged form (no_faults files)
+        (form_found form sources.now coordinate.now found.entry) []) }
 {
     let tally = Tally {
         faults: 0,
@@ -90,10 +92,7 @@ fn found_answer(
         files,
     };
     let output = form_found(alloc, form, sources, coordinate, found)?;
-    Ok(Answer {
-        printed: arranged(alloc, form, tally, output, String::new(alloc))?,
-        has_faults: false,
-    })
+    arranged(alloc, form, tally, output, String::new(alloc))
 }
 
 /// What a form has of what a coordinate points to. The error is out of memory.

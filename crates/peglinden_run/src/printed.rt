@@ -1,6 +1,6 @@
 //! What a run prints.
-ghost use Rattle.std.specs.Prelude.{◌≡◌, ◌++◌, IfOk, string_bytes};
-ghost use Rattle.peglinden_run.specs.Printed.{IsArranged, tally_line};
+ghost use Rattle.std.specs.Prelude.{◌≡◌, ◌++◌, IfOk, OnOk, string_bytes};
+ghost use Rattle.peglinden_run.specs.Printed.{IsArranged, shown_note, tally_line};
 
 use crate::form::Form;
 use crate::lines::summary_line;
@@ -68,12 +68,21 @@ fn joined(mut text: String, behind: &str) -> Result<String, AllocError>
 pub(crate) fn tally_line(alloc: Global, tally: Tally) -> Result<String, AllocError>
     ensures { IfOk result (λ line. string_bytes line ≡ tally_line tally) }
 {
-    let faults = faults_line(tally.faults);
     if tally.faults == 0 {
-        Ok(String::new(alloc))
-    } else if tally.shown == tally.faults {
-        format!(in alloc; "{faults}\n")
-    } else {
-        format!(in alloc; "{faults}, {} shown\n", tally.shown)
+        return Ok(String::new(alloc));
     }
+    let mut line = faults_line(tally.faults).to_string(alloc)?;
+    push_shown(&mut line, tally)?;
+    line.push_str("\n")?;
+    Ok(line)
+}
+
+/// Adds how many of the faults are shown, where that is not all. The error is out of memory.
+fn push_shown(line: &mut String, tally: Tally) -> Result<(), AllocError>
+    ensures { OnOk result (string_bytes line.new ≡ string_bytes line.old ++ shown_note tally) }
+{
+    if tally.shown == tally.faults {
+        return Ok(());
+    }
+    write!(line, ", {} shown", tally.shown)
 }

@@ -1,12 +1,12 @@
 //! The run of the program.
-ghost use Rattle.std.specs.Prelude.{◌≡◌, [], OnErr, OnOk};
+ghost use Rattle.std.specs.Prelude.{◌≡◌, ◌≢◌, [], OnErr, OnOk};
 ghost use Rattle.clap.specs.Walk.{texts};
 ghost use Rattle.program_io.specs.Writing.{IsBegun};
 ghost use Rattle.peglinden_run.specs.Naming.{names_input};
 ghost use Rattle.peglinden_words.specs.Requests.{asked, asked_of};
 ghost use Rattle.peglinden_run.specs.Runs.{AppendsAny, AsksForWords, EndsAs, IsFailureWritten, IsInWords, IsRunOn};
 ghost use Rattle.peglinden_run.specs.Runs.{IsTextWritten, IsUnanswered, IsWritten, MayEnd};
-ghost use Rattle.peglinden_run.specs.Status.{output_of};
+ghost use Rattle.peglinden_run.specs.Status.{output_of, status_of};
 
 use crate::answer::Answer;
 use crate::answering::answer_to;
@@ -164,6 +164,7 @@ fn end_with_failure<O: Write, E: Write>(failure: &Failure, output: &mut O, error
     ensures written { IsFailureWritten failure.now (O.contents output.old) (O.contents output.new)
         (E.contents errors.old) (E.contents errors.new) result }
     ensures unwritten { output_of failure.now ≡ [] → output.new ≡ output.old }
+    ensures ends { output_of failure.now ≡ [] → result ≡ status_of failure.now }
     ensures quiet { result ≡ Status.Done → errors.new ≡ errors.old }
 {
     if let Err(error) = write_if_any(output, failure.output()) {
@@ -179,6 +180,7 @@ fn write_if_any<O: Write>(output: &mut O, text: &str) -> io::Result<()>
     ensures written { OnOk result (AppendsAny (O.contents output.old) (O.contents output.new) text.now) }
     ensures begun { OnErr result (IsBegun text.now (O.contents output.old) (O.contents output.new)) }
     ensures unwritten { text.now ≡ [] → output.new ≡ output.old }
+    ensures some { OnErr result (text.now ≢ []) }
 {
     if text.is_empty() {
         return Ok(());

@@ -44,7 +44,8 @@ pub(crate) fn schema_answer<F: Files>(
     let form = form_of(reporting);
     let (schema, faults) = read_schema(alloc, keys, options, form, files, paths)?;
     let (written, sources) = written_out(alloc, schema)?;
-    let output = form_text(alloc, form, ended_text(alloc, written.as_slice())?)?;
+    let text = ended_text(alloc, written.as_slice())?;
+    let output = form_text(alloc, form, text)?;
     let findings = Findings::of_schema(alloc, sources, faults);
     Ok(findings.answer(alloc, reporting, paths.len(), output)?)
 }

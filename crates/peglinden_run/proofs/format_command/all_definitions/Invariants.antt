@@ -1,6 +1,6 @@
-use Rattle.std.proofs.Common.{◌≡◌, take}
+use Rattle.std.proofs.Common.{◌≡◌}
 use Rattle.peglinden_run.specs.FormatCommand.{all_definitions}
 use Rattle.peglinden_run.proofs.format_command.all_definitions.Given as goal
 
 abbrev pub invariant-loop-document : goal.invariant-loop-document
-invariant-loop-document l = l.all ≡ all_definitions (take l.document-index l.documents)
+invariant-loop-document l = l.all ≡ all_definitions l.yielded

@@ -9,3 +9,6 @@ pub returns-in-Err-Help-clause-run : goal.returns-in-Err-Help-clause-run
 returns-in-Err-Help-clause-run g c =
     let called = rw c.in-Err-Help.field-0-is at c.in-Err-Help.ensures.refused in
     inr (help_written _ _ _ _ c.end_with_help.result called c.end_with_help.ensures.written, refl)
+
+pub returns-in-Err-Memory-clause-run : goal.returns-in-Err-Memory-clause-run
+returns-in-Err-Memory-clause-run g c = inr (rw (c.end_with_failure.ensures.ends refl) tt, refl)
