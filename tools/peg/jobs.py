@@ -71,6 +71,7 @@ def over_programs():
         command("tools/fuzz", "--peer", "100", "1"),
         command("tools/fuzz", "--texts", "100", "1"),
         command("tools/fuzz", "--files", "100", "1"),
+        command("tools/fuzz", "--json", "300", "1"),
         command("tools/checked_examples"),
         command("tools/pages", "--check"),
         *(command(f"tools/{check}") for check in checks),

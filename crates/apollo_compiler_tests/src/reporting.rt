@@ -3,6 +3,7 @@
 mod details;
 mod documents;
 mod failures;
+mod forms;
 mod leaves;
 mod long_lines;
 mod made;

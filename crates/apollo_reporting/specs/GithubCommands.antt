@@ -1,5 +1,5 @@
--- Workflow commands of GitHub, which report an error: `::error file=F,line=L,col=C::SENTENCE`. Signs that mean
--- something there are written by their numbers.
+-- Workflow commands of GitHub, which report an error: `::error file=F,line=L,col=C::SENTENCE`. Signs that
+-- mean something there are written by their numbers.
 use Rattle.std.specs.Prelude.{◌≡◌, ℕ, Bool, true, false, ◌&&◌, cond, List, [], ◌++◌, Option, None, Some, codes, decimal, nat_eq}
 use Rattle.std.specs.Prelude.{encode_utf8}
 use Rattle.std.specs.List.{flat_map}

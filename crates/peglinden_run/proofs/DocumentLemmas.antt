@@ -62,7 +62,8 @@ the_last (inr (inl b)) no_a no_b = absurd (no_b b)
 the_last (inr (inr c)) no_a no_b = c
 
 -- the report of why a text is refused, which has no document, and where it is, in a file that has a number
-pub refused-text : (form : Form) (number : FileId) (path text : List ℕ) (options : ParseOptions) (source : SourceFile)
+pub refused-text : (form : Form) (number : FileId) (path text : List ℕ) (options : ParseOptions)
+    (source : SourceFile)
     (error : ParseError) (report : List ℕ) → source ≡ record { path = path; text = text } → options ≡ usual
     → number.0 ≢ 0
     → ((definitions : List Definition) → spells_document number options.max_depth definitions
@@ -81,11 +82,14 @@ refused-text form number path text options source error report is most some only
     )
 
 -- what is read of a text that a file may hold
-pub read-text : {B E : Type 0} (form : Form) (bytes_of : B → List ℕ) (held : List ℕ → List ℕ → Type 0) (may_fail : List ℕ
+pub read-text : {B E : Type 0} (form : Form) (bytes_of : B → List ℕ) (held : List ℕ → List ℕ → Type 0)
+    (may_fail : List ℕ
     → Type 0) (number : ℕ) (path text : List ℕ) (r : Result (Result Document B) E) → held path text
-    → IfOk r (λ read. MatchResult read (IsDocumentOf number path text) (λ report. IsRefusedText form number path
+    → IfOk r (λ read. MatchResult read (IsDocumentOf number path text)
+    (λ report. IsRefusedText form number path
     text (bytes_of report)))
-    → IfOk r (λ read. MatchResult read (IsDocumentAt held number path) (λ report. IsRefusedFile form held may_fail
+    → IfOk r (λ read. MatchResult read (IsDocumentAt held number path)
+    (λ report. IsRefusedFile form held may_fail
     number path (bytes_of report)))
 read-text form bytes_of held may_fail number path text (Ok (Ok document)) holds is = (text, (holds, is))
 read-text form bytes_of held may_fail number path text (Ok (Err report)) holds is = inr (text, (holds, is))
@@ -196,7 +200,8 @@ module _ (held : List ℕ → List ℕ → Type 0) (may_fail : List ℕ → Type
       }
 
 -- what is arranged is a fact of what is equal
-pub arranged-as : (form : Form) (tally tally₂ : Tally) (output output₂ said said₂ : List ℕ) (printed : Printed)
+pub arranged-as : (form : Form) (tally tally₂ : Tally) (output output₂ said said₂ : List ℕ)
+    (printed : Printed)
     → tally ≡ tally₂ → output ≡ output₂ → said ≡ said₂ → IsArranged form tally output said printed
     → IsArranged form tally₂ output₂ said₂ printed
 arranged-as form tally tally₂ output output₂ said said₂ printed tallies outputs saids is =
@@ -214,7 +219,8 @@ pub files-report : (form : Form) (held : List ℕ → List ℕ → Type 0) (may_
 files-report form held may_fail paths text output count files printed was some named none is =
     let whole : length paths ≤ length paths = omega arith in
     let all : take (length paths) paths ≡ paths = take_all (length paths) paths whole in
-    let many : files ≡ length (texts_of paths) = named ∙ sym (length-map paths (λ (path : Bor (List ℕ)). path.now))
+    let many : files ≡ length (texts_of paths) = named
+    ∙ sym (length-map paths (λ (path : Bor (List ℕ)). path.now))
     in
     record {
       reports = was.reports;

@@ -16,7 +16,8 @@ leaves_out-so IsSo (y ∷ xs) kept x (inr out) so = inr (
 pub leaves_out-other : {A : Type 0} (IsSo : A → Type 0) (xs kept : List A) (x : A) → LeavesOut IsSo xs kept
     → (¬ IsSo x) → LeavesOut IsSo (xs ++ x ∷ []) (kept ++ x ∷ [])
 leaves_out-other IsSo [] kept x out never = inr (never, ([], (ap (λ l. l ++ x ∷ []) out, refl)))
-leaves_out-other IsSo (y ∷ xs) kept x (inl out) never = inl (out.0, leaves_out-other IsSo xs kept x out.1 never)
+leaves_out-other IsSo (y ∷ xs) kept x (inl out) never = inl
+    (out.0, leaves_out-other IsSo xs kept x out.1 never)
 leaves_out-other IsSo (y ∷ xs) kept x (inr out) never = inr (
   out.0,
   (

@@ -46,7 +46,8 @@ report_added sentence files location about report old middle new is one two =
     (report ++ codes "\n", (behind old report middle new one two, (says.0, ap (λ l. l ++ codes "\n") says.1)))
 
 -- and a line of JSON
-json_added : (subject : Subject) (sentence : Option (List ℕ)) (of_details : Option (List Detail)) (files : Files)
+json_added : (subject : Subject) (sentence : Option (List ℕ)) (of_details : Option (List Detail))
+    (files : Files)
     (location : Option SourceSpan) (about : AboutView) (json old middle new : List ℕ)
     → OfSaid sentence (λ s. OfSaid of_details (λ details. json
     ≡ compact_text (fault_data (type_of subject) files location about s details))) → middle ≡ old ++ json

@@ -56,7 +56,8 @@ failure_written (failures.Exhausted error) old new old_errors new_errors out rep
 arranged_in_words : (form : Form) (tally : Tally) (said : List ℕ) (printed : Printed) → form ≡ forms.Words
     → IsArranged form tally [] said printed → string_bytes printed.output ≡ []
 arranged_in_words forms.Words tally said printed words is = is.0
-arranged_in_words forms.Json tally said printed words is = absurd (let no : forms.Json ≡ forms.Words = words in
+arranged_in_words forms.Json tally said printed words is = absurd
+    (let no : forms.Json ≡ forms.Words = words in
     cc)
 arranged_in_words forms.Github tally said printed words is =
     absurd (let no : forms.Github ≡ forms.Words = words in cc)
@@ -74,7 +75,8 @@ typed_in_words : (form : Form) (held : List ℕ → List ℕ → Type 0) (may_fa
     → IsTypedCause form held may_fail schema_paths document_paths failure → output_of failure ≡ []
 typed_in_words form held may_fail schema_paths document_paths (failures.Files printed) words cause =
     arranged_in_words form _ _ printed words cause.says
-typed_in_words form held may_fail schema_paths document_paths (failures.NoCoordinate sentence) words cause = refl
+typed_in_words form held may_fail schema_paths document_paths (failures.NoCoordinate sentence) words cause
+    = refl
 typed_in_words form held may_fail schema_paths document_paths (failures.Exhausted error) words cause = refl
 
 lookup_in_words : (form : Form) (held : List ℕ → List ℕ → Type 0) (may_fail : List ℕ → Type 0) (text : List ℕ)

@@ -35,8 +35,8 @@ output_of form shown.Fields typed = form_fields form typed
 abbrev pub named_files : Typing → ℕ
 named_files typing = min (length typing.schema.items + length typing.documents.items) (2 ^ 64 - 1)
 
--- the answer is what the command shows of the typed document of these files over the schema of these files, and
--- what is said of its faults. `held` says which bytes the file of a path may hold
+-- the answer is what the command shows of the typed document of these files over the schema of these files,
+-- and what is said of its faults. `held` says which bytes the file of a path may hold
 pub record IsDocumentAnswer (held : List ℕ → List ℕ
     → Type 0) (what : Shown) (typing : Typing) (answer : Answer) : Type 0 where
   pub typed : TypedDocument

@@ -8,8 +8,8 @@ use Rattle.leafcheck.specs.declared.leaf_fault.LeafFault.{LeafFault}
 use Rattle.leafcheck.specs.declared.leaf_fault.LeafKind.{LeafKind}
 use Rattle.leafcheck.specs.declared.leaf_fault.LeafKind.TheVariants.{MissingSubselection, SubselectionOnLeaf}
 
--- a fault in this way of the field of this path repeats these faults: subselections are missing, and one of the
--- faults is of a selection below
+-- a fault in this way of the field of this path repeats these faults: subselections are missing, and one of
+-- the faults is of a selection below
 abbrev pub Repeats : List Fault → SelectionPath → LeafKind → Type 0
 Repeats faults path MissingSubselection = HasLost path faults
 Repeats faults path SubselectionOnLeaf = ⊥

@@ -39,8 +39,8 @@ definition_location definition = option_and_then (λ (n : NodeView FieldDefiniti
 abbrev pub operation_name : Operation → Option (List ℕ)
 operation_name operation = option_map (λ (n : NameView). n.text) operation.name
 
--- what is said of a field that an operation reaches: the operation, the coordinate, the type, and how often it
--- stands there
+-- what is said of a field that an operation reaches: the operation, the coordinate, the type, and how often
+-- it stands there
 abbrev pub usage_members : Operation → List ℕ → Option (List ℕ) → ℕ → List Member
 usage_members operation coordinate ty count = (
   codes "operation",

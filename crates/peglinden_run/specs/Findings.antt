@@ -52,17 +52,20 @@ fault_count found = min (length found.schema + length found.document + length fo
 -- what a form says of a fault of a schema
 abbrev pub IsSchemaSaid : Form → Files → Fault → List ℕ → Type 0
 IsSchemaSaid form sources fault text =
-    IsSaid subjects.Fault form sources fault.0 (schema_fault_about fault.1) (Some (schema_fault_details fault.1)) text
+    IsSaid subjects.Fault form sources fault.0 (schema_fault_about fault.1)
+    (Some (schema_fault_details fault.1)) text
 
 -- and of a fault of a document
 abbrev pub IsDocumentSaid : Form → Files → DocumentFault → List ℕ → Type 0
-IsDocumentSaid form sources fault text = IsSaid subjects.Fault form sources fault.0 (document_fault_about fault.1)
+IsDocumentSaid form sources fault text = IsSaid subjects.Fault form sources fault.0
+    (document_fault_about fault.1)
     (Some (document_fault_details fault.1)) text
 
 -- and of a leaf fault
 abbrev pub IsLeafSaid : Form → Files → LeafFault → List ℕ → Type 0
 IsLeafSaid form sources fault text =
-    IsSaid subjects.Fault form sources fault.location (leaf_fault_about fault) (Some (leaf_fault_details fault)) text
+    IsSaid subjects.Fault form sources fault.location (leaf_fault_about fault)
+    (Some (leaf_fault_details fault)) text
 
 -- the text is one after the other, in order, of the faults of the schema, of the document and of leaves. Each
 -- is what is said of its fault
@@ -121,7 +124,8 @@ IsShown reporting files found output printed = (said : List ℕ)
     × IsArranged (form_of reporting) (tally_of reporting.max_faults files found) output said printed)
 
 -- the answer shows that, and whether anything is at fault
-pub record IsAnswerOf (reporting : Reporting) (files : ℕ) (found : Found) (output : List ℕ) (answer : Answer) :
+pub record IsAnswerOf (reporting : Reporting) (files : ℕ) (found : Found) (output : List ℕ)
+    (answer : Answer) :
     Type 0 where
   pub shows : IsShown reporting files found output answer.printed
   pub any : answer.has_faults ≡ any_fault found

@@ -89,7 +89,8 @@ changed_tally most files changed = record {
 }
 
 -- the answer says of the files of documents which differ, at most so many
-pub record IsChecked (form : Form) (most : Option ℕ) (files : ℕ) (documents : List Document) (answer : Answer) :
+pub record IsChecked (form : Form) (most : Option ℕ) (files : ℕ) (documents : List Document)
+    (answer : Answer) :
     Type 0 where
   pub shows : IsCheckShown form (changed_tally most files (changed_paths documents))
       (flat_map (changed_in form) (at_most most (changed_paths documents))) answer.printed

@@ -87,4 +87,5 @@ IsCoordinateCause text _ = ⊥
 abbrev pub IsLookupCause : Form → (List ℕ → List ℕ → Type 0) → (List ℕ → Type 0) → List ℕ → List (List ℕ)
     → Failure → Type 0
 IsLookupCause form held may_fail text paths (failures.NoCoordinate sentence) = ¬ IsCoordinateText text
-IsLookupCause form held may_fail text paths failure = IsSchemaCause form held may_fail no_options paths failure
+IsLookupCause form held may_fail text paths failure = IsSchemaCause form held may_fail no_options paths
+    failure

@@ -57,7 +57,8 @@ IsWritten answer old new old_errors new_errors s.Done = (answer.has_faults ≡ f
 IsWritten answer old new old_errors new_errors s.Faults = (answer.has_faults ≡ true)
     × Appends old new (string_bytes answer.printed.output)
     × IsBegun (string_bytes answer.printed.errors) old_errors new_errors
-IsWritten answer old new old_errors new_errors s.NotWritten = IsBegun (string_bytes answer.printed.output) old new
+IsWritten answer old new old_errors new_errors s.NotWritten = IsBegun (string_bytes answer.printed.output)
+    old new
 IsWritten answer old new old_errors new_errors _ = ⊥
 
 -- the request has an answer, and a run that has it ends so

@@ -18,9 +18,10 @@ use std::alloc::Global;
 /// any.
 ///
 /// `NoCoordinate` comes for `lookup` with a text that is no coordinate, before a file is read. `Files` comes
-/// where a file can't be read or is no document, and says so of each, in the form that is asked for. `Exhausted` comes with `ExtensionIds` only
-/// where the numbers don't suffice for the extensions of the schema. With `Memory` it comes where memory ran
-/// out, and says nothing of the files. There is no other error.
+/// where a file can't be read or is no document, and says so of each, in the form that is asked for.
+/// `Exhausted` comes with `ExtensionIds` only where the numbers don't suffice for the extensions of the
+/// schema. With `Memory` it comes where memory ran out, and says nothing of the files. There is no other
+/// error.
 pub fn answer_to<F: Files>(
     alloc: Global,
     keys: HashKeys,

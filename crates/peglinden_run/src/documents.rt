@@ -70,7 +70,8 @@ fn read_file<F: Files>(
     ensures { number.0 ≢ 0
         → IfOk result (λ read.
         MatchResult read (IsDocumentAt (F.holds files.now) number.0 path.now) (λ report.
-        IsRefusedFile form (F.holds files.now) (F.may_fail files.now) number.0 path.now (string_bytes report))) }
+        IsRefusedFile form (F.holds files.now) (F.may_fail files.now) number.0 path.now
+        (string_bytes report))) }
 {
     match files.read(alloc, path) {
         Ok(text) => parse_text(alloc, form, number, path, text),

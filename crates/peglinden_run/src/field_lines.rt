@@ -19,9 +19,9 @@ use graphql_nodes::source::SourceSpan;
 use graphql_printing::printing::type_text;
 use std::alloc::{AllocError, Global};
 
-/// For each operation of a document a line for each field that it reaches, in order of first reach. Each names
-/// the operation, and has the coordinate of the field, its type, how often it stands there, and where it is
-/// defined.
+/// For each operation of a document a line for each field that it reaches, in order of first reach. Each
+/// names the operation, and has the coordinate of the field, its type, how often it stands there, and where
+/// it is defined.
 pub(crate) fn field_lines<S: Sources>(
     alloc: Global,
     sources: &S,

@@ -66,8 +66,8 @@ impl Findings {
             .saturating_add(self.leaf_faults.len())
     }
 
-    /// What a form says of the first faults, at most so many; nothing where there is none. The error is out of
-    /// memory.
+    /// What a form says of the first faults, at most so many; nothing where there is none. The error is out
+    /// of memory.
     #[tactic(auto, using(crate::proofs::SaidOfAll::nothing_said))]
     fn said(&self, alloc: Global, form: Form, most: Option<usize>) -> Result<String, AllocError>
         ensures { IfOk result (λ text. AreSaid form (first_of most (found_in self.now)) (string_bytes text)) }

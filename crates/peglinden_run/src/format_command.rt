@@ -115,8 +115,8 @@ fn document_path(document: &Document) -> Option<&str>
     Some(file.path.as_str())
 }
 
-/// The answer of `format --check` to so many files of these documents, in a form, with at most so many faults.
-/// The error is out of memory.
+/// The answer of `format --check` to so many files of these documents, in a form, with at most so many
+/// faults. The error is out of memory.
 fn check_answer(
     alloc: Global,
     form: Form,

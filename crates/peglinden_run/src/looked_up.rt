@@ -92,8 +92,8 @@ fn directive_text(alloc: Global, node: &Node<DirectiveDefinition>) -> Result<Str
     ended_text(alloc, &[definition])
 }
 
-/// The line of JSON of what a coordinate points to: the coordinate, its definition, and where that stands. The
-/// error is out of memory.
+/// The line of JSON of what a coordinate points to: the coordinate, its definition, and where that stands.
+/// The error is out of memory.
 pub(crate) fn found_line(
     alloc: Global,
     sources: &SourceMap,

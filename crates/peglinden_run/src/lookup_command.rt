@@ -31,8 +31,8 @@ use program_io::files::Files;
 use std::alloc::{AllocError, Global};
 
 /// The answer of `lookup` to files. It is where what the coordinate points to in their schema stands, as a
-/// comment, and below it its definition, or both in JSON. Where it points to nothing, that is at fault, and is
-/// said alone. What is at fault in the schema is passed over.
+/// comment, and below it its definition, or both in JSON. Where it points to nothing, that is at fault, and
+/// is said alone. What is at fault in the schema is passed over.
 ///
 /// `NoCoordinate` comes for a text that is no coordinate, before a file is read. `Files` comes where a file
 /// can't be read or is no document. `Exhausted` comes where memory ran out, or where the numbers don't

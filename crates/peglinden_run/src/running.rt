@@ -32,13 +32,13 @@ use std::io::{self, ErrorKind, Write};
 /// was there. Or with `Done` it is the text of `--help` or of `--version`. With `Done` nothing was written on
 /// `errors`. With `Faults` there are the reports of what is at fault, and how many faults there are. With
 /// `--json` all that stands on `output`, one object a line, a summary last, and nothing on `errors`. With
-/// `--github` there are commands on `output`, and on `errors` how many faults there are. The output is written
-/// only once all of it is there.
+/// `--github` there are commands on `output`, and on `errors` how many faults there are. The output is
+/// written only once all of it is there.
 ///
 /// `Refused`: the words make no request, or a text is no coordinate, which `errors` says, or a file, or
-/// standard input, can't be read or is no document. Each such file is said, in words on `errors`, with `--json`
-/// or `--github` on `output`, as faults are. `Exhausted`: memory or the numbers of extensions ran out, which
-/// `errors` says. Nothing else was written on `output`.
+/// standard input, can't be read or is no document. Each such file is said, in words on `errors`, with
+/// `--json` or `--github` on `output`, as faults are. `Exhausted`: memory or the numbers of extensions ran
+/// out, which `errors` says. Nothing else was written on `output`.
 ///
 /// `NotWritten`: something was to be written on `output`, and the writer failed, or its flush did. What went
 /// out is a beginning of it, perhaps all. `errors` says so, unless the writer is a closed pipe.

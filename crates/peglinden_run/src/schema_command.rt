@@ -36,7 +36,8 @@ pub(crate) fn schema_answer<F: Files>(
     files: &F,
     paths: &[&str],
 ) -> Result<Answer, Failure>
-    ensures means { IfOk result (IsSchemaAnswer (F.holds files.now) options reporting.now (texts_of paths.now)) }
+    ensures means { IfOk result
+        (IsSchemaAnswer (F.holds files.now) options reporting.now (texts_of paths.now)) }
     ensures causes { IfErr result
         (IsSchemaCause (form_of reporting.now) (F.holds files.now) (F.may_fail files.now) options
         (texts_of paths.now)) }

@@ -29,7 +29,8 @@ number_option name = record (new_rule name) {
   parser = Some (parsers.Unsigned 0 usize_max);
 }
 
--- the options that say how what is at fault is reported: `[--json] [--github] [--max-faults N]`, before others
+-- the options that say how what is at fault is reported: `[--json] [--github] [--max-faults N]`, before
+-- others
 abbrev pub reporting_before : List Rule → List Rule
 reporting_before others = flag (codes "json") ∷ flag (codes "github") ∷ number_option (codes "max-faults")
     ∷ others

@@ -10,7 +10,8 @@ pub fn worked_requests()
         ≡ Some (schema true false (forms false false None) (codes "a" ∷ codes "-" ∷ [])) }
     ensures check { asked (codes "check" ∷ codes "--schema" ∷ codes "s" ∷ codes "d"
         ∷ codes "--schema=t" ∷ codes "--json" ∷ codes "--max-faults" ∷ codes "20" ∷ codes "--" ∷ codes "--e"
-        ∷ []) ≡ Some (check (forms true false (Some 20)) (codes "s" ∷ codes "t" ∷ []) (codes "d" ∷ codes "--e" ∷ [])) }
+        ∷ []) ≡ Some
+        (check (forms true false (Some 20)) (codes "s" ∷ codes "t" ∷ []) (codes "d" ∷ codes "--e" ∷ [])) }
     ensures typed { asked (codes "typed" ∷ codes "d" ∷ codes "--schema=-" ∷ [])
         ≡ Some (typed (forms false false None) (codes "-" ∷ []) (codes "d" ∷ [])) }
     ensures fields { asked (codes "fields" ∷ codes "--github" ∷ codes "d" ∷ codes "e" ∷ codes "--schema=s" ∷ [])

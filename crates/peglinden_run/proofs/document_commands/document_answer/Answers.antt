@@ -14,7 +14,8 @@ returns-clause-means g c =
       typed = typed;
       is_typed = rw (c.as_slice-schema_paths.ensures.value, c.as_slice-document_paths.ensures.value)
           at c.in_ok-typed.ensures.typed;
-      is = answer-as typing.reporting _ (named_files typing) (found_in typed.findings) (found_in typed.findings) _
+      is = answer-as typing.reporting _ (named_files typing) (found_in typed.findings)
+          (found_in typed.findings) _
           (output_of (form_of typing.reporting) c.args.shown typed) c.in_ok-answer.field-0
           c.named_files-count.ensures refl (c.in_ok-output.ensures
           ∙ ap (λ (f : Form). output_of f c.args.shown typed) c.form_of-form.ensures) c.in_ok-answer.ensures;

@@ -26,18 +26,21 @@ loop-index-preserved g c =
                 w.in-Ok.document (λ n. matched-ok c.in_ok-document.field-0 w.in-Ok.document _ _ w.in-Ok.is
                 (c.in_ok-document.ensures n)) (before.documents (sym w.refused-is ∙ none)) in
                 rw (w.documents-is, w.in_ok-push_document-in-Ok.ensures) are;
-            reported = next-reported held may_fail paths i _ below c.args.form None text after count more (λ n. (
-              w.in-Ok.document,
-              matched-ok c.in_ok-document.field-0 w.in-Ok.document _ _ w.in-Ok.is
-                  (c.in_ok-document.ensures n),
-            )) before.reported (ap string_bytes w.reports-is ∙ sym (append-nil text)) (omega (arith, same));
+            reported = next-reported held may_fail paths i _ below c.args.form None text after count more
+                (λ n. (
+                  w.in-Ok.document,
+                  matched-ok c.in_ok-document.field-0 w.in-Ok.document _ _ w.in-Ok.is
+                      (c.in_ok-document.ensures n),
+                )) before.reported (ap string_bytes w.reports-is ∙ sym (append-nil text))
+                (omega (arith, same));
             few = let few = before.few in omega (arith, same, few);
           }
       | in-Err+in_ok-push_str-in-Err w ↦
           let one : more ≡ count + 1 = w.refused-is in
           record {
             documents = λ none. absurd (let no : more ≡ 0 = none in omega (arith, one, no));
-            reported = next-reported held may_fail paths i _ below c.args.form (Some (string_bytes w.in-Err.report)) text
+            reported = next-reported held may_fail paths i _ below c.args.form
+                (Some (string_bytes w.in-Err.report)) text
                 after count more (λ n. matched-err c.in_ok-document.field-0 w.in-Err.report _ _ w.in-Err.is
                 (c.in_ok-document.ensures n)) before.reported (ap string_bytes w.reports-is
                 ∙ w.in_ok-push_str-in-Err.ensures.bytes ∙ ap (λ l. text ++ l) w.as_str.ensures.value)

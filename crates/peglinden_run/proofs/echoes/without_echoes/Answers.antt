@@ -6,7 +6,8 @@ use Rattle.peglinden_run.proofs.EchoLemmas.{leaves_out-other, leaves_out-so}
 use Rattle.peglinden_run.proofs.echoes.without_echoes.Goals as goal
 
 pub loop-leaf-preserved-in-Continue-1 : goal.loop-leaf-preserved-in-Continue-1
-loop-leaf-preserved-in-Continue-1 c = rw c.in_ok-push.ensures.items (leaves_out-other (IsEcho c.args.faults.now)
+loop-leaf-preserved-in-Continue-1 c = rw c.in_ok-push.ensures.items
+    (leaves_out-other (IsEcho c.args.faults.now)
     c.loop-leaf.yielded c.loop-leaf.kept.items c.in-Some.leaf c.loop-leaf.invariant
     (λ echo. true≢false (sym (c.is_echo.ensures.1 echo) ∙ c.if-not-is_echo.true)))
 

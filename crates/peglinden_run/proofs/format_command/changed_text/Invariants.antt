@@ -5,4 +5,5 @@ use Rattle.peglinden_run.specs.FormatCommand.{changed_in}
 use Rattle.peglinden_run.proofs.format_command.changed_text.Given as goal
 
 abbrev pub invariant-loop-path : goal.invariant-loop-path
-invariant-loop-path l = string_bytes l.text ≡ flat_map (changed_in l.form) (texts_of (take l.path-index l.paths))
+invariant-loop-path l = string_bytes l.text
+    ≡ flat_map (changed_in l.form) (texts_of (take l.path-index l.paths))

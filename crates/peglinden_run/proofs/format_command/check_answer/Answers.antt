@@ -17,9 +17,11 @@ returns c =
     let cut : c.at_most-shown.result.now ≡ at_most c.args.most words = c.at_most-shown.ensures
     ∙ ap (λ (l : List (Bor (List ℕ))). at_most c.args.most l) c.as_slice.ensures.value in
     let texts : texts_of c.at_most-shown.result.now ≡ at_most c.args.most (changed_paths documents) =
-    ap texts_of cut ∙ at_most-texts c.args.most words ∙ ap (λ (l : List (List ℕ)). at_most c.args.most l) changed
+    ap texts_of cut ∙ at_most-texts c.args.most words
+    ∙ ap (λ (l : List (List ℕ)). at_most c.args.most l) changed
     in
-    let faults : length words ≡ length (changed_paths documents) = sym (texts-length words) ∙ ap length changed in
+    let faults : length words ≡ length (changed_paths documents) = sym (texts-length words)
+    ∙ ap length changed in
     let shown : length c.at_most-shown.result.now ≡ length (at_most c.args.most (changed_paths documents)) =
     sym (texts-length c.at_most-shown.result.now) ∙ ap length texts in
     record {

@@ -14,7 +14,8 @@ returns g c =
     let new = string_bytes c.push_str-2.new.self in
     on_ok_weaker {P = new ≡ middle ++ codes "\n"}
     {Q = Adds (IsSaid c.args.subject c.args.form files c.args.location about details) old new}
-    c.push_str-2.result (λ two. said_added c.args.subject c.args.form g.E.Display.output g.E.Reported.said_about
+    c.push_str-2.result
+    (λ two. said_added c.args.subject c.args.form g.E.Display.output g.E.Reported.said_about
     g.E.Reported.said_details files c.args.location c.args.fault.now (string_bytes c.in_ok-said_text.field-0)
     old middle new c.in_ok-said_text.ensures (c.in_ok-push_str.ensures.bytes
     ∙ ap (λ l. old ++ l) c.as_str.ensures.value) two) (on_ok_if c.push_str-2.result new (middle

@@ -28,7 +28,8 @@ returns-clause-typed g c =
     let back = rw (count, c.as_slice-2.ensures.value) at c.split_at.ensures.back in
     typed-of held (texts_of first) (texts_of second) documents _ _ c.none.result _
     c.none.ensures front back read c.in_ok-schema.ensures.means c.in_ok-schema.ensures.faults
-    c.in_ok-document.ensures.means c.in_ok-document.ensures.faults (rw (c.in_ok-leaves.ensures.faults, c.as_slice-3.ensures.value) at c.in_ok-leaf_faults.ensures)
+    c.in_ok-document.ensures.means c.in_ok-document.ensures.faults
+    (rw (c.in_ok-leaves.ensures.faults, c.as_slice-3.ensures.value) at c.in_ok-leaf_faults.ensures)
     (c.in_ok-merge_sources.ensures.merged
     ∙ (λ i. merged ((c.in_ok-sources.ensures.cases.1 (λ x y e. e) (λ x y e. e)
     ∙ c.in_ok-schema.ensures.sources) i) (c.in_ok-document.ensures.sources i)))

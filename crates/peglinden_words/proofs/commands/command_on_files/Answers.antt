@@ -7,4 +7,5 @@ pub returns : goal.returns
 returns c =
     let first = arg_added c.args.first c.in_ok-command.ensures c.requires.first c.bare_command.ensures in
     let reporting = c.in_ok-with_reporting.ensures _ first in
-    IfOk-weaker c.arg-2.result _ _ (λ made adds. arg_added c.args.files {new = made} adds c.requires.files reporting) c.arg-2.ensures
+    IfOk-weaker c.arg-2.result _ _
+    (λ made adds. arg_added c.args.files {new = made} adds c.requires.files reporting) c.arg-2.ensures

@@ -25,10 +25,12 @@ returns c =
     let app = helped ∙ ap (on_top (λ s. record s { arg_required_else_help = true }))
     (commanded ∙ ap (on_top (λ s. record s { subcommand_required = true }))
     (unnamed ∙ ap (on_top (λ s. record s { no_binary_name = true }))
-    (ended ∙ described ∙ versioned ∙ ap (on_top (λ s. record s { has_version = true })) c.new.ensures.app))) in
+    (ended ∙ described ∙ versioned
+    ∙ ap (on_top (λ s. record s { has_version = true })) c.new.ensures.app))) in
     let globals = λ (f : Command-F Command). f.has_globals in
     let local = ap globals c.arg_required_else_help-command.ensures ∙ ap globals c.subcommand_required.ensures
-    ∙ ap globals c.no_binary_name.ensures ∙ ap globals c.after_help.ensures ∙ ap globals c.about.ensures ∙ ap globals c.version.ensures
+    ∙ ap globals c.no_binary_name.ensures ∙ ap globals c.after_help.ensures ∙ ap globals c.about.ensures
+    ∙ ap globals c.version.ensures
     ∙ c.new.ensures.local in
     IfOk-weaker c.bin_name.result _ _
     (λ command named. record { app = ap app_of_fields named.0 ∙ app; local = ap globals named.0 ∙ local })

@@ -11,5 +11,6 @@ returns c =
     at (arg_added c.flag-2.result c.in_ok-command.ensures c.flag-2.ensures.local adopt) in
     let reporting = c.in_ok-with_reporting.ensures _ ignore in
     IfOk-weaker c.arg-3.result _ _
-    (λ made adds. rw c.files.ensures.rule at (arg_added c.files.result {new = made} adds c.files.ensures.local reporting))
+    (λ made adds. rw c.files.ensures.rule at
+    (arg_added c.files.result {new = made} adds c.files.ensures.local reporting))
     c.arg-3.ensures
