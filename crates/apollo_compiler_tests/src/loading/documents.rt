@@ -2,9 +2,9 @@
 
 use crate::loading::schemas::FILES;
 use apollo_compiler::files::RefusedFile;
-use apollo_compiler::report::to_json;
 use apollo_compiler::text::{ParseOptions, parse_file};
 use apollo_compiler::{LoadedDocuments, SourceMap, load_documents};
+use apollo_reporting::fault_json::refusal_to_json;
 use std::alloc::{AllocError, Global};
 
 /// The paths of a file of each sort.
@@ -38,7 +38,7 @@ fn refusals(
 ) -> Result<String, AllocError> {
     let mut text = String::new(alloc);
     for (location, refusal) in refused {
-        text.push_str(to_json(alloc, sources, *location, refusal)?.as_str())?;
+        text.push_str(refusal_to_json(alloc, sources, *location, refusal)?.as_str())?;
         text.push_str("\n")?;
     }
     Ok(text)
@@ -77,8 +77,8 @@ fn refusals_have_json(rt: HostRuntime) {
     let refused = loaded.refused.as_slice();
     let json = refusals(alloc, &loaded.sources, refused).expect(&rt, "memory");
     let wanted =
-        r#"{"kind":"Unread","message":"cannot read `none.graphql`: entity not found","file":null,"line":null,"column":null,"end_line":null,"end_column":null,"path":null,"unread":"none.graphql"}
-{"kind":"Unexpected","message":"expected a definition, found `typo`","file":"word.graphql","line":1,"column":1,"end_line":1,"end_column":5,"path":null,"expected":"a definition","found":"`typo`"}
+        r#"{"type":"refusal","kind":"Unread","message":"cannot read `none.graphql`: entity not found","file":null,"line":null,"column":null,"end_line":null,"end_column":null,"path":null,"unread":"none.graphql"}
+{"type":"refusal","kind":"Unexpected","message":"expected a definition, found `typo`","file":"word.graphql","line":1,"column":1,"end_line":1,"end_column":5,"path":null,"expected":"a definition","found":"`typo`"}
 "#;
     assert_eq!(rt; json.as_str(), wanted);
 }
