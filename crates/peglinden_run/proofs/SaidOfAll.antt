@@ -36,18 +36,18 @@ module _ (OfSchema : Fault → List ℕ → Type 0) (OfDocument : DocumentFault 
   says-nothing [] (y ∷ ys) zs it a b c is = absurd (grind (arith, is, b))
   says-nothing [] [] (z ∷ zs) it a b c is = absurd (grind (arith, is, c))
 
-taken-none : {A : Type 0} (n : ℕ) → length (take {A = A} n []) ≡ 0
-taken-none zero = refl
-taken-none (suc n) = refl
+taken-none : (A : Type 0) (n : ℕ) → length (take {A = A} n []) ≡ 0
+taken-none A zero = refl
+taken-none A (suc n) = refl
 
 -- of nothing nothing is taken
 none-taken : (most : ℕ) (xs : List Fault) (ys : List DocumentFault) (zs : List LeafFault) (it : Found)
     → xs ≡ it.schema → ys ≡ it.document → zs ≡ it.leaves → any_fault it ≡ false
     → any_fault (first_of (Some most) it) ≡ false
 none-taken most [] [] [] it a b c is = rw (← a, ← b, ← c) (rw (
-  taken-none {A = Fault} most,
-  taken-none {A = DocumentFault} (most - 0),
-  taken-none {A = LeafFault} (most - 0 - 0),
+  taken-none Fault most,
+  taken-none DocumentFault (most - 0),
+  taken-none LeafFault (most - 0 - 0),
 ) refl)
 none-taken most (x ∷ xs) ys zs it a b c is = absurd (grind (arith, is, a))
 none-taken most [] (y ∷ ys) zs it a b c is = absurd (grind (arith, is, b))

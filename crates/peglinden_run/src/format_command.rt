@@ -127,9 +127,10 @@ fn check_answer(
     ensures { IfOk result (IsChecked form most files documents.now) }
 {
     let changed = changed_paths(alloc, documents)?;
-    let shown = at_most(changed.as_slice(), most);
+    let paths = changed.as_slice();
+    let shown = at_most(paths, most);
     let tally = Tally {
-        faults: changed.len(),
+        faults: paths.len(),
         shown: shown.len(),
         files,
     };

@@ -15,21 +15,21 @@ returns c =
     let words = c.in_ok-changed.changed.items in
     let changed : texts_of words ≡ changed_paths documents = c.in_ok-changed.ensures in
     let cut : c.at_most-shown.result.now ≡ at_most c.args.most words = c.at_most-shown.ensures
-    ∙ ap (λ (l : List (Bor (List ℕ))). at_most c.args.most l) c.as_slice.ensures.value in
+    ∙ ap (λ (l : List (Bor (List ℕ))). at_most c.args.most l) c.as_slice-paths.ensures.value in
     let texts : texts_of c.at_most-shown.result.now ≡ at_most c.args.most (changed_paths documents) =
     ap texts_of cut ∙ at_most-texts c.args.most words
     ∙ ap (λ (l : List (List ℕ)). at_most c.args.most l) changed
     in
-    let faults : length words ≡ length (changed_paths documents) = sym (texts-length words)
-    ∙ ap length changed in
+    let faults : length c.as_slice-paths.result.now ≡ length (changed_paths documents) =
+    ap length c.as_slice-paths.ensures.value ∙ sym (texts-length words) ∙ ap length changed in
     let shown : length c.at_most-shown.result.now ≡ length (at_most c.args.most (changed_paths documents)) =
     sym (texts-length c.at_most-shown.result.now) ∙ ap length texts in
     record {
       shows = check-shown-as c.args.form _ _ _ _ c.in_ok-checked_printed.field-0 (λ i. record {
-        faults = (c.len.ensures ∙ faults) i;
+        faults = faults i;
         shown = shown i;
         files = c.args.files;
       }) (c.in_ok-said.ensures ∙ ap (flat_map (changed_in c.args.form)) texts)
           c.in_ok-checked_printed.ensures;
-      any = ap (λ (n : ℕ). not (n == 0)) (c.len.ensures ∙ faults);
+      any = ap (λ (n : ℕ). not (n == 0)) faults;
     }

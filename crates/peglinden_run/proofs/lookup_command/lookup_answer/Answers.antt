@@ -44,7 +44,7 @@ returns-clause-means g c = record {
       rw (
         c.form_of-form.ensures,
         ← texts-length c.args.paths.now,
-      ) at c.in_ok-missing_printed.ensures,
+      ) at c.in_ok-missing_printed-in-Err.ensures,
     ),
   );
 }
