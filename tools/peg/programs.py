@@ -1,4 +1,5 @@
 """Programs: where each is, how it is run and measured, and what the script of its name does."""
+import functools
 import os
 import resource
 import signal
@@ -58,8 +59,10 @@ def is_proved(name):
     return os.access(program, os.X_OK) and program.stat().st_mtime >= max(file.stat().st_mtime for file in files)
 
 
+@functools.cache
 def path(name):
-    """Where a program is when it is there: proved and built, or else compiled without proof and kept."""
+    """Where a program is when it is there: proved and built, or else compiled without proof and kept. Each run of a tool asks
+    once for each program, since the sources are read for it."""
     return proved(name) if is_proved(name) else unproved.path(name)
 
 
