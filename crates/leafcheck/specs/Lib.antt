@@ -2,6 +2,9 @@ pub mod Around
 pub mod BareFaults
 pub mod FaultReports
 pub mod LeafFaults
+pub mod LostPlaces
+pub mod LostSelections
 pub mod LostSubselections
+pub mod PathOrder
 pub mod PlacedFields
 pub mod Roots

@@ -3,6 +3,7 @@
 ghost use Rattle.std.specs.Prelude.{◌↔◌, IsTrue};
 ghost use Rattle.leafcheck.specs.LostSubselections.{BeginsWith, GoesOn, HasLost, IsOfBelow};
 
+use crate::places::Place;
 use apollo_document::build_error::{BuildError, Fault};
 use apollo_document::selection_path::SelectionPath;
 use graphql_nodes::name::{Name, NamedType};
@@ -91,8 +92,5 @@ fn goes_on(path: &SelectionPath, outer: &SelectionPath) -> bool
 fn begins_with(path: &SelectionPath, outer: &SelectionPath) -> bool
     ensures { IsTrue result ↔ BeginsWith path.now outer.now }
 {
-    path.root == outer.root
-        && path
-            .nested_fields
-            .starts_with(outer.nested_fields.as_slice())
+    Place::of(path).begins_with(&Place::of(outer))
 }

@@ -14,10 +14,13 @@ mod around;
 pub mod checking;
 pub mod laws;
 pub mod leaf_fault;
+pub mod lost_selections;
+mod places;
 pub mod reporting;
 
 pub use crate::checking::leaf_faults;
 pub use crate::leaf_fault::{LeafFault, LeafKind};
+pub use crate::lost_selections::LostSelections;
 pub use apollo_document::selection_path::{ExecutableDefinitionName, SelectionPath};
 pub use apollo_executable::document::ExecutableDocument;
 pub use apollo_schema::schema::Schema;

@@ -7,7 +7,7 @@ use crate::documents::by_calls::{document_of, field_of, query_set};
 use crate::documents::inputs::{Account, Given, expect};
 use apollo_executable::{ExecutableDocument, NewFieldError, Selection};
 use apollo_schema::schema::Schema;
-use leafcheck::leaf_faults;
+use leafcheck::{LostSelections, leaf_faults};
 use std::alloc::{AllocError, Global};
 use std::test::Fail;
 
@@ -71,11 +71,15 @@ struct Places;
 impl View for Places {
     fn view(&self, seen: &Seen<'_>, text: &mut String) -> Result<(), AllocError> {
         let leaves = leaf_faults(seen.alloc, seen.schema, seen.document)?;
+        let lost = LostSelections::new(seen.alloc, seen.faults)?;
         for leaf in leaves.as_slice() {
             let path = &leaf.path;
             let ty = &leaf.parent_type;
-            let has_lost = leaf.lost_subselections(seen.faults);
+            let has_lost = lost.below(path);
             write!(text, "{path} from {ty}: {has_lost}\n")?;
+            if has_lost != leaf.lost_subselections(seen.faults) {
+                text.push_str("but not by itself\n")?;
+            }
         }
         Ok(())
     }
