@@ -72,10 +72,12 @@ lookup_command =
     command (codes "lookup")
     (other_word (codes "coordinate") ∷ reporting_before (other_words (codes "files") ∷ []))
 
--- `format [--check] [REPORTING] FILE..`
+-- `format [--check] [--write] [--drop-comments] [REPORTING] FILE..`
 abbrev pub format_command : Shape
-format_command =
-    command (codes "format") (flag (codes "check") ∷ reporting_before (other_words (codes "files") ∷ []))
+format_command = command (codes "format")
+    (flag (codes "check")
+    ∷ flag (codes "write")
+    ∷ flag (codes "drop-comments") ∷ reporting_before (other_words (codes "files") ∷ []))
 
 -- the program without its commands: its words begin behind its name, it has a version, and a
 -- command has to be named

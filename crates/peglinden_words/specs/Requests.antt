@@ -16,12 +16,14 @@ use Rattle.peglinden_words.specs.declared.request.Reporting.{Reporting}
 use Rattle.peglinden_words.specs.declared.request.Typing.{Typing}
 use Rattle.peglinden_words.specs.declared.request.Request.{Request}
 use Rattle.peglinden_words.specs.declared.request.Request.TheVariants as request
+use Rattle.peglinden_words.specs.declared.task.Task.{Task}
+use Rattle.peglinden_words.specs.declared.task.Task.TheVariants as task
 
 -- these flags and this number of faults
 abbrev pub forms : Bool → Bool → Option ℕ → Reporting
 forms json github most = record { json = json; github = github; max_faults = most }
 
--- a request, with the texts of its words
+-- a task, with the texts of its words
 pub data Asked : Type 0 where
   schema : Bool → Bool → Reporting → List Text → Asked
   check : Reporting → List Text → List Text → Asked
@@ -29,6 +31,7 @@ pub data Asked : Type 0 where
   fields : Reporting → List Text → List Text → Asked
   lookup : Text → Reporting → List Text → Asked
   format : Bool → Reporting → List Text → Asked
+  write : Bool → Bool → Reporting → List Text → Asked
 
 -- what a request asks for
 abbrev pub asked_of : Request → Asked
@@ -39,6 +42,12 @@ asked_of (request.Typed on) = typed on.reporting (texts on.schema.items) (texts 
 asked_of (request.Fields on) = fields on.reporting (texts on.schema.items) (texts on.documents.items)
 asked_of (request.Lookup coordinate reporting files) = lookup coordinate.now reporting (texts files.items)
 asked_of (request.Format only_check reporting files) = format only_check reporting (texts files.items)
+
+-- what a task asks for
+abbrev pub asked_of_task : Task → Asked
+asked_of_task (task.Answer request) = asked_of request
+asked_of_task (task.Write writing) =
+    write writing.check writing.drop_comments writing.reporting (texts writing.files.items)
 
 -- the flag was given
 abbrev pub is_set : Text → List Row → Bool
@@ -77,6 +86,13 @@ abbrev pub of_typing : (Reporting → List Text → List Text → Asked) → Lis
 of_typing asks found = asks (reporting_by found) (values_of (codes "schema") found)
     (values_of (codes "documents") found)
 
+-- what `format` asks for, with what the words give its arguments
+abbrev pub formats : List Row → Asked
+formats found = if is_set (codes "write") found
+    then write (is_set (codes "check") found) (is_set (codes "drop-comments") found) (reporting_by found)
+    (values_of (codes "files") found)
+    else format (is_set (codes "check") found) (reporting_by found) (values_of (codes "files") found)
+
 -- what the command of this name asks for, with what the words give its arguments; the last one is
 -- `format`
 abbrev pub asked_by : Text → List Row → Asked
@@ -89,7 +105,7 @@ asked_by name found =
     else (if bytes_eq name (codes "fields") then of_typing fields found
     else (if bytes_eq name (codes "lookup")
     then lookup (value_of (codes "coordinate") found) (reporting_by found) (values_of (codes "files") found)
-    else format (is_set (codes "check") found) (reporting_by found) (values_of (codes "files") found)))))
+    else formats found))))
 
 -- the files that are named
 abbrev pub files_of : Asked → List Text
@@ -99,6 +115,7 @@ files_of (typed reporting schema_files documents) = schema_files ++ documents
 files_of (fields reporting schema_files documents) = schema_files ++ documents
 files_of (lookup coordinate reporting files) = files
 files_of (format only_check reporting files) = files
+files_of (write only_check drop_comments reporting files) = files
 
 -- how what is at fault is to be reported
 abbrev pub reporting_of : Asked → Reporting
@@ -108,6 +125,7 @@ reporting_of (typed reporting schema_files documents) = reporting
 reporting_of (fields reporting schema_files documents) = reporting
 reporting_of (lookup coordinate reporting files) = reporting
 reporting_of (format only_check reporting files) = reporting
+reporting_of (write only_check drop_comments reporting files) = reporting
 
 -- two forms of reports are asked for
 abbrev pub has_two_forms : Asked → Bool
@@ -121,11 +139,17 @@ input_names = count_by (λ file. bytes_eq file (codes "-"))
 abbrev pub names_input_again : Asked → Bool
 names_input_again wanted = nat_lt 1 (input_names (files_of wanted))
 
+-- files are to be written, and not to be; or standard input is
+abbrev pub writes_what_it_cannot : Asked → Bool
+writes_what_it_cannot (write only_check drop_comments reporting files) =
+    only_check || nat_lt 0 (input_names files)
+writes_what_it_cannot _ = false
+
 -- what is asked for contradicts itself
 abbrev pub is_contradictory : Asked → Bool
-is_contradictory wanted = names_input_again wanted || has_two_forms wanted
+is_contradictory wanted = (names_input_again wanted || has_two_forms wanted) || writes_what_it_cannot wanted
 
--- the request, where it doesn't contradict itself
+-- what is asked for, where it doesn't contradict itself
 abbrev pub if_consistent : Asked → Option Asked
 if_consistent wanted = if is_contradictory wanted then None else Some wanted
 
@@ -133,7 +157,7 @@ if_consistent wanted = if is_contradictory wanted then None else Some wanted
 abbrev pub asked_below : List Text → Option Asked
 asked_below words = option_map (λ p. asked_by p.0 p.1) (subcommand_of peglinden words)
 
--- the request, where nothing is at fault
+-- what is asked for, where nothing is at fault
 abbrev pub without_fault : Kinds → Option Asked → Option Asked
 without_fault [] wanted = wanted
 without_fault (found ∷ faults) wanted = None

@@ -3,11 +3,13 @@ ghost use Rattle.std.specs.Prelude.{◌≡◌, IfErr, IfOk, Some};
 ghost use Rattle.clap.specs.Matches.{found_of};
 ghost use Rattle.clap.specs.Walk.{rows_of, texts};
 ghost use Rattle.peglinden_words.specs.Refusals.{IsRefusal};
-ghost use Rattle.peglinden_words.specs.Requests.{IsTyping, asked, asked_by, asked_of, reporting_by};
+ghost use Rattle.peglinden_words.specs.Requests.{IsTyping, asked, asked_by, asked_of_task, formats};
+ghost use Rattle.peglinden_words.specs.Requests.{reporting_by};
 
 use crate::commands::peglinden;
 use crate::contradictions::contradiction;
 use crate::request::{Reporting, Request, Typing};
+use crate::task::{Task, Writing};
 use crate::values::{is_given, number, value, values};
 use crate::words_error::{WordsError, words_error};
 use clap::ArgMatches;
@@ -18,11 +20,11 @@ use std::alloc::{AllocError, Global};
 ///
 /// `Help` comes only where the words call for help or for the version, and `Usage` only where they are a
 /// mistake. That is a command or an argument that there isn't, one that is missing or given again, a number
-/// that is none, two forms of reports, or standard input named more than once. `Memory` is out of memory.
-/// There is no other error.
-pub fn read_words<'w>(alloc: Global, words: &'w [&'w str]) -> Result<Request<'w>, WordsError>
-    ensures asked { IfOk result (λ request.
-        asked (texts words.entry.now) ≡ Some (asked_of request)) }
+/// that is none, two forms of reports, standard input named more than once, or `--write` with `--check` or
+/// with standard input. `Memory` is out of memory. There is no other error.
+pub fn read_words<'w>(alloc: Global, words: &'w [&'w str]) -> Result<Task<'w>, WordsError>
+    ensures asked { IfOk result (λ task.
+        asked (texts words.entry.now) ≡ Some (asked_of_task task)) }
     ensures refused { IfErr result (IsRefusal (texts words.entry.now)) }
 {
     let mut command = peglinden(alloc)?;
@@ -31,41 +33,59 @@ pub fn read_words<'w>(alloc: Global, words: &'w [&'w str]) -> Result<Request<'w>
         Err(refused) => return Err(words_error(alloc, refused)),
     };
     let (name, found) = matches.subcommand().unwrap();
-    let request = request(alloc, name, found)?;
-    if let Some(sentence) = contradiction(&request) {
+    let task = task(alloc, name, found)?;
+    if let Some(sentence) = contradiction(&task) {
         let refused = command.error(ErrorKind::ArgumentConflict, sentence)?;
         return Err(words_error(alloc, refused));
     }
-    Ok(request)
+    Ok(task)
 }
 
-/// The request of the command of this name with what was found for its arguments. The error is out of
+/// The task of the command of this name with what was found for its arguments. The error is out of
 /// memory.
-fn request<'w>(alloc: Global, name: &str, found: &ArgMatches<'w>) -> Result<Request<'w>, AllocError>
-    ensures { IfOk result (λ request.
-        asked_of request ≡ asked_by name.now (rows_of (found_of found.now))) }
+fn task<'w>(alloc: Global, name: &str, found: &ArgMatches<'w>) -> Result<Task<'w>, AllocError>
+    ensures { IfOk result (λ task.
+        asked_of_task task ≡ asked_by name.now (rows_of (found_of found.now))) }
 {
     match name {
-        "schema" => Ok(Request::Schema {
+        "schema" => Ok(Task::Answer(Request::Schema {
             adopt: is_given(found, "adopt"),
             ignore_builtin: is_given(found, "ignore-builtin"),
             reporting: reporting(found),
             files: values(alloc, found, "files")?,
-        }),
-        "check" => Ok(Request::Check(typing(alloc, found)?)),
-        "typed" => Ok(Request::Typed(typing(alloc, found)?)),
-        "fields" => Ok(Request::Fields(typing(alloc, found)?)),
-        "lookup" => Ok(Request::Lookup {
+        })),
+        "check" => Ok(Task::Answer(Request::Check(typing(alloc, found)?))),
+        "typed" => Ok(Task::Answer(Request::Typed(typing(alloc, found)?))),
+        "fields" => Ok(Task::Answer(Request::Fields(typing(alloc, found)?))),
+        "lookup" => Ok(Task::Answer(Request::Lookup {
             coordinate: value(found, "coordinate"),
             reporting: reporting(found),
             files: values(alloc, found, "files")?,
-        }),
-        _ => Ok(Request::Format {
-            check: is_given(found, "check"),
-            reporting: reporting(found),
-            files: values(alloc, found, "files")?,
-        }),
+        })),
+        _ => format_task(alloc, found),
     }
+}
+
+/// The task of `format` with what was found for its arguments. The error is out of memory.
+fn format_task<'w>(alloc: Global, found: &ArgMatches<'w>) -> Result<Task<'w>, AllocError>
+    ensures { IfOk result (λ task. asked_of_task task ≡ formats (rows_of (found_of found.now))) }
+{
+    let check = is_given(found, "check");
+    let reporting = reporting(found);
+    let files = values(alloc, found, "files")?;
+    if !is_given(found, "write") {
+        return Ok(Task::Answer(Request::Format {
+            check,
+            reporting,
+            files,
+        }));
+    }
+    Ok(Task::Write(Writing {
+        check,
+        drop_comments: is_given(found, "drop-comments"),
+        reporting,
+        files,
+    }))
 }
 
 /// What was found for the arguments of a command that types documents. The error is out of memory.

@@ -3,8 +3,8 @@ ghost use Rattle.std.specs.Prelude.{◌≡◌, ◌∷◌, [], IfOk, false};
 ghost use Rattle.clap.specs.Simple.{Shape};
 ghost use Rattle.clap.specs.Walk.{rule_of};
 ghost use Rattle.peglinden_words.specs.Commands.{IsCommand, IsProgram, command, document_command};
-ghost use Rattle.peglinden_words.specs.Commands.{peglinden, program, reporting_before, schema_command};
-ghost use Rattle.peglinden_words.specs.Commands.{with_reporting};
+ghost use Rattle.peglinden_words.specs.Commands.{format_command, peglinden, program, reporting_before};
+ghost use Rattle.peglinden_words.specs.Commands.{schema_command, with_reporting};
 
 use crate::arguments::{
     coordinate, files, flag, github_flag, json_flag, max_faults_option, schema_option,
@@ -88,18 +88,7 @@ pub fn peglinden<'w>(alloc: Global) -> Result<Command<'w>, AllocError>
         coordinate(alloc),
         files(alloc, "files", "FILE", "The files of the schema"),
     )?;
-    let format = command_on_files(
-        alloc,
-        "format",
-        "Print files in the usual layout, without their comments",
-        FORMAT_STATUSES,
-        flag(
-            alloc,
-            "check",
-            "Print only the names of the files whose text differs",
-        ),
-        files(alloc, "files", "FILE", "The files"),
-    )?;
+    let format = format_command(alloc)?;
     program
         .subcommand(schema)?
         .subcommand(check)?
@@ -184,6 +173,34 @@ fn schema_command<'w>(alloc: Global) -> Result<Command<'w>, AllocError>
         "Pass over further definitions of built-in types",
     ))?;
     with_reporting(alloc, command)?.arg(files(alloc, "files", "FILE", "The files of the schema"))
+}
+
+/// `format`.
+fn format_command<'w>(alloc: Global) -> Result<Command<'w>, AllocError>
+    ensures { IfOk result (λ command. IsCommand command format_command) }
+{
+    let command = bare_command(
+        alloc,
+        "format",
+        "Print files in the usual layout, without their comments",
+        FORMAT_STATUSES,
+    )
+    .arg(flag(
+        alloc,
+        "check",
+        "Print only the names of the files whose text differs",
+    ))?
+    .arg(flag(
+        alloc,
+        "write",
+        "Put each file whose text differs in the layout in its place, and print its name",
+    ))?
+    .arg(flag(
+        alloc,
+        "drop-comments",
+        "With `--write`, write files that have comments too, without them",
+    ))?;
+    with_reporting(alloc, command)?.arg(files(alloc, "files", "FILE", "The files"))
 }
 
 /// A command on documents over a schema. Its help ends with these statuses.

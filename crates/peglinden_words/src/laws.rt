@@ -2,7 +2,7 @@
 ghost use Rattle.std.specs.Prelude.{◌≡◌, ◌∷◌, [], None, Some, codes, false, true};
 ghost use Rattle.peglinden_words.specs.Refusals.{are_mistaken, call_for_help};
 ghost use Rattle.peglinden_words.specs.Requests.{asked};
-ghost use Rattle.peglinden_words.specs.Requests.{check, fields, format, forms, lookup, schema, typed};
+ghost use Rattle.peglinden_words.specs.Requests.{check, fields, format, forms, lookup, schema, typed, write};
 
 /// Words that ask for something: options stand anywhere, in either form, and behind `--` all words are files.
 pub fn worked_requests()
@@ -14,12 +14,14 @@ pub fn worked_requests()
         (check (forms true false (Some 20)) (codes "s" ∷ codes "t" ∷ []) (codes "d" ∷ codes "--e" ∷ [])) }
     ensures typed { asked (codes "typed" ∷ codes "d" ∷ codes "--schema=-" ∷ [])
         ≡ Some (typed (forms false false None) (codes "-" ∷ []) (codes "d" ∷ [])) }
-    ensures fields { asked (codes "fields" ∷ codes "--github" ∷ codes "d" ∷ codes "e" ∷ codes "--schema=s" ∷ [])
-        ≡ Some (fields (forms false true None) (codes "s" ∷ []) (codes "d" ∷ codes "e" ∷ [])) }
+    ensures fields { asked (codes "fields" ∷ codes "--github" ∷ codes "d" ∷ codes "e" ∷ codes "--schema=s"
+        ∷ []) ≡ Some (fields (forms false true None) (codes "s" ∷ []) (codes "d" ∷ codes "e" ∷ [])) }
     ensures lookup { asked (codes "lookup" ∷ codes "A.b" ∷ codes "s" ∷ [])
         ≡ Some (lookup (codes "A.b") (forms false false None) (codes "s" ∷ [])) }
     ensures format { asked (codes "format" ∷ codes "--check" ∷ codes "d" ∷ [])
         ≡ Some (format true (forms false false None) (codes "d" ∷ [])) }
+    ensures write { asked (codes "format" ∷ codes "--write" ∷ codes "d" ∷ codes "--drop-comments" ∷ [])
+        ≡ Some (write false true (forms false false None) (codes "d" ∷ [])) }
 {}
 
 /// Words that ask for nothing: calls for help or for the version, and mistakes.
@@ -40,5 +42,8 @@ pub fn worked_refusals()
     ensures two_forms { are_mistaken (codes "format" ∷ codes "--json" ∷ codes "--github" ∷ codes "d" ∷ [])
         ≡ true }
     ensures input_twice { are_mistaken (codes "schema" ∷ codes "-" ∷ codes "-" ∷ []) ≡ true }
+    ensures write_and_check { are_mistaken (codes "format" ∷ codes "--write" ∷ codes "--check" ∷ codes "d"
+        ∷ []) ≡ true }
+    ensures write_input { are_mistaken (codes "format" ∷ codes "--write" ∷ codes "-" ∷ []) ≡ true }
     ensures none { asked (codes "schema" ∷ codes "-" ∷ codes "-" ∷ []) ≡ None }
 {}

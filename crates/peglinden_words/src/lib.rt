@@ -9,5 +9,6 @@ mod commands;
 mod contradictions;
 pub mod laws;
 pub mod request;
+pub mod task;
 mod values;
 pub mod words_error;

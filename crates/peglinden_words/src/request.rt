@@ -1,4 +1,4 @@
-//! What the words of the command line ask for.
+//! Requests for answers about files.
 
 /// How a run reports what is at fault.
 ///
@@ -13,7 +13,7 @@ pub struct Reporting {
     pub max_faults: Option<usize>,
 }
 
-/// What the words of the command line ask for.
+/// A request for an answer about files.
 ///
 /// A file is named as the words name it, and `-` is standard input, which is named at most once. Files stand
 /// in the order of the words.

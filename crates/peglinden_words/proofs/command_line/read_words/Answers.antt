@@ -31,7 +31,7 @@ returns-in-Some-clause-refused c =
     (texts c.args.words.now) c.in-Ok.matches c.subcommand.result c.unwrap.result _
     c.in_ok-command.ensures.app
     c.in-Ok.ensures.kinds c.in-Ok.ensures.ok.2 c.subcommand.ensures.name c.subcommand.ensures.rows
-    c.unwrap.ensures c.in_ok-request.ensures in
+    c.unwrap.ensures c.in_ok-task.ensures in
     contradicted_is _ _ _ c.words_error-in-Some.result is
     (sym c.contradiction.ensures ∙ ap is_some c.in-Some.is)
     c.in_ok-refused.ensures.kind c.words_error-in-Some.ensures
@@ -42,7 +42,7 @@ returns c =
     (texts c.args.words.now) c.in-Ok.matches c.subcommand.result c.unwrap.result _
     c.in_ok-command.ensures.app
     c.in-Ok.ensures.kinds c.in-Ok.ensures.ok.2 c.subcommand.ensures.name c.subcommand.ensures.rows
-    c.unwrap.ensures c.in_ok-request.ensures in
+    c.unwrap.ensures c.in_ok-task.ensures in
     record {
       asked = asked_is _ _ is (sym c.contradiction.ensures ∙ ap is_some c.in_default.is);
       refused = tt;

@@ -12,7 +12,6 @@ returns c =
     let typed = added c.in_ok-subcommand-3.ensures check c.in_ok-typed.ensures in
     let fields = added c.in_ok-subcommand-4.ensures typed c.in_ok-fields.ensures in
     let lookup_is = rw (c.coordinate.ensures.rule, c.files.ensures.rule) at c.in_ok-lookup.ensures in
-    let format_is = rw (c.flag.ensures.rule, c.files-2.ensures.rule) at c.in_ok-format.ensures in
     let lookup = added c.in_ok-subcommand-5.ensures fields lookup_is in
-    IfOk-weaker c.subcommand-6.result _ _ (λ command adds. added adds lookup format_is)
+    IfOk-weaker c.subcommand-6.result _ _ (λ command adds. added adds lookup c.in_ok-format.ensures)
     c.subcommand-6.ensures

@@ -21,5 +21,7 @@ returns c = record {
   no_number = refl;
   two_forms = refl;
   input_twice = refl;
+  write_and_check = refl;
+  write_input = refl;
   none = refl;
 }

@@ -7,4 +7,12 @@ use Rattle.peglinden_words.proofs.laws.worked_requests.Goals as goal
 
 pub returns : goal.returns
 unfolding clap_on_literals peglinden asked_unchecked
-returns c = record { schema = refl; check = refl; typed = refl; fields = refl; lookup = refl; format = refl }
+returns c = record {
+  schema = refl;
+  check = refl;
+  typed = refl;
+  fields = refl;
+  lookup = refl;
+  format = refl;
+  write = refl;
+}
