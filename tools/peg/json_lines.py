@@ -10,7 +10,7 @@ from peg import beside, programs, texts
 PROGRAM = programs.path("peglinden")
 COMMANDS = [
     ["schema"], ["schema", "--adopt"], ["check"], ["typed"], ["fields"], ["lookup", "Query"], ["lookup", "@skip(if:)"],
-    ["lookup", "A.b(c:)"], ["format"], ["format", "--check"],
+    ["lookup", "A.b(c:)"], ["format"], ["format", "--check"], ["format", "--write"], ["format", "--write", "--drop-comments"],
 ]  # fmt: skip
 # What takes a schema beside its files.
 ON_DOCUMENTS = {"check", "typed", "fields"}
@@ -33,7 +33,7 @@ def bytes_of(chance, number):
 def words_of(chance, paths):
     command = chance.choice(COMMANDS)
     if command[0] not in ON_DOCUMENTS:
-        return [*command, *paths]
+        return [*command, *chance.choice([paths, [str(pathlib.Path(paths[0]).parent)]])]
     at = chance.randint(1, len(paths) - 1)
     return [*command, *(word for path in paths[:at] for word in ("--schema", path)), *paths[at:]]
 

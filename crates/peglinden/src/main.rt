@@ -23,6 +23,7 @@ fn run_on_streams(rt: &HostRuntime) -> io::Result<Status> {
         drawn_keys(rt),
         words.as_slice(),
         &SystemFiles(rt),
+        &mut SystemFiles(rt),
         &mut rt.stdin(),
         &mut rt.stdout(),
         &mut rt.stderr(),

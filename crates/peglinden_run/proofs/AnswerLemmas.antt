@@ -1,12 +1,11 @@
 -- Answers to what is equal.
-use Rattle.std.proofs.Common.{◌≡◌, ℕ, zero, suc, List, [], ◌∷◌, Option, None, Some, length, take, ap, refl, subst}
-use Rattle.std.specs.Borrow.{Bor}
+use Rattle.std.proofs.Common.{◌≡◌, ℕ, List, Option, None, Some, map, refl, subst, sym}
+use Rattle.std.proofs.lemmas.List.{take-map}
 use Rattle.peglinden_words.specs.declared.request.Reporting.{Reporting}
 use Rattle.peglinden_run.specs.declared.answer.Answer.{Answer}
 use Rattle.peglinden_run.specs.declared.form.Form.{Form}
 use Rattle.peglinden_run.specs.declared.printed.Printed.{Printed}
 use Rattle.peglinden_run.specs.declared.printed.Tally.{Tally}
-use Rattle.peglinden_run.specs.Documents.{texts_of}
 use Rattle.peglinden_run.specs.Findings.{Found, IsAnswerOf, at_most}
 use Rattle.peglinden_run.specs.FormatCommand.{IsCheckShown}
 
@@ -27,13 +26,8 @@ check-shown-as form tally tally₂ said said₂ printed tallies saids is =
     subst (λ (t : Tally). IsCheckShown form t said₂ printed) tallies
     (subst (λ (l : List ℕ). IsCheckShown form tally l printed) saids is)
 
-take-texts : (n : ℕ) (words : List (Bor (List ℕ))) → texts_of (take n words) ≡ take n (texts_of words)
-take-texts zero words = refl
-take-texts (suc n) [] = refl
-take-texts (suc n) (word ∷ words) = ap (λ (l : List (List ℕ)). word.now ∷ l) (take-texts n words)
-
--- the texts of the first words are the first of their texts
-pub at_most-texts : (most : Option ℕ) (words : List (Bor (List ℕ)))
-    → texts_of (at_most most words) ≡ at_most most (texts_of words)
-at_most-texts None words = refl
-at_most-texts (Some most) words = take-texts most words
+-- of the first of some things the first of what each gives
+pub at_most-map : {A B : Type 0} (f : A → B) (most : Option ℕ) (xs : List A)
+    → map f (at_most most xs) ≡ at_most most (map f xs)
+at_most-map f None xs = refl
+at_most-map f (Some most) xs = sym (take-map f most xs)

@@ -1,6 +1,9 @@
--- What is left out of a list with one element more.
-use Rattle.std.proofs.Common.{◌≡◌, ◌⊎◌, List, [], ◌∷◌, ◌++◌, inl, inr, refl, ap}
-use Rattle.peglinden_run.specs.Echoes.{LeavesOut}
+-- Which leaf faults are echoes, and what is left out of a list with one element more.
+use Rattle.std.proofs.Common.{◌≡◌, ◌↔◌, ◌⊎◌, List, [], ◌∷◌, ◌++◌, inl, inr, refl, ap}
+use Rattle.apollo_document.specs.declared.selection_path.SelectionPath.{SelectionPath}
+use Rattle.leafcheck.specs.declared.leaf_fault.LeafKind.{LeafKind}
+use Rattle.leafcheck.specs.declared.leaf_fault.LeafKind.TheVariants.{MissingSubselection, SubselectionOnLeaf}
+use Rattle.peglinden_run.specs.Echoes.{LeavesOut, Repeats}
 
 -- one that is so
 pub leaves_out-so : {A : Type 0} (IsSo : A → Type 0) (xs kept : List A) (x : A) → LeavesOut IsSo xs kept
@@ -25,3 +28,10 @@ leaves_out-other IsSo (y ∷ xs) kept x (inr out) never = inr (
     (ap (λ l. l ++ x ∷ []) out.1.1.0, leaves_out-other IsSo xs out.1.0 x out.1.1.1 never),
   ),
 )
+
+-- a fault is an echo where others say in another way what was lost
+pub repeats_as : (IsLost HasLost : SelectionPath → Type 0)
+    → ((path : SelectionPath) → IsLost path ↔ HasLost path)
+    → (path : SelectionPath) (kind : LeafKind) → Repeats IsLost path kind ↔ Repeats HasLost path kind
+repeats_as IsLost HasLost same path MissingSubselection = same path
+repeats_as IsLost HasLost same path SubselectionOnLeaf = (λ never. never, λ never. never)

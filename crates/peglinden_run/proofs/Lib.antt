@@ -1,7 +1,11 @@
 pub mod AnswerLemmas
+pub mod CommentLemmas
 pub mod DocumentLemmas
 pub mod EchoLemmas
+pub mod LayoutLemmas
+pub mod LossLemmas
 pub mod SaidOfAll
 pub mod ReportLemmas
 pub mod RunLemmas
 pub mod TypedLemmas
+pub mod WriteLemmas

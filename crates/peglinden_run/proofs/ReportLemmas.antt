@@ -87,7 +87,7 @@ said_added subject forms.Github sentence_of about_of details_of files location f
 pub added_alone : (P : List ℕ → Type 0) (old new : List ℕ) → old ≡ [] → Adds P old new → P new
 added_alone P old new none added = subst P (sym (added.1.0 ∙ ap (λ l. l ++ added.0) none)) added.1.1
 
-says-more : {A : Type 0} (Says : A → List ℕ → Type 0) (xs : List A) (x : A) (text said : List ℕ)
+pub says-more : {A : Type 0} (Says : A → List ℕ → Type 0) (xs : List A) (x : A) (text said : List ℕ)
     → SaysEach Says xs text → Says x said → SaysEach Says (xs ++ x ∷ []) (text ++ said)
 says-more Says [] x text said are is =
     (said, ([], (ap (λ l. l ++ said) are ∙ sym (append-nil said), (is, refl))))

@@ -1,6 +1,7 @@
 -- How a run ends with an answer and without one, and over standard input.
 use Rattle.std.proofs.Common.{◌≡◌, ℕ, true, List, [], Option, None, Result, Ok, Err, IfOk, IfErr, MatchResult}
-use Rattle.std.proofs.Common.{inl, inr, refl, string_bytes}
+use Rattle.std.proofs.Common.{◌∙◌, inl, inr, refl, string_bytes, sym}
+use Rattle.std.proofs.KnownBytes.{Appends-nil}
 use Rattle.clap.specs.Walk.{Text}
 use Rattle.program_io.specs.Files.{IsReadCause, IsRefusal, may_fail_with_input, with_input}
 use Rattle.program_io.specs.Writing.{IsBegun}
@@ -31,6 +32,15 @@ use Rattle.peglinden_run.specs.Runs.{IsUnasked, IsWritten, MayEnd, MayEndWithInp
 use Rattle.peglinden_run.specs.SchemaCommand.{IsSchemaCause}
 use Rattle.peglinden_run.specs.Status.{message_of, output_of, status_of}
 use Rattle.peglinden_run.specs.TypedDocuments.{IsTypedCause}
+
+-- nothing is written
+pub nothing-begun : (text : List ℕ) (old : Option (List ℕ)) → IsBegun text old old
+nothing-begun text old = (text, ([], (Appends-nil old, refl)))
+
+-- a run that memory ran out in is not done
+pub exhausted-not-done : {E : Type 0} {x y : E} (status : Status) → status ≡ s.Exhausted → status ≡ s.Done
+    → x ≡ y
+exhausted-not-done status ends done = absurd (let no : s.Exhausted ≡ s.Done = sym ends ∙ done in cc)
 
 -- without an answer nothing is done
 pub is_not_done : (failure : Failure) → status_of failure ≡ s.Done → ⊥

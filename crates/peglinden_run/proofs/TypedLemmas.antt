@@ -1,5 +1,7 @@
 -- Documents of files, typed over the schema of files.
-use Rattle.std.proofs.Common.{◌≡◌, ℕ, ◌≤◌, true, List, ◌++◌, Some, length, length-append, ap, ◌∙◌, arith}
+use Rattle.std.proofs.Common.{◌≡◌, ℕ, ◌≤◌, true, List, ◌++◌, Some, length, length-append, string_bytes, ap}
+use Rattle.std.proofs.Common.{◌∙◌}
+use Rattle.std.proofs.Common.{arith}
 use Rattle.std.proofs.lemmas.List.{length-map, map-append}
 use Rattle.std.specs.Borrow.{Bor}
 use Rattle.graphql_nodes.specs.Sources.{merged}
@@ -15,6 +17,7 @@ use Rattle.peglinden_run.specs.declared.typed_documents.TypedDocument.{TypedDocu
 use Rattle.peglinden_run.specs.Documents.{AreDocumentsAt, texts_of}
 use Rattle.peglinden_run.specs.TypedDocuments.{AreBothAt, IsTyped, document_part, schema_part}
 use Rattle.peglinden_run.specs.Echoes.{IsEcho, LeavesOut}
+use Rattle.peglinden_run.specs.SchemaHints.{schema_hints}
 use Rattle.peglinden_run.proofs.DocumentLemmas.{documents-length}
 
 -- there are as many texts as words
@@ -50,9 +53,10 @@ pub typed-of : (held : List ℕ → List ℕ → Type 0) (schema_paths document_
     → LeavesOut (IsEcho typed.findings.document_faults.items) (leaf_faults typed.schema typed.document)
     typed.findings.leaf_faults.items
     → typed.findings.sources ≡ merged (all_sources first) (all_sources second)
+    → string_bytes typed.hints ≡ schema_hints second
     → IsTyped held schema_paths document_paths typed
 typed-of held schema_paths document_paths documents first second given typed same front back read means
-    schema_are is are leaves_are sources = record {
+    schema_are is are leaves_are sources hints = record {
       documents = documents;
       read = read;
       means = rw (same, front) at means;
@@ -61,4 +65,5 @@ typed-of held schema_paths document_paths documents first second given typed sam
       are = rw back at are;
       leaves_are = leaves_are;
       sources = rw (front, back) at sources;
+      hints = rw back at hints;
     }

@@ -8,15 +8,15 @@ use Rattle.leafcheck.specs.declared.leaf_fault.LeafFault.{LeafFault}
 use Rattle.leafcheck.specs.declared.leaf_fault.LeafKind.{LeafKind}
 use Rattle.leafcheck.specs.declared.leaf_fault.LeafKind.TheVariants.{MissingSubselection, SubselectionOnLeaf}
 
--- a fault in this way of the field of this path repeats these faults: subselections are missing, and one of
--- the faults is of a selection below
-abbrev pub Repeats : List Fault → SelectionPath → LeafKind → Type 0
-Repeats faults path MissingSubselection = HasLost path faults
-Repeats faults path SubselectionOnLeaf = ⊥
+-- a fault in this way of the field of this path only repeats others: subselections are missing, and some were
+-- lost below
+abbrev pub Repeats : (SelectionPath → Type 0) → SelectionPath → LeafKind → Type 0
+Repeats IsLost path MissingSubselection = IsLost path
+Repeats IsLost path SubselectionOnLeaf = ⊥
 
 -- a leaf fault is an echo of these faults
 abbrev pub IsEcho : List Fault → LeafFault → Type 0
-IsEcho faults leaf = Repeats faults leaf.path leaf.kind
+IsEcho faults leaf = Repeats (λ path. HasLost path faults) leaf.path leaf.kind
 
 -- kept is of a list, in order, exactly what is not so
 abbrev pub LeavesOut : {A : Type 0} → (A → Type 0) → List A → List A → Type 0

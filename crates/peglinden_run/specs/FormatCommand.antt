@@ -1,11 +1,9 @@
 -- What the command `format` answers: GraphQL specification of October 2021, section 2.
 use Rattle.std.specs.Prelude.{◌≡◌, ◌++◌, ◌==◌, ◌∷◌, ℕ, Bool, true, false, not, List, [], Option, None, Some}
-use Rattle.std.specs.Prelude.{codes, length, nat_eq, if◌then◌else◌, option_map, string_bytes}
-use Rattle.std.specs.Cmp.Lexicographic.{pointwise}
+use Rattle.std.specs.Prelude.{codes, length, if◌then◌else◌, string_bytes}
 use Rattle.std.specs.List.{flat_map}
 use Rattle.graphql_nodes.specs.Sources.{Files}
 use Rattle.graphql_nodes.specs.VisibleTexts.{visible}
-use Rattle.graphql_nodes.specs.declared.source.SourceFile.{SourceFile}
 use Rattle.graphql_ast.specs.declared.definition.Definition.{Definition}
 use Rattle.graphql_ast.specs.declared.document.Document.{Document}
 use Rattle.apollo_reporting.specs.GithubCommands.{command_text}
@@ -19,6 +17,7 @@ use Rattle.peglinden_run.specs.Documents.{AreDocumentsAt}
 use Rattle.peglinden_run.specs.Ended.{ended}
 use Rattle.peglinden_run.specs.Findings.{at_most}
 use Rattle.peglinden_run.specs.Forms.{form_of}
+use Rattle.peglinden_run.specs.Layouts.{changed_files}
 use Rattle.peglinden_run.specs.Lines.{changed_line, text_line}
 use Rattle.peglinden_run.specs.Printed.{IsArranged, tally_line}
 
@@ -50,25 +49,16 @@ form_documents forms.Json documents = flat_map document_line documents
 form_documents forms.Words documents = ended (all_definitions documents)
 form_documents forms.Github documents = ended (all_definitions documents)
 
--- the path of the first of these files, where its text is not this one
-abbrev pub path_unless : List ℕ → Files → List (List ℕ)
-path_unless text [] = []
-path_unless text (file ∷ files) = if pointwise nat_eq text file.1.text then [] else file.1.path ∷ []
-
--- the path of a document's file, where its text differs from its layout
-abbrev pub changed_path : Document → List (List ℕ)
-changed_path document = path_unless (formatted document) document.sources
-
--- the paths of the files whose text differs
-abbrev pub changed_paths : List Document → List (List ℕ)
-changed_paths documents = flat_map changed_path documents
-
 -- what a form says of a file whose text differs
 abbrev pub changed_in : Form → List ℕ → List ℕ
 changed_in forms.Words path = visible path ++ codes "\n"
 changed_in forms.Json path = changed_line path
 changed_in forms.Github path =
     command_text (Some path) None (codes "the text differs from its layout") ++ codes "\n"
+
+-- what a form says of files whose texts differ
+abbrev pub changed_text : Form → List (List ℕ × List ℕ) → List ℕ
+changed_text form files = flat_map (λ (file : List ℕ × List ℕ). changed_in form file.0) files
 
 -- how many files differ, on a line, where not all of them are shown
 abbrev pub rest_line : Tally → List ℕ
@@ -81,7 +71,7 @@ IsCheckShown forms.Words tally said printed = (string_bytes printed.output ≡ s
 IsCheckShown form tally said printed = IsArranged form tally [] said printed
 
 -- so many files are named, and these of them differ, of which at most so many are shown
-abbrev pub changed_tally : Option ℕ → ℕ → List (List ℕ) → Tally
+abbrev pub changed_tally : Option ℕ → ℕ → List (List ℕ × List ℕ) → Tally
 changed_tally most files changed = record {
   faults = length changed;
   shown = length (at_most most changed);
@@ -92,22 +82,23 @@ changed_tally most files changed = record {
 pub record IsChecked (form : Form) (most : Option ℕ) (files : ℕ) (documents : List Document)
     (answer : Answer) :
     Type 0 where
-  pub shows : IsCheckShown form (changed_tally most files (changed_paths documents))
-      (flat_map (changed_in form) (at_most most (changed_paths documents))) answer.printed
-  pub any : answer.has_faults ≡ not (length (changed_paths documents) == 0)
+  pub shows : IsCheckShown form (changed_tally most files (changed_files documents))
+      (changed_text form (at_most most (changed_files documents))) answer.printed
+  pub any : answer.has_faults ≡ not (length (changed_files documents) == 0)
 
--- so many files are printed
+-- so many files are named, and nothing is at fault
 abbrev pub format_tally : ℕ → Tally
 format_tally files = record { faults = 0; shown = 0; files = files }
 
--- the answer prints documents in our layout, and nothing is at fault
-pub record IsFormatted (form : Form) (files : ℕ) (documents : List Document) (answer : Answer) : Type 0 where
-  pub shows : IsArranged form (format_tally files) (form_documents form documents) [] answer.printed
+-- the answer prints this output, and nothing is at fault in so many files
+pub record IsFaultless (form : Form) (files : ℕ) (output : List ℕ) (answer : Answer) : Type 0 where
+  pub shows : IsArranged form (format_tally files) output [] answer.printed
   pub none : answer.has_faults ≡ false
 
--- with the flag it says which differ
+-- it prints documents in our layout; with the flag it says which differ
 abbrev pub Formats : Bool → Reporting → ℕ → List Document → Answer → Type 0
-Formats false reporting files documents answer = IsFormatted (form_of reporting) files documents answer
+Formats false reporting files documents answer =
+    IsFaultless (form_of reporting) files (form_documents (form_of reporting) documents) answer
 Formats true reporting files documents answer =
     IsChecked (form_of reporting) reporting.max_faults files documents answer
 

@@ -1,3 +1,4 @@
+pub mod CommentPlaces
 pub mod DocumentCommands
 pub mod Documents
 pub mod Echoes
@@ -7,15 +8,22 @@ pub mod FieldsCommand
 pub mod Findings
 pub mod Forms
 pub mod FormatCommand
+pub mod Layouts
 pub mod Lines
 pub mod LookedUp
 pub mod LookupCommand
+pub mod LostComments
 pub mod Naming
+pub mod Notes
 pub mod Printed
 pub mod RefusedFiles
 pub mod Reports
 pub mod Requests
 pub mod Runs
 pub mod SchemaCommand
+pub mod SchemaHints
 pub mod Status
+pub mod Tasks
 pub mod TypedDocuments
+pub mod UnwrittenFiles
+pub mod WriteCommand

@@ -1,5 +1,6 @@
 -- Lines of JSON that commands write.
-use Rattle.std.specs.Prelude.{ℕ, List, [], ◌∷◌, ◌++◌, Option, None, Some, codes}
+use Rattle.std.specs.Prelude.{ℕ, List, [], ◌∷◌, ◌++◌, Option, None, Some, codes, option_map}
+use Rattle.graphql_nodes.specs.declared.line_column.LineColumn.{LineColumn}
 use Rattle.serde_json.specs.Written.{compact_text}
 use Rattle.apollo_reporting.specs.FaultData.{Member, number_data, text_data}
 use Rattle.apollo_reporting.specs.JsonObjects.{typed_data}
@@ -38,3 +39,14 @@ unread_line path why = object_line (codes "refusal")
     ∷ (codes "file", text_data (Some path)) ∷ (codes "line", number_data None)
     ∷ (codes "column", number_data None) ∷ (codes "end_line", number_data None)
     ∷ (codes "end_column", number_data None) ∷ (codes "path", text_data None) ∷ [])
+
+-- the file of this path isn't written, which is of this kind, for what these words say; what keeps it begins
+-- here, if that is known, and nothing is known of where it ends
+abbrev pub unwritten_line : List ℕ → List ℕ → Option LineColumn → List ℕ → List ℕ
+unwritten_line kind path at why = object_line (codes "refusal")
+    ((codes "kind", text_data (Some kind)) ∷ (codes "message", text_data (Some why))
+    ∷ (codes "file", text_data (Some path))
+    ∷ (codes "line", number_data (option_map (λ (a : LineColumn). a.line) at))
+    ∷ (codes "column", number_data (option_map (λ (a : LineColumn). a.column) at))
+    ∷ (codes "end_line", number_data None) ∷ (codes "end_column", number_data None)
+    ∷ (codes "path", text_data None) ∷ [])

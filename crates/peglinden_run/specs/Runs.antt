@@ -132,16 +132,3 @@ IsUnasked words old new s.Refused = (asked words ≡ None) × (are_mistaken word
 IsUnasked words old new s.Exhausted = Unit {0}
 IsUnasked words old new status = (asked words ≡ None) × (call_for_help words ≡ true)
     × ((text : List ℕ) × IsTextWritten text old new status)
-
--- a run on words that ended so. It is the run on the request that they make. Or they ask for nothing, and
--- standard input is left as it was
-abbrev pub IsRunOn : {R : Type 0} → List Text → (List ℕ → Type 0) → Type 0 → (List ℕ → List ℕ → Type 0)
-    → (List ℕ → Type 0) → R → R → Option (List ℕ) → Option (List ℕ) → Option (List ℕ) → Option (List ℕ)
-    → Status → Type 0
-IsRunOn words input_held input_may_fail held may_fail reader reader_after old new old_errors new_errors
-    status =
-    ((request : Request)
-    × ((asked words ≡ Some (asked_of request))
-    × EndsAs (names_input request) request input_held input_may_fail held may_fail reader reader_after old
-    new old_errors new_errors status))
-    ⊎ (IsUnasked words old new status × (reader_after ≡ reader))

@@ -1,6 +1,6 @@
 -- Documents of files, typed over the schema of files: GraphQL specification of October 2021, sections 2.2 to
 -- 2.8 and 3.
-use Rattle.std.specs.Prelude.{◌≡◌, ◌++◌, ℕ, true, false, List, Some, length, take, drop}
+use Rattle.std.specs.Prelude.{◌≡◌, ◌++◌, ℕ, true, false, List, Some, length, string_bytes, take, drop}
 use Rattle.graphql_nodes.specs.Sources.{merged}
 use Rattle.graphql_ast.specs.declared.document.Document.{Document}
 use Rattle.apollo_schema.specs.MeantSchema.{MeansSchema}
@@ -18,6 +18,7 @@ use Rattle.peglinden_run.specs.declared.typed_documents.TypedDocument.{TypedDocu
 use Rattle.peglinden_run.specs.Documents.{AreDocumentsAt}
 use Rattle.peglinden_run.specs.Echoes.{IsEcho, LeavesOut}
 use Rattle.peglinden_run.specs.RefusedFiles.{IsFilesReport}
+use Rattle.peglinden_run.specs.SchemaHints.{schema_hints}
 
 -- In all of this `held` says which bytes the file of a path may hold, and `may_fail` whether reading it may
 -- fail.
@@ -36,8 +37,9 @@ abbrev pub document_part : List (List ℕ) → List Document → List Document
 document_part schema_paths documents = drop (length schema_paths) documents
 
 -- the typed document of files over the schema of files, which has no options. Then the faults of that schema,
--- and those of the document, in which definitions of the type system are at fault. Last those of its leaves
--- that don't only repeat these, and the source files of both
+-- and those of the document, in which definitions of the type system are at fault. Then those of its leaves
+-- that don't only repeat these, and the source files of both. Last the hints at documents that look like
+-- files of a schema
 pub record IsTyped (held : List ℕ → List ℕ
     → Type 0) (schema_paths document_paths : List (List ℕ)) (typed : TypedDocument) : Type 0 where
   -- the documents of all files
@@ -55,6 +57,7 @@ pub record IsTyped (held : List ℕ → List ℕ
   pub sources : typed.findings.sources
       ≡ merged (all_sources (schema_part schema_paths documents))
       (all_sources (document_part schema_paths documents))
+  pub hints : string_bytes typed.hints ≡ schema_hints (document_part schema_paths documents)
 
 -- why there is no such document. A file is refused, or the extensions of the schema spend the numbers. That
 -- memory ran out says nothing of the files

@@ -1,7 +1,7 @@
 //! The commands on documents over a schema: `check`, `typed` and `fields`.
 ghost use Rattle.std.specs.Prelude.{◌≡◌, IfErr, IfOk, string_bytes};
 ghost use Rattle.peglinden_run.specs.DocumentCommands.{IsDocumentAnswer, IsTypingCause, form_fields};
-ghost use Rattle.peglinden_run.specs.DocumentCommands.{named_files, output_of};
+ghost use Rattle.peglinden_run.specs.DocumentCommands.{named_files, notes_of, output_of};
 
 use crate::answer::Answer;
 use crate::ended::ended_text;
@@ -10,6 +10,7 @@ use crate::field_lines::field_lines;
 use crate::fields_command::fields_text;
 use crate::form::{Form, form_of};
 use crate::lines::form_text;
+use crate::notes::with_notes;
 use crate::typed_documents::{TypedDocument, type_documents};
 use apollo_reporting::source_lines::SourceLines;
 use graphql_nodes::collections::hash_keys::HashKeys;
@@ -29,7 +30,7 @@ pub enum Shown {
 }
 
 /// The answer of a command that types these documents over their schema. It is what it shows of the typed
-/// document, and what is said of its faults.
+/// document, and what is said of its faults, with notes in front of that.
 ///
 /// The errors are those of [`type_documents`].
 pub(crate) fn document_answer<F: Files>(
@@ -48,11 +49,21 @@ pub(crate) fn document_answer<F: Files>(
     let typed = type_documents(alloc, keys, form, files, schema_paths, document_paths)?;
     let output = shown_text(alloc, form, shown, &typed)?;
     let count = named_files(typing);
-    Ok(
-        typed
-            .findings
-            .answer(alloc, &typing.reporting, count, output)?,
-    )
+    let answer = typed
+        .findings
+        .answer(alloc, &typing.reporting, count, output)?;
+    let notes = notes_text(alloc, form, &typed)?;
+    Ok(with_notes(answer, notes)?)
+}
+
+/// The notes on a typed document, in a form. The error is out of memory.
+fn notes_text(alloc: Global, form: Form, typed: &TypedDocument) -> Result<String, AllocError>
+    ensures { IfOk result (λ notes. string_bytes notes ≡ notes_of form typed.now) }
+{
+    match form {
+        Form::Words => typed.hints.clone(),
+        Form::Json | Form::Github => Ok(String::new(alloc)),
+    }
 }
 
 /// How many files are named, or the greatest number where they are more.

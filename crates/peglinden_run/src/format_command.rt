@@ -1,11 +1,12 @@
 //! The command `format`.
-ghost use Rattle.std.specs.Prelude.{◌≡◌, ◌++◌, IfErr, IfOk, OnOk, option_map, string_bytes};
+ghost use Rattle.std.specs.Prelude.{◌≡◌, IfErr, IfOk, option_map, string_bytes};
 ghost use Rattle.std.specs.List.{flat_map};
 ghost use Rattle.peglinden_run.specs.Documents.{texts_of};
-ghost use Rattle.peglinden_run.specs.FormatCommand.{IsChecked, IsFormatAnswer, all_definitions, changed_in};
-ghost use Rattle.peglinden_run.specs.FormatCommand.{changed_paths, document_line, form_documents, rest_line};
-ghost use Rattle.peglinden_run.specs.FormatCommand.{IsCheckShown, changed_path, document_path};
+ghost use Rattle.peglinden_run.specs.FormatCommand.{IsCheckShown, IsChecked, IsFaultless, IsFormatAnswer};
+ghost use Rattle.peglinden_run.specs.FormatCommand.{all_definitions, changed_in, changed_text, document_line};
+ghost use Rattle.peglinden_run.specs.FormatCommand.{document_path, form_documents, rest_line};
 ghost use Rattle.peglinden_run.specs.Forms.{form_of};
+ghost use Rattle.peglinden_run.specs.Layouts.{changed_bytes};
 ghost use Rattle.peglinden_run.specs.RefusedFiles.{IsFilesCause};
 
 use crate::answer::Answer;
@@ -14,6 +15,7 @@ use crate::ended::ended_text;
 use crate::failure::Failure;
 use crate::findings::at_most;
 use crate::form::{Form, form_of};
+use crate::layouts::{ChangedFile, changed_files};
 use crate::lines::{changed_line, on_a_line, text_line};
 use crate::printed::{Printed, Tally, arranged, tally_line};
 use apollo_reporting::github::github_command;
@@ -52,12 +54,25 @@ pub(crate) fn format_answer<F: Files>(
     if check {
         return Ok(check_answer(alloc, form, reporting.max_faults, paths.len(), &documents)?);
     }
+    let output = form_documents(alloc, form, documents)?;
+    Ok(faultless(alloc, form, paths.len(), output)?)
+}
+
+/// The answer that prints this output of a form, and finds nothing at fault in so many files. The error is
+/// out of memory.
+pub(crate) fn faultless(
+    alloc: Global,
+    form: Form,
+    files: usize,
+    output: String,
+) -> Result<Answer, AllocError>
+    ensures { IfOk result (IsFaultless form files (string_bytes output)) }
+{
     let tally = Tally {
         faults: 0,
         shown: 0,
-        files: paths.len(),
+        files,
     };
-    let output = form_documents(alloc, form, documents)?;
     Ok(Answer {
         printed: arranged(alloc, form, tally, output, String::new(alloc))?,
         has_faults: false,
@@ -126,11 +141,11 @@ fn check_answer(
 ) -> Result<Answer, AllocError>
     ensures { IfOk result (IsChecked form most files documents.now) }
 {
-    let changed = changed_paths(alloc, documents)?;
-    let paths = changed.as_slice();
-    let shown = at_most(paths, most);
+    let changed = changed_files(alloc, documents)?;
+    let differing = changed.as_slice();
+    let shown = at_most(differing, most);
     let tally = Tally {
-        faults: paths.len(),
+        faults: differing.len(),
         shown: shown.len(),
         files,
     };
@@ -169,42 +184,17 @@ fn rest_line(alloc: Global, tally: Tally) -> Result<String, AllocError>
     tally_line(alloc, tally)
 }
 
-/// The paths of the files whose text differs from its layout. The error is out of memory.
-fn changed_paths<'d>(alloc: Global, documents: &'d [Document]) -> Result<Vec<&'d str>, AllocError>
-    ensures { IfOk result (λ paths. texts_of paths.items ≡ changed_paths documents.now) }
-{
-    let mut paths = Vec::new(alloc);
-    for document in documents {
-        push_changed(alloc, &mut paths, document)?;
-    }
-    Ok(paths)
-}
-
-/// Adds the path of a document's file, where its text differs from its layout. The error is out of memory.
-fn push_changed<'d>(
-    alloc: Global,
-    paths: &mut Vec<&'d str>,
-    document: &'d Document,
-) -> Result<(), AllocError>
-    ensures { OnOk result (texts_of paths.new.items ≡ texts_of paths.old.items ++ changed_path document.now) }
-{
-    let Some((_, file)) = document.sources.first() else {
-        return Ok(());
-    };
-    let formatted = ended_text(alloc, document.definitions.as_slice())?;
-    if formatted.as_str() != file.text.as_str() {
-        paths.push(file.path.as_str())?;
-    }
-    Ok(())
-}
-
 /// What a form says of files that differ. The error is out of memory.
-fn changed_text(alloc: Global, form: Form, paths: &[&str]) -> Result<String, AllocError>
-    ensures { IfOk result (λ text. string_bytes text ≡ flat_map (changed_in form) (texts_of paths.now)) }
+pub(crate) fn changed_text(
+    alloc: Global,
+    form: Form,
+    files: &[ChangedFile<'_>],
+) -> Result<String, AllocError>
+    ensures { IfOk result (λ text. string_bytes text ≡ changed_text form (changed_bytes files.now)) }
 {
     let mut text = String::new(alloc);
-    for path in paths {
-        text.push_str(changed_in(alloc, form, path)?.as_str())?;
+    for file in files {
+        text.push_str(changed_in(alloc, form, file.path)?.as_str())?;
     }
     Ok(text)
 }

@@ -1,13 +1,15 @@
 //! Lines of JSON that commands write, and texts on lines. The error of each call is out of memory.
 ghost use Rattle.std.specs.Prelude.{◌≡◌, ◌++◌, IfOk, codes, option_map, string_bytes};
 ghost use Rattle.apollo_reporting.specs.JsonObjects.{json_members, placed_members};
+ghost use Rattle.graphql_nodes.specs.declared.line_column.LineColumn.{LineColumn};
 ghost use Rattle.peglinden_run.specs.Lines.{changed_line, form_text, object_line, summary_line, text_line};
-ghost use Rattle.peglinden_run.specs.Lines.{unread_line};
+ghost use Rattle.peglinden_run.specs.Lines.{unread_line, unwritten_line};
 
 use crate::form::Form;
 use crate::printed::Tally;
 use apollo_reporting::json_object::{JsonValue, object_to_json, placed_to_json};
 use apollo_reporting::sources::Sources;
+use graphql_nodes::line_column::LineColumn;
 use graphql_nodes::source::SourceSpan;
 use std::alloc::{AllocError, Global};
 
@@ -115,4 +117,43 @@ pub(crate) fn unread_line<'x>(
             ("path", JsonValue::Words(None)),
         ],
     )
+}
+
+/// The line that says that the file of this path isn't written: of which kind that is, where what keeps it
+/// begins, if that is known, and why.
+pub(crate) fn unwritten_line<'x>(
+    alloc: Global,
+    kind: &'x str,
+    path: &'x str,
+    at: Option<LineColumn>,
+    why: &'x str,
+) -> Result<String, AllocError>
+    ensures { IfOk result (λ line. string_bytes line ≡ unwritten_line kind.now path.now at why.now) }
+{
+    let (line, column) = numbers(at);
+    object_line(
+        alloc,
+        "refusal",
+        &[
+            ("kind", JsonValue::Words(Some(kind))),
+            ("message", JsonValue::Words(Some(why))),
+            ("file", JsonValue::Words(Some(path))),
+            ("line", JsonValue::Number(line)),
+            ("column", JsonValue::Number(column)),
+            ("end_line", JsonValue::Number(None)),
+            ("end_column", JsonValue::Number(None)),
+            ("path", JsonValue::Words(None)),
+        ],
+    )
+}
+
+/// The line and the column of a place, where it is known.
+fn numbers(at: Option<LineColumn>) -> (Option<usize>, Option<usize>)
+    ensures line { result.0 ≡ option_map (λ (at : LineColumn). at.line) at }
+    ensures column { result.1 ≡ option_map (λ (at : LineColumn). at.column) at }
+{
+    match at {
+        Some(at) => (Some(at.line), Some(at.column)),
+        None => (None, None),
+    }
 }

@@ -1,11 +1,15 @@
 //! What is said of what is at fault, in each form.
 ghost use Rattle.std.specs.Prelude.{◌≡◌, ◌++◌, ◌∷◌, [], IfOk, OnOk, Some, string_bytes};
 ghost use Rattle.apollo_reporting.specs.TextErrors.{parse_error_about, parse_error_details};
+ghost use Rattle.peglinden_run.specs.Printed.{IsArranged};
 ghost use Rattle.peglinden_run.specs.RefusedFiles.{IsUnreadReport, unread_command, unread_sentence, unread_text};
+ghost use Rattle.peglinden_run.specs.UnwrittenFiles.{unwritten_command, unwritten_in, unwritten_sentence};
+ghost use Rattle.peglinden_run.specs.UnwrittenFiles.{unwritten_tally, unwritten_text};
 ghost use Rattle.peglinden_run.specs.Reports.{Adds, IsFormText, IsSaid, SaysEach};
 
 use crate::form::Form;
-use crate::lines::{on_a_line, unread_line};
+use crate::lines::{on_a_line, unread_line, unwritten_line};
+use crate::printed::{Printed, Tally, arranged};
 use apollo_reporting::fault_json::{refusal_to_json, to_json};
 use apollo_reporting::github::{github_command, to_github_command};
 use apollo_reporting::report::report_text;
@@ -13,6 +17,7 @@ use apollo_reporting::reported::Reported;
 use apollo_reporting::sources::Sources;
 use graphql_nodes::collections::shared::Shared;
 use graphql_nodes::collections::table::Table;
+use graphql_nodes::line_column::LineColumn;
 use graphql_nodes::source::{FileId, SourceFile, SourceSpan};
 use graphql_nodes::visible_text::visible;
 use graphql_text::parse_error::ParseError;
@@ -44,6 +49,78 @@ pub(crate) fn unread_report(
         Form::Json => unread_line(alloc, path, why.as_str()),
         Form::Github => unread_command(alloc, path, why.as_str()),
     }
+}
+
+/// What a form says of a file of this path that isn't written: of which kind that is, where what keeps it
+/// begins, if that is known, and why. The error is out of memory.
+pub(crate) fn unwritten_report(
+    alloc: Global,
+    form: Form,
+    kind: &str,
+    path: &str,
+    at: Option<LineColumn>,
+    why: &str,
+) -> Result<String, AllocError>
+    ensures { IfOk result (λ report.
+        string_bytes report ≡ unwritten_in form kind.now path.now at why.now) }
+{
+    match form {
+        Form::Words => unwritten_text(alloc, path, why),
+        Form::Json => unwritten_line(alloc, kind, path, at, why),
+        Form::Github => unwritten_command(alloc, path, at, why),
+    }
+}
+
+/// What is printed of what a form says of files that are not written, which are so many of so many. The error
+/// is out of memory.
+pub(crate) fn unwritten_printed(
+    alloc: Global,
+    form: Form,
+    count: usize,
+    files: usize,
+    said: String,
+) -> Result<Printed, AllocError>
+    ensures { IfOk result (IsArranged form (unwritten_tally count files) [] (string_bytes said)) }
+{
+    let tally = Tally {
+        faults: count,
+        shown: count,
+        files,
+    };
+    arranged(alloc, form, tally, String::new(alloc), said)
+}
+
+/// The report that the file of this path isn't written, with these words, and an empty line. The error is out
+/// of memory.
+fn unwritten_text(alloc: Global, path: &str, why: &str) -> Result<String, AllocError>
+    ensures { IfOk result (λ report. string_bytes report ≡ unwritten_text path.now why.now) }
+{
+    format!(in alloc;
+        "error: cannot write `{}`: {}\n\n",
+        visible(path),
+        visible(why)
+    )
+}
+
+/// The workflow command which says that the file of this path isn't written, at a place of it, with these
+/// words. The error is out of memory.
+fn unwritten_command(
+    alloc: Global,
+    path: &str,
+    at: Option<LineColumn>,
+    why: &str,
+) -> Result<String, AllocError>
+    ensures { IfOk result (λ command. string_bytes command ≡ unwritten_command path.now at why.now) }
+{
+    let sentence = unwritten_sentence(alloc, path, why)?;
+    on_a_line(github_command(alloc, Some(path), at, sentence.as_str())?)
+}
+
+/// The sentence of that. The error is out of memory.
+fn unwritten_sentence(alloc: Global, path: &str, why: &str) -> Result<String, AllocError>
+    ensures { IfOk result (λ sentence. string_bytes sentence ≡ unwritten_sentence path.now why.now) }
+{
+    format!(in alloc; "cannot write `{path}`: {why}")
 }
 
 /// The report that the file of this path isn't read, with these words, and an empty line. The error is out of

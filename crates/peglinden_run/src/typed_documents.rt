@@ -8,6 +8,7 @@ use crate::echoes::without_echoes;
 use crate::failure::Failure;
 use crate::findings::Findings;
 use crate::form::Form;
+use crate::schema_hints::schema_hints;
 use apollo_compiler::building::build_schema;
 use apollo_compiler::compile_options::CompileOptions;
 use apollo_compiler::document_building::build_executable_document;
@@ -26,6 +27,8 @@ pub(crate) struct TypedDocument {
     pub schema: Schema,
     pub document: ExecutableDocument,
     pub findings: Findings,
+    /// What hints at documents that look like files of a schema.
+    pub hints: String,
 }
 
 /// The documents of files as one typed document, over the schema of other files, which has no options.
@@ -53,6 +56,7 @@ pub(crate) fn type_documents<F: Files>(
     paths.extend_from_slice(document_paths)?;
     let documents = read_documents(alloc, form, files, paths.as_slice())?;
     let (of_schema, executable) = documents.as_slice().split_at(schema_paths.len());
+    let hints = schema_hints(alloc, executable)?;
     let (schema, schema_faults) = build_schema(alloc, keys, CompileOptions::none(), of_schema)?;
     let options = ExecutableOptions {
         type_system_definitions_are_errors: true,
@@ -74,5 +78,6 @@ pub(crate) fn type_documents<F: Files>(
         schema,
         document,
         findings,
+        hints,
     })
 }

@@ -6,3 +6,4 @@ mod files;
 mod inputs;
 mod rows;
 mod streams;
+mod written;

@@ -63,39 +63,9 @@ fn strange_texts(rt: HostRuntime) -> Result<(), Fail> {
             ("schema lines.graphql", query),
         ],
     )?;
-    let changed = "open.graphql\nlines.graphql\n";
+    let changed = "lines.graphql\n";
     expect_faults(
         &rt,
         &[("format --check open.graphql lines.graphql", changed, "")],
-    )
-}
-
-/// Of a schema whose only file is named twice.
-const SECOND_DATE: &str = "error: the type `Date` is defined multiple times in the schema
-  --> open.graphql:1:8
-   |
- 1 | scalar Date
-   |        ^^^^
-note: first defined here
-  --> open.graphql:1:8
-   |
- 1 | scalar Date
-   |        ^^^^
-
-1 fault
-";
-
-/// The same file twice stands twice.
-#[test]
-fn a_file_twice(rt: HostRuntime) -> Result<(), Fail> {
-    let twice = "scalar Date\n\nscalar Date\n";
-    expect_done(&rt, &[("format open.graphql open.graphql", twice)])?;
-    expect_faults(
-        &rt,
-        &[(
-            "schema open.graphql open.graphql",
-            "scalar Date\n",
-            SECOND_DATE,
-        )],
     )
 }

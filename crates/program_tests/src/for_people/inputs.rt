@@ -4,6 +4,7 @@ use crate::for_people::rows::{FILES, ended, expect};
 use graphql_nodes::collections::hash_keys::HashKeys;
 use peglinden_run::running::run;
 use program_io::in_memory::FilesInMemory;
+use program_io::replaced_in_memory::ReplacedInMemory;
 use program_io::status::Status;
 use std::io::{self, Error, ErrorKind, Read};
 use std::test::Fail;
@@ -81,6 +82,7 @@ fn standard_input_fails(rt: HostRuntime) {
         HashKeys::FIXED,
         &["format", "nowhere.graphql", "-"],
         &FilesInMemory(&FILES),
+        &mut ReplacedInMemory(Vec::new(rt.alloc())),
         &mut ClosedReader,
         &mut output,
         &mut errors,

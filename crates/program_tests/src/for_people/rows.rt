@@ -5,6 +5,7 @@ use graphql_nodes::collections::hash_keys::HashKeys;
 use peglinden_run::running::run;
 use program_io::in_memory::FilesInMemory;
 use program_io::input::BytesInMemory;
+use program_io::replaced_in_memory::ReplacedInMemory;
 use program_io::status::Status;
 use std::alloc::Global;
 use std::io::Write;
@@ -26,7 +27,7 @@ pub static FILES: [(&str, &[u8]); 11] = [
     ("bytes.graphql", b"type Query { a: Int }\xff"),
     ("empty.graphql", b""),
     ("open.graphql", b"scalar Date"),
-    ("\x1b[31m.graphql", b"scalar Date"),
+    ("\x1b[31m.graphql", b"scalar  Date"),
     ("lines.graphql", b"type Query {\r\n  a: Int\r\n}\r\n"),
 ];
 
@@ -70,7 +71,7 @@ input Place {
 }
 ";
 
-/// How a run over these files and this input ends.
+/// How a run over these files and this input ends, which replaces no file.
 pub fn ended<O: Write, E: Write>(
     alloc: Global,
     words: &[&str],
@@ -79,12 +80,14 @@ pub fn ended<O: Write, E: Write>(
     errors: &mut E,
 ) -> Status {
     let files = FilesInMemory(&FILES);
+    let mut writer = ReplacedInMemory(Vec::new(alloc));
     let mut reader = BytesInMemory(input);
     run(
         alloc,
         HashKeys::FIXED,
         words,
         &files,
+        &mut writer,
         &mut reader,
         output,
         errors,

@@ -1,35 +1,34 @@
-use Rattle.std.proofs.Common.{◌≡◌, ◌==◌, ◌∙◌, ℕ, List, ap, length, string_bytes, sym}
+use Rattle.std.proofs.Common.{◌≡◌, ◌==◌, ◌∙◌, ℕ, List, ap, length, sym}
 use Rattle.std.specs.Prelude.{not}
-use Rattle.std.specs.List.{flat_map}
-use Rattle.std.specs.Borrow.{Bor}
-use Rattle.peglinden_run.specs.Documents.{texts_of}
+use Rattle.std.proofs.lemmas.List.{length-map}
 use Rattle.peglinden_run.specs.Findings.{at_most}
-use Rattle.peglinden_run.specs.FormatCommand.{changed_in, changed_paths}
-use Rattle.peglinden_run.proofs.AnswerLemmas.{at_most-texts, check-shown-as}
-use Rattle.peglinden_run.proofs.TypedLemmas.{texts-length}
+use Rattle.peglinden_run.specs.FormatCommand.{changed_text}
+use Rattle.peglinden_run.specs.Layouts.{changed_bytes, changed_files}
+use Rattle.peglinden_run.specs.declared.layouts.ChangedFile.{ChangedFile}
+use Rattle.peglinden_run.proofs.AnswerLemmas.{at_most-map, check-shown-as}
 use Rattle.peglinden_run.proofs.format_command.check_answer.Goals as goal
 
 pub returns : goal.returns
 returns c =
-    let documents = c.args.documents.now in
-    let words = c.in_ok-changed.changed.items in
-    let changed : texts_of words ≡ changed_paths documents = c.in_ok-changed.ensures in
-    let cut : c.at_most-shown.result.now ≡ at_most c.args.most words = c.at_most-shown.ensures
-    ∙ ap (λ (l : List (Bor (List ℕ))). at_most c.args.most l) c.as_slice-paths.ensures.value in
-    let texts : texts_of c.at_most-shown.result.now ≡ at_most c.args.most (changed_paths documents) =
-    ap texts_of cut ∙ at_most-texts c.args.most words
-    ∙ ap (λ (l : List (List ℕ)). at_most c.args.most l) changed
+    let changed = changed_files c.args.documents.now in
+    let items = c.in_ok-changed.changed.items in
+    let all : changed_bytes items ≡ changed = c.in_ok-changed.ensures in
+    let cut : c.at_most-shown.result.now ≡ at_most c.args.most items = c.at_most-shown.ensures
+    ∙ ap (λ (l : List ChangedFile). at_most c.args.most l) c.as_slice-differing.ensures.value in
+    let first : changed_bytes c.at_most-shown.result.now ≡ at_most c.args.most changed =
+    ap changed_bytes cut ∙ at_most-map _ c.args.most items
+    ∙ ap (λ (l : List (List ℕ × List ℕ)). at_most c.args.most l) all
     in
-    let faults : length c.as_slice-paths.result.now ≡ length (changed_paths documents) =
-    ap length c.as_slice-paths.ensures.value ∙ sym (texts-length words) ∙ ap length changed in
-    let shown : length c.at_most-shown.result.now ≡ length (at_most c.args.most (changed_paths documents)) =
-    sym (texts-length c.at_most-shown.result.now) ∙ ap length texts in
+    let faults : length c.as_slice-differing.result.now ≡ length changed =
+    ap length c.as_slice-differing.ensures.value ∙ sym (length-map items _) ∙ ap length all in
+    let shown : length c.at_most-shown.result.now ≡ length (at_most c.args.most changed) =
+    sym (length-map c.at_most-shown.result.now _) ∙ ap length first in
     record {
       shows = check-shown-as c.args.form _ _ _ _ c.in_ok-checked_printed.field-0 (λ i. record {
         faults = faults i;
         shown = shown i;
         files = c.args.files;
-      }) (c.in_ok-said.ensures ∙ ap (flat_map (changed_in c.args.form)) texts)
+      }) (c.in_ok-said.ensures ∙ ap (changed_text c.args.form) first)
           c.in_ok-checked_printed.ensures;
       any = ap (λ (n : ℕ). not (n == 0)) faults;
     }

@@ -32,4 +32,4 @@ returns-clause-typed g c =
     (rw (c.in_ok-leaves.ensures.faults, c.as_slice-3.ensures.value) at c.in_ok-leaf_faults.ensures)
     (c.in_ok-merge_sources.ensures.merged
     ∙ (λ i. merged ((c.in_ok-sources.ensures.cases.1 (λ x y e. e) (λ x y e. e)
-    ∙ c.in_ok-schema.ensures.sources) i) (c.in_ok-document.ensures.sources i)))
+    ∙ c.in_ok-schema.ensures.sources) i) (c.in_ok-document.ensures.sources i))) c.in_ok-hints.ensures
