@@ -35,7 +35,7 @@ def crates():
     """The crates that define words, bottom up, and what the comment above its line of `crates.txt` says of
     each."""
     lines = (TOP / "crates.txt").read_text().split("\n")
-    said = {line.split(":")[0]: above[2:] for above, line in zip(lines, lines[1:]) if above.startswith("# ")}
+    said = {line.split(":")[0].split(" ")[0]: above[2:] for above, line in zip(lines, lines[1:]) if above.startswith("# ")}
     return {crate: said.get(crate, "") for crate in sources.crates() if (CRATES / crate / "specs").is_dir()}
 
 

@@ -24,9 +24,15 @@ def listed():
     return lines
 
 
+def crate_of(line):
+    """The crate that a line of crates.txt is about; a comment is about none."""
+    return line.partition(":")[0].partition(" ")[0]
+
+
 def crates():
     """The crates of the product."""
-    return [crate for crate in sources.crates() if f"\n{crate}:" in f"\n{listed()}"]
+    lines = {crate_of(line) for line in listed().splitlines()}
+    return [crate for crate in sources.crates() if crate in lines]
 
 
 def copy(folder, some=None):
@@ -35,7 +41,7 @@ def copy(folder, some=None):
     copied = some or crates()
     for crate in copied:
         shutil.copytree(CRATES / crate, folder / "crates" / crate, ignore=passed_over)
-    (folder / LIST).write_text("".join(line for line in listed().splitlines(True) if line.split(":")[0] in copied))
+    (folder / LIST).write_text("".join(line for line in listed().splitlines(True) if crate_of(line) in copied))
     shutil.copy(TOP / "HANDLES", folder)
 
 
