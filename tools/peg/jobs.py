@@ -62,7 +62,7 @@ def end(*counts):
 
 def over_programs():
     """The jobs over the programs that are there, proved or not, and over sources and documents."""
-    checks = ["checked_sources", "checked_documents", "quoted_code", "worked", "checked_program", "checked_cases"]
+    checks = ["checked_sources", "checked_header", "checked_documents", "quoted_code", "worked", "checked_program", "checked_cases"]
     return [
         command("tools/refusals"),
         command("tools/fuzz", "--hostile"),

@@ -1,0 +1,4 @@
+pub mod AsBox
+pub mod CallLemmas
+pub mod FileLemmas
+pub mod Values
